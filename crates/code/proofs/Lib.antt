@@ -1,0 +1,4 @@
+pub mod Words
+pub mod Encode
+pub mod Both
+pub mod Promise

@@ -1,0 +1,4 @@
+pub mod Code
+pub mod Bits
+pub mod Calls
+pub mod Promise

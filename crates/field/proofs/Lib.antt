@@ -1,0 +1,4 @@
+pub mod Tests
+pub mod Xor
+pub mod Field
+pub mod Laws

@@ -1,0 +1,43 @@
+-- What the calls on elements answer, for every input (document 01, 'Codes and fields'). Assumes nothing: these are definitions.
+use mathlib.Core.Bool.{Bool, _&&_, not, cond}
+use Prim.Native.Nat.{ℕ, zero, suc, _^_}
+use lib.Dec.{ltb, eqb}
+use Rattle.field.specs.declared.Element.{Element}
+use Rattle.field.specs.declared.Answer.{Answer}
+use Rattle.field.specs.declared.Answer.the-variants.{Found, Refused}
+use Rattle.field.specs.Field.{width-good, xor, times, inverse}
+
+-- an m other than 3 and 4 meets 1, then a number not below 2^m meets 6
+unfoldable pub one-refusal : Element → ℕ
+one-refusal a = cond (not (width-good (a .m))) 1 (cond (ltb (a .value) (2 ^ a .m)) 0 6)
+
+-- two elements of different fields meet 1 as well
+unfoldable pub two-refusal : Element → Element → ℕ
+two-refusal a b =
+    cond (not (width-good (a .m) && eqb (a .m) (b .m))) 1 (cond (ltb (a .value) (2 ^ a .m) && ltb (b .value) (2 ^ a .m)) 0 6)
+
+-- the element where nothing is refused, else the refusal's number
+unfoldable pub answer : (refusal : ℕ) → (m value : ℕ) → Answer
+answer zero m v = Found (record { m = m; value = v })
+answer (suc n) m v = Refused (suc n)
+
+unfoldable pub made : (m number : ℕ) → Answer
+made m v = answer (one-refusal (record { m = m; value = v })) m v
+
+unfoldable pub sum-of : Element → Element → Answer
+sum-of a b = answer (two-refusal a b) (a .m) (xor (a .value) (b .value))
+
+unfoldable pub product-of : Element → Element → Answer
+product-of a b = answer (two-refusal a b) (a .m) (times (a .m) (a .value) (b .value))
+
+unfoldable pub inverse-of : Element → Answer
+inverse-of a = answer (one-refusal a) (a .m) (inverse (a .m) (a .value))
+
+-- document 01's number of an answer, 0 where an element is given, and the element's value
+abbrev pub number-of : Answer → ℕ
+number-of (Found e) = 0
+number-of (Refused n) = n
+
+abbrev pub value-of : Answer → ℕ
+value-of (Found e) = e .value
+value-of (Refused n) = 0
