@@ -1,0 +1,67 @@
+-- Metrics, the greatest among codewords, soft outputs and marks, over (m, r) (document 01, 'Metric and soft output' and 'Marker').
+-- They speak of all codewords and of no search. Assumes nothing: these are definitions.
+use mathlib.Core.Path.{_≡_}
+use mathlib.Core.Bool.{Bool, true, false, not, cond}
+use mathlib.Core.List.{List, [], _∷_}
+use Prim.Native.Nat.{ℕ, zero, suc, _<_}
+use lib.Dec.{eqb}
+use lib.ListN.{length, getD}
+use lib.IntN.{ℤ, pos, negsuc, _+ℤ_, _-ℤ_}
+use Rattle.code.specs.Code.{is-codeword}
+use Rattle.code.specs.Bits.{all-bits, bit-at, row-long}
+
+-- the sum of the reliabilities at the 0 bits less the sum at the 1 bits
+unfoldable pub metric-of : (row : List ℤ) → (bits : List ℕ) → ℤ
+metric-of [] bs = pos 0
+metric-of (r ∷ rs) [] = pos 0
+metric-of (r ∷ rs) (b ∷ bs) = cond (eqb b 0) (metric-of rs bs +ℤ r) (metric-of rs bs -ℤ r)
+
+-- the metric of a word: entry b of the row belongs to bit number b
+unfoldable pub metric : (m : ℕ) → (row : List ℤ) → (word : List ℕ) → ℤ
+metric m rs ws = metric-of rs (all-bits m ws)
+
+unfoldable pub is-neg : ℤ → Bool
+is-neg (pos n) = false
+is-neg (negsuc n) = true
+
+unfoldable pub at-most : ℤ → ℤ → Bool
+at-most a b = not (is-neg (b -ℤ a))
+
+-- the best metric: the greatest that any codeword has, whether or not a search came upon it
+pub record Greatest (m r : ℕ) (rs : List ℤ) (g : ℤ) : Type 0 where
+  pub met : (ws : List ℕ) × (is-codeword m r ws ≡ true) × (metric m rs ws ≡ g)
+  pub all : (ws : List ℕ) → is-codeword m r ws ≡ true → at-most (metric m rs ws) g ≡ true
+
+-- the greatest among the codewords with v at bit number b
+pub record Greatest-with (m r : ℕ) (rs : List ℤ) (b v : ℕ) (g : ℤ) : Type 0 where
+  pub met : (ws : List ℕ) × (is-codeword m r ws ≡ true) × (bit-at m b ws ≡ v) × (metric m rs ws ≡ g)
+  pub all : (ws : List ℕ) → is-codeword m r ws ≡ true → bit-at m b ws ≡ v → at-most (metric m rs ws) g ≡ true
+
+-- soft output b: the greatest metric with 0 at that bit less the greatest with 1
+pub record Soft (m r : ℕ) (rs : List ℤ) (b : ℕ) (soft : ℤ) : Type 0 where
+  pub of-zero : ℤ
+  pub of-one : ℤ
+  pub greatest-zero : Greatest-with m r rs b 0 of-zero
+  pub greatest-one : Greatest-with m r rs b 1 of-one
+  pub difference : soft ≡ of-zero -ℤ of-one
+
+-- THE THIRD DEMAND, of a decoding: a best word, its metric, and every soft output
+pub record Decoded (m r : ℕ) (rs : List ℤ) (ws : List ℕ) (best : ℤ) (soft : List ℤ) : Type 0 where
+  pub word : is-codeword m r ws ≡ true
+  pub own : best ≡ metric m rs ws
+  pub most : (vs : List ℕ) → is-codeword m r vs ≡ true → at-most (metric m rs vs) best ≡ true
+  pub count : length soft ≡ row-long m
+  pub softly : (b : ℕ) → b < row-long m → Soft m r rs b (getD soft b (pos 0))
+
+-- and of a mark: 0 `none`, 1 `short` with the shortfall, 2 `best`
+unfoldable pub Marked : (verdict : ℕ) → (shortfall : ℤ) → (m r : ℕ) → (row : List ℤ) → (word : List ℕ) → Type 0
+Marked zero d m r rs ws = (is-codeword m r ws ≡ false) × (d ≡ pos 0)
+Marked (suc zero) d m r rs ws =
+    (is-codeword m r ws ≡ true) × ((g : ℤ) × Greatest m r rs g × (at-most g (metric m rs ws) ≡ false) × (d ≡ g -ℤ metric m rs ws))
+Marked (suc (suc zero)) d m r rs ws = (is-codeword m r ws ≡ true) × Greatest m r rs (metric m rs ws) × (d ≡ pos 0)
+Marked (suc (suc (suc v))) d m r rs ws = ⊥
+
+-- the decided bits: 1 where the soft output is negative, else 0
+unfoldable pub decided : (soft : List ℤ) → List ℕ
+decided [] = []
+decided (s ∷ ss) = cond (is-neg s) 1 0 ∷ decided ss

@@ -1,0 +1,31 @@
+-- What is promised of metrics, over (m, r). A statement is a type; proofs/Promise.antt names the proof of each. Assumes nothing.
+use mathlib.Core.Path.{_≡_}
+use mathlib.Core.Bool.{Bool, true, false, cond}
+use mathlib.Core.List.{List}
+use Prim.Native.Nat.{ℕ, _≤_, _<_}
+use lib.ListN.{length, getD}
+use lib.IntN.{ℤ, pos, negsuc, _-ℤ_}
+use Rattle.field.specs.Field.{width-good}
+use Rattle.code.specs.Code.{long, is-codeword}
+use Rattle.code.specs.Bits.{row-long}
+use Rattle.metric.specs.Row.{row-good}
+use Rattle.metric.specs.Metric.{metric, at-most, Greatest, Greatest-with}
+
+-- there is one greatest metric, and one of each value at a bit
+unfoldable pub Greatest-one : Type 0
+Greatest-one = (m r : ℕ) (rs : List ℤ) (g h : ℤ) → Greatest m r rs g → Greatest m r rs h → g ≡ h
+
+unfoldable pub Greatest-with-one : Type 0
+Greatest-with-one = (m r b v : ℕ) (rs : List ℤ) (g h : ℤ) → Greatest-with m r rs b v g → Greatest-with m r rs b v h → g ≡ h
+
+-- soft outputs stay within -15,240 .. 15,240
+unfoldable pub Soft-width : Type 0
+Soft-width =
+    (m r b : ℕ) (rs : List ℤ) (g h : ℤ) → width-good m ≡ true → row-good rs ≡ true → Greatest-with m r rs b 0 g → Greatest-with m r rs b 1 h →
+    (at-most (g -ℤ h) (pos 15240) ≡ true) × (at-most (negsuc 15239) (g -ℤ h) ≡ true)
+
+-- the best metric is the greater of the two at any bit
+unfoldable pub Best-of-two : Type 0
+Best-of-two =
+    (m r b : ℕ) (rs : List ℤ) (e g h : ℤ) → Greatest m r rs e → Greatest-with m r rs b 0 g → Greatest-with m r rs b 1 h →
+    e ≡ cond (at-most h g) g h

@@ -1,0 +1,17 @@
+// Reliabilities and metrics: the definitions that the decoder, the marker and the sheets share, and the test of a row.
+// Its function is for the crates above.
+ghost use mathlib.Core.Path.{_≡_};
+ghost use Rattle.metric.specs.Row.{reliability-good};
+
+// The greatest size of a reliability.
+pub const BOUND: i16 = 127;
+
+// Whether a number is a reliability.
+pub fn is_reliability(r: i16) -> bool
+    ensures { λ x. ⌜ x ≡ reliability-good r ⌝ }
+{
+    if r < 0 - BOUND {
+        return false;
+    }
+    r <= BOUND
+}
