@@ -1,0 +1,5 @@
+pub mod Least
+pub mod Trellis
+pub mod Adjoint
+pub mod Rows
+pub mod Stages

@@ -1,0 +1,65 @@
+-- `trellis::lesser` meets its contract.
+-- Assumes nothing.
+use Rattle.trellis.specs.Rows.{less}
+use native.Mathlib.Omega.{arith}
+use borrow.Author.Needs.{needs}
+use Rattle.trellis.proofs.lesser.Statement.{statement}
+use Rattle.trellis.proofs.lesser.Tie as tie
+
+array-read-min-of : tie.Need-array-read-min-of
+array-read-min-of c = search needs
+
+array-read-min-of-2 : tie.Need-array-read-min-of-2
+array-read-min-of-2 c = search needs
+
+min-of-requires : tie.Need-min-of-requires
+min-of-requires c κs = let p = c .pre in (p .0 0 (omega arith), p .1 0 (omega arith))
+
+array-read-min-of-3 : tie.Need-array-read-min-of-3
+array-read-min-of-3 c = search needs
+
+array-read-min-of-4 : tie.Need-array-read-min-of-4
+array-read-min-of-4 c = search needs
+
+min-of-requires-2 : tie.Need-min-of-requires-2
+min-of-requires-2 c κs = let p = c .before .pre in (p .0 1 (omega arith), p .1 1 (omega arith))
+
+array-read-min-of-5 : tie.Need-array-read-min-of-5
+array-read-min-of-5 c = search needs
+
+array-read-min-of-6 : tie.Need-array-read-min-of-6
+array-read-min-of-6 c = search needs
+
+min-of-requires-3 : tie.Need-min-of-requires-3
+min-of-requires-3 c κs = let p = c .before .before .pre in (p .0 2 (omega arith), p .1 2 (omega arith))
+
+array-read-min-of-7 : tie.Need-array-read-min-of-7
+array-read-min-of-7 c = search needs
+
+array-read-min-of-8 : tie.Need-array-read-min-of-8
+array-read-min-of-8 c = search needs
+
+min-of-requires-4 : tie.Need-min-of-requires-4
+min-of-requires-4 c κs = let p = c .before .before .before .pre in (p .0 3 (omega arith), p .1 3 (omega arith))
+
+returns : tie.Need-returns
+unfolding less
+returns c = cc
+
+pub lesser-spec : {M : Type 1} → statement M
+lesser-spec =
+    tie.close
+    (tie.spec
+    array-read-min-of
+    array-read-min-of-2
+    min-of-requires
+    array-read-min-of-3
+    array-read-min-of-4
+    min-of-requires-2
+    array-read-min-of-5
+    array-read-min-of-6
+    min-of-requires-3
+    array-read-min-of-7
+    array-read-min-of-8
+    min-of-requires-4
+    returns)

@@ -1,0 +1,2 @@
+pub mod Trellis
+pub mod Rows

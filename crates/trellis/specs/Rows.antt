@@ -1,0 +1,102 @@
+-- Four tables in one list, row by row, so that one step treats four layers at once: entry s of table j stands at s * 4 + j.
+-- What the calls ask, and what they leave. Assumes nothing: these are definitions.
+use mathlib.Core.Path.{_≡_}
+use mathlib.Core.List.{List, [], _∷_}
+use Prim.Native.Nat.{ℕ, suc, _+_, _-_, _*_, _^_, _≤_, _<_, min}
+use lib.ListN.{length, getD, set}
+use Rattle.field.specs.Field.{xor}
+use Rattle.trellis.specs.Trellis.{Column, Columns, Choice, pick, step, either, only, back, fore, free, final, choice, trace, leastOf}
+
+abbrev pub entry : List ℕ → ℕ → ℕ → ℕ
+entry t s j = getD t (s * 4 + j) 0
+
+abbrev pub lane : List ℕ → ℕ → ℕ
+lane r j = getD r j 0
+
+-- one number of each table
+abbrev pub lanes : (ℕ → ℕ) → List ℕ
+lanes f = f 0 ∷ f 1 ∷ f 2 ∷ f 3 ∷ []
+
+-- row s of a list of rows
+unfoldable pub row : List ℕ → ℕ → List ℕ
+row t s = lanes (entry t s)
+
+-- lane by lane, the sum and the less
+unfoldable pub sum : List ℕ → List ℕ → List ℕ
+sum a b = lanes (λ j. lane a j + lane b j)
+
+unfoldable pub less : List ℕ → List ℕ → List ℕ
+less a b = lanes (λ j. min (lane a j) (lane b j))
+
+-- row s of a list of rows written anew
+unfoldable pub put : List ℕ → ℕ → List ℕ → List ℕ
+put t s r = set (set (set (set t (s * 4 + 0) (lane r 0)) (s * 4 + 1) (lane r 1)) (s * 4 + 2) (lane r 2)) (s * 4 + 3) (lane r 3)
+
+-- every cost and every sum of costs stays below
+abbrev pub limit : ℕ
+limit = 2 ^ 31
+
+abbrev pub Small : List ℕ → Type 0
+Small r = (j : ℕ) → j < 4 → lane r j < limit
+
+-- no sum of two rows reaches the limit
+abbrev pub Sums : List ℕ → List ℕ → Type 0
+Sums a b = (j : ℕ) → j < 4 → lane a j + lane b j < limit
+
+-- the column of layer j: h, and lane j of what a 0 and a 1 cost
+abbrev pub column : (h : ℕ) → (z o : List ℕ) → (j : ℕ) → Column
+column h z o j = record { h = h; c0 = lane z j; c1 = lane o j }
+
+-- of two tables, one after the other: layer j of the first, and of the second
+abbrev pub front : List ℕ → (j : ℕ) → ℕ → ℕ
+front p j s = entry p s j
+
+abbrev pub rear : (size : ℕ) → List ℕ → (j : ℕ) → ℕ → ℕ
+rear size p j s = entry p (size + s) j
+
+-- two tables, one after the other, and a column between them
+pub record Two (q size h : ℕ) (p : List ℕ) : Type 0 where
+  pub size-is : size ≡ 2 ^ q
+  pub inside : h < size
+  pub length-is : length p ≡ (size + size) * 4
+
+-- what `relax` asks
+pub record Relax (q size h : ℕ) (p z o : List ℕ) : Type 0 where
+  pub two : Two q size h p
+  pub room-z : (s j : ℕ) → s < size → j < 4 → rear size p j s + lane z j < limit
+  pub room-o : (s j : ℕ) → s < size → j < 4 → rear size p j s + lane o j < limit
+
+-- the first n rows of the first table are made from the second
+pub record Relaxed (size h : ℕ) (p z o : List ℕ) (n : ℕ) (to : List ℕ) : Type 0 where
+  pub long : length to ≡ length p
+  pub made : (s j : ℕ) → s < n → j < 4 → front to j s ≡ step either (column h z o j) (rear size p j) s
+  pub kept : (k : ℕ) → n * 4 ≤ k → getD to k 0 ≡ getD p k 0
+
+-- what `turn` asks
+pub record Turn (a b behind zero one : List ℕ) : Type 0 where
+  pub small-a : Small a
+  pub small-b : Small b
+  pub small-zero : Small zero
+  pub small-one : Small one
+  pub sums-a : Sums a behind
+  pub sums-b : Sums b behind
+
+-- what `advance` asks
+pub record Advance (q size h cap : ℕ) (p z o : List ℕ) : Type 0 where
+  pub two : Two q size h p
+  pub cap-small : cap < limit
+  pub room : (s u j : ℕ) → s < size → u < size → j < 4 → front p j s + lane z j + rear size p j u < limit
+  pub room-o : (s u j : ℕ) → s < size → u < size → j < 4 → front p j s + lane o j + rear size p j u < limit
+
+-- the least with a given bit at the column, over the first n syndromes behind it
+abbrev pub met : (size h cap : ℕ) → (p z o : List ℕ) → (bit n j : ℕ) → ℕ
+met size h cap p z o b n j = leastOf (λ s. step (only b) (column h z o j) (front p j) s + rear size p j s) cap n
+
+-- the first n rows of the second table are made from the first, and zero and one are the least with a 0 and with a 1 so far
+pub record Advanced (size h cap : ℕ) (p z o : List ℕ) (n : ℕ) (to zero one : List ℕ) : Type 0 where
+  pub long : length to ≡ length p
+  pub kept : (k : ℕ) → k < size * 4 → getD to k 0 ≡ getD p k 0
+  pub made : (s j : ℕ) → s < n → j < 4 → rear size to j s ≡ step either (column h z o j) (front p j) s
+  pub rest : (k : ℕ) → (size + n) * 4 ≤ k → getD to k 0 ≡ getD p k 0
+  pub with-0 : (j : ℕ) → j < 4 → lane zero j ≡ met size h cap p z o 0 n j
+  pub with-1 : (j : ℕ) → j < 4 → lane one j ≡ met size h cap p z o 1 n j

@@ -1,0 +1,140 @@
+// Least costs over syndromes, for four layers at once: the tables of all suffixes from the back, the trace of a least word, and the
+// pass from the front that meets them at each position. It knows columns, costs and xor, and no code.
+// Its functions are for the crates above; their promises cite specs/Trellis.antt.
+ghost use mathlib.Core.Path.{_≡_};
+ghost use Prim.Native.Nat.{ℕ, _+_, _*_, _^_, _<_, _≤_, min};
+ghost use lib.ListN.{length, getD};
+ghost use Rattle.trellis.specs.Rows.{row, sum, less, put, limit, Small, Sums, Relax, Relaxed, Turn, Advance, Advanced};
+
+// The less of two costs. They are compared as signed numbers, for which the vector instructions have a test.
+fn min_of(a: u32, b: u32) -> u32
+    requires { ⌜ (a < limit) × (b < limit) ⌝ }
+    ensures { λ r. ⌜ r ≡ min a b ⌝ }
+{
+    if (a as i32) <= (b as i32) { a } else { b }
+}
+
+// Row s of a slice of rows.
+fn load(t: &[u32], s: usize) -> [u32; 4]
+    requires { ⌜ s * 4 + 4 ≤ length (now t) ⌝ }
+    ensures { λ r. ⌜ r ≡ row (now (t .entry)) s ⌝ }
+{
+    let k = s * 4;
+    [t[k + 0], t[k + 1], t[k + 2], t[k + 3]]
+}
+
+// Row s written anew.
+fn store(t: &mut [u32], s: usize, r: [u32; 4])
+    requires { ⌜ s * 4 + 4 ≤ length (now t) ⌝ }
+    ensures { λ _. ⌜ now (t .exit) ≡ put (now (t .entry)) s r ⌝ }
+{
+    let k = s * 4;
+    t[k + 0] = r[0];
+    t[k + 1] = r[1];
+    t[k + 2] = r[2];
+    t[k + 3] = r[3];
+}
+
+// Lane by lane, the sum.
+fn plus(a: [u32; 4], b: [u32; 4]) -> [u32; 4]
+    requires { ⌜ Sums a b ⌝ }
+    ensures { λ r. ⌜ r ≡ sum a b ⌝ }
+{
+    [a[0] + b[0], a[1] + b[1], a[2] + b[2], a[3] + b[3]]
+}
+
+// Lane by lane, the less.
+fn lesser(a: [u32; 4], b: [u32; 4]) -> [u32; 4]
+    requires { ⌜ Small a ⌝ }
+    requires { ⌜ Small b ⌝ }
+    ensures { λ r. ⌜ r ≡ less a b ⌝ }
+{
+    [
+        min_of(a[0], b[0]),
+        min_of(a[1], b[1]),
+        min_of(a[2], b[2]),
+        min_of(a[3], b[3]),
+    ]
+}
+
+// The less, lane by lane, of a with a 0 and b with a 1.
+fn choose(a: [u32; 4], b: [u32; 4], z: [u32; 4], o: [u32; 4]) -> [u32; 4]
+    requires { ⌜ Sums a z ⌝ }
+    requires { ⌜ Sums b o ⌝ }
+    ensures { λ r. ⌜ r ≡ less (sum a z) (sum b o) ⌝ }
+{
+    lesser(plus(a, z), plus(b, o))
+}
+
+// The less, lane by lane, of r and a sum.
+fn lowered(r: [u32; 4], a: [u32; 4], b: [u32; 4]) -> [u32; 4]
+    requires { ⌜ Small r ⌝ }
+    requires { ⌜ Sums a b ⌝ }
+    ensures { λ x. ⌜ x ≡ less r (sum a b) ⌝ }
+{
+    lesser(r, plus(a, b))
+}
+
+// One column from the back. The part p holds two tables, one after the other: the first is made from the second.
+fn relax(p: &mut [u32], q: u32, size: usize, h: usize, z: [u32; 4], o: [u32; 4])
+    requires { ⌜ Relax q size h (now p) z o ⌝ }
+    ensures { λ _. ⌜ Relaxed size h (now (p .entry)) z o size (now (p .exit)) ⌝ }
+{
+    let mut s = 0;
+    while s < size {
+        let r = choose(load(p, size + s), load(p, size + (s ^ h)), z, o);
+        store(p, s, r);
+        s += 1;
+    }
+}
+
+// What words cost at the least with a 0 and with a 1 at a column, in each layer.
+pub struct Pair {
+    pub zero: [u32; 4],
+    pub one: [u32; 4],
+}
+
+// One syndrome behind the column: a and b are the rows before it that a 0 and a 1 lead to.
+struct Turned {
+    next: [u32; 4],
+    zero: [u32; 4],
+    one: [u32; 4],
+}
+
+fn turn(a: [u32; 4], b: [u32; 4], behind: [u32; 4], zero: [u32; 4], one: [u32; 4]) -> Turned
+    requires { ⌜ Turn a b behind zero one ⌝ }
+    ensures { λ r. ⌜ (r .next ≡ less a b) × (r .zero ≡ less zero (sum a behind)) × (r .one ≡ less one (sum b behind)) ⌝ }
+{
+    let x = lesser(a, b);
+    let y = lowered(zero, a, behind);
+    let z = lowered(one, b, behind);
+    Turned {
+        next: x,
+        zero: y,
+        one: z,
+    }
+}
+
+// One column from the front. The first table of p is that of what comes before the column, the second of what comes behind it: where
+// they meet, the column's pair is found, and the second table gives way to the first one carried past the column.
+fn advance(p: &mut [u32], q: u32, size: usize, h: usize, z: [u32; 4], o: [u32; 4], cap: u32) -> Pair
+    requires { ⌜ Advance q size h cap (now p) z o ⌝ }
+    ensures { λ r. ⌜ Advanced size h cap (now (p .entry)) z o size (now (p .exit)) (r .zero) (r .one) ⌝ }
+{
+    let mut zero = [cap, cap, cap, cap];
+    let mut one = [cap, cap, cap, cap];
+    let mut s = 0;
+    while s < size {
+        let a = plus(load(p, s), z);
+        let b = plus(load(p, s ^ h), o);
+        let t = turn(a, b, load(p, size + s), zero, one);
+        let x = t.zero;
+        let y = t.one;
+        let next = t.next;
+        zero = x;
+        one = y;
+        store(p, size + s, next);
+        s += 1;
+    }
+    Pair { zero, one }
+}
