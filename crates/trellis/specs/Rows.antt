@@ -100,3 +100,37 @@ pub record Advanced (size h cap : ℕ) (p z o : List ℕ) (n : ℕ) (to zero one
   pub rest : (k : ℕ) → (size + n) * 4 ≤ k → getD to k 0 ≡ getD p k 0
   pub with-0 : (j : ℕ) → j < 4 → lane zero j ≡ met size h cap p z o 0 n j
   pub with-1 : (j : ℕ) → j < 4 → lane one j ≡ met size h cap p z o 1 n j
+
+-- tables of `step` numbers end to end: entry s of layer j in table k
+abbrev pub at-table : List ℕ → (step k j : ℕ) → ℕ → ℕ
+at-table t step k j s = getD t (k * step + (s * 4 + j)) 0
+
+-- the columns of layer j: a syndrome for each column, and four costs of a 0 and of a 1
+abbrev pub layer : (hs zs os : List ℕ) → (j : ℕ) → Columns
+layer hs zs os j i = record { h = getD hs i 0; c0 = entry zs i j; c1 = entry os i j }
+
+-- what the columns of all layers must be: syndromes below size, and costs at most top
+pub record Layers (q size top : ℕ) (hs zs os : List ℕ) : Type 0 where
+  pub size-is : size ≡ 2 ^ q
+  pub length-zs : length zs ≡ length hs * 4
+  pub length-os : length os ≡ length hs * 4
+  pub inside : (i : ℕ) → i < length hs → getD hs i 0 < size
+  pub cost-zs : (i j : ℕ) → i < length hs → j < 4 → entry zs i j ≤ top
+  pub cost-os : (i j : ℕ) → i < length hs → j < 4 → entry os i j ≤ top
+
+-- what `make_tables` asks: room for a table before each column and one behind the last
+pub record Make (q size top big : ℕ) (t hs zs os : List ℕ) : Type 0 where
+  pub layers : Layers q size top hs zs os
+  pub length-t : length t ≡ length hs * (size * 4) + size * 4
+  pub room : big + length hs * top + top < limit
+
+-- the tables from number i on are made
+pub record Made (size big : ℕ) (hs zs os : List ℕ) (i : ℕ) (t : List ℕ) : Type 0 where
+  pub long : length t ≡ length hs * (size * 4) + size * 4
+  pub made : (k s j : ℕ) → i ≤ k → k ≤ length hs → s < size → j < 4 →
+      at-table t (size * 4) k j s ≡ back free (layer hs zs os j) (final big) k (length hs - k) s
+
+-- the first n rows of the table behind the last column are written
+pub record Ended (size big n : ℕ) (p : List ℕ) : Type 0 where
+  pub long : length p ≡ size * 4
+  pub rows : (s j : ℕ) → s < n → j < 4 → entry p s j ≡ final big s

@@ -3,8 +3,9 @@
 // Its functions are for the crates above; their promises cite specs/Trellis.antt.
 ghost use mathlib.Core.Path.{_≡_};
 ghost use Prim.Native.Nat.{ℕ, _+_, _*_, _^_, _<_, _≤_, min};
-ghost use lib.ListN.{length, getD};
-ghost use Rattle.trellis.specs.Rows.{row, sum, less, put, limit, Small, Sums, Relax, Relaxed, Turn, Advance, Advanced};
+ghost use lib.ListN.{length};
+ghost use Rattle.trellis.specs.Trellis.{final};
+ghost use Rattle.trellis.specs.Rows.{row, sum, less, put, limit, Small, Sums, Relax, Relaxed, Turn, Advance, Advanced, Make, Made, Ended};
 
 // The less of two costs. They are compared as signed numbers, for which the vector instructions have a test.
 fn min_of(a: u32, b: u32) -> u32
@@ -137,4 +138,53 @@ fn advance(p: &mut [u32], q: u32, size: usize, h: usize, z: [u32; 4], o: [u32; 4
         s += 1;
     }
     Pair { zero, one }
+}
+
+// What a syndrome costs behind the last column.
+fn end_cost(s: usize, big: u32) -> u32
+    ensures { λ r. ⌜ r ≡ final big s ⌝ }
+{
+    if s == 0 { 0 } else { big }
+}
+
+// The table behind the last column.
+fn end_table(p: &mut [u32], size: usize, big: u32)
+    requires { ⌜ length (now p) ≡ size * 4 ⌝ }
+    ensures { λ _. ⌜ Ended size big size (now (p .exit)) ⌝ }
+{
+    let mut s = 0;
+    while s < size {
+        let e = end_cost(s, big);
+        store(p, s, [e, e, e, e]);
+        s += 1;
+    }
+}
+
+// The tables of all suffixes: table i gives each syndrome the least cost of the bits from position i on that add up to it.
+pub fn make_tables(
+    t: &mut [u32],
+    q: u32,
+    size: usize,
+    hs: &[u16],
+    zs: &[u32],
+    os: &[u32],
+    top: u32,
+    big: u32,
+)
+    requires { ⌜ Make q size top big (now t) (now hs) (now zs) (now os) ⌝ }
+    ensures { λ _. ⌜ Made size big (now (hs .entry)) (now (zs .entry)) (now (os .entry)) 0 (now (t .exit)) ⌝ }
+{
+    let step = size * 4;
+    let mut i = hs.len();
+    let last = i * step;
+    end_table(&mut t[last..], size, big);
+    while 0 < i {
+        i -= 1;
+        let at = i * step;
+        let end = at + step + step;
+        let h = hs[i] as usize;
+        let z = load(zs, i);
+        let o = load(os, i);
+        relax(&mut t[at..end], q, size, h, z, o);
+    }
 }

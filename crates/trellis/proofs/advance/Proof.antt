@@ -90,13 +90,15 @@ unfolding xor
 loop-again c = let e = c .before .before .before .before .before .before .before .turn .ensures in
     let ea = c .before .before .before .before .before .before .before .before .before .before .before .before .before .plus .ensures ∙ ap (λ (x : List ℕ). sum x (c .before .before .before .before .before .before .before .before .before .before .before .before .before .before .before .before .before .before .before .args .z)) (c .before .before .before .before .before .before .before .before .before .before .before .before .before .before .load .ensures) in
     let eb = c .before .before .before .before .before .before .before .before .before .before .plus2 .ensures ∙ ap (λ (x : List ℕ). sum x (c .before .before .before .before .before .before .before .before .before .before .before .before .before .before .before .before .before .before .before .args .o)) (c .before .before .before .before .before .before .before .before .before .before .before .load2 .ensures) in
-    let er = c .before .before .before .before .before .before .before .before .load3 .ensures in
-    (omega arith, (let n = c .before .before .before .before .before .before .before .before .before .before .before .before .before .before .before .before in
-    let t = n .before in
-    let st = t .before .before in
-    let a = st .args in
-    advance-more (a .q) (a .size) (a .h) (a .cap) (a .p .now) (a .z) (a .o) (st .pre) (t .loop .p) (t .loop .zero) (t .loop .one) (t .loop .s) (t .loop .inv .1) (n .loop-test .taken) (c .before .before .before .before .before .before .before .turn .result .next) (c .before .before .before .before .before .before .before .turn .result .zero) (c .before .before .before .before .before .before .before .turn .result .one) (c .before .before .store .last .0)
-    (e .0 ∙ ap₂ less ea eb) (e .1 ∙ ap₂ (λ (x y : List ℕ). less (t .loop .zero) (sum x y)) ea er) (e .2 ∙ ap₂ (λ (x y : List ℕ). less (t .loop .one) (sum x y)) eb er) (c .before .before .store .ensures)))
+    let er = c .before .before .before .before .before .before .before .before .load3 .ensures in (
+      omega arith,
+      (let n = c .before .before .before .before .before .before .before .before .before .before .before .before .before .before .before .before in
+          let t = n .before in
+          let st = t .before .before in
+          let a = st .args in
+          advance-more (a .q) (a .size) (a .h) (a .cap) (a .p .now) (a .z) (a .o) (st .pre) (t .loop .p) (t .loop .zero) (t .loop .one) (t .loop .s) (t .loop .inv .1) (n .loop-test .taken) (c .before .before .before .before .before .before .before .turn .result .next) (c .before .before .before .before .before .before .before .turn .result .zero) (c .before .before .before .before .before .before .before .turn .result .one) (c .before .before .store .last .0)
+          (e .0 ∙ ap₂ less ea eb) (e .1 ∙ ap₂ (λ (x y : List ℕ). less (t .loop .zero) (sum x y)) ea er) (e .2 ∙ ap₂ (λ (x y : List ℕ). less (t .loop .one) (sum x y)) eb er) (c .before .before .store .ensures)),
+    )
 
 same-length : tie.Need-same-length Inv-loop μ-loop
 same-length c = omega arith

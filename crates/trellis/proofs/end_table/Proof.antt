@@ -1,0 +1,57 @@
+-- `trellis::end_table` meets its contract.
+-- Assumes nothing.
+use Rattle.trellis.proofs.Tables.{end-more}
+use Rattle.trellis.specs.Rows.{Ended}
+use native.Mathlib.Omega.{arith}
+use Prim.Native.Nat.{ℕ, _<_, _≤_, _-_, _+_}
+use mathlib.Core.List.{List}
+use mathlib.Core.Path.{_≡_, sym, ap, ap₂, _∙_, refl}
+use Rattle.trellis.proofs.end_table.Statement.{statement}
+use Rattle.trellis.proofs.end_table.Tie as tie
+
+abbrev Inv-loop : tie.InvT-loop
+Inv-loop p₀ size big s₀ p s = (s ≤ size) × Ended size big s p
+
+abbrev μ-loop : tie.MeasureT-loop
+μ-loop p₀ size big s₀ p s = size - s
+
+loop-holds : tie.Need-loop-holds Inv-loop μ-loop
+loop-holds c = (omega arith, record { long = c .before .pre; rows = λ s j a b. absurd (omega arith) })
+
+end-cost-requires : tie.Need-end-cost-requires Inv-loop μ-loop
+end-cost-requires c κs = tt
+
+store-requires : tie.Need-store-requires Inv-loop μ-loop
+store-requires c κs = let i = c .before .before .before .loop .inv .1 .long in omega arith
+
+add-s : tie.Need-add-s Inv-loop μ-loop
+add-s c = omega arith
+
+loop-less : tie.Need-loop-less Inv-loop μ-loop
+loop-less c = omega arith
+
+loop-again : tie.Need-loop-again Inv-loop μ-loop
+loop-again c = let t = c .before .before .before .before .before .before in
+    (omega arith, end-more (c .before .before .before .before .before .before .before .before .args .size) (c .before .before .before .before .before .before .before .before .args .big) (t .loop .p) (t .loop .s) (t .loop .inv .1) (c .before .before .before .before .before .loop-test .taken) (c .before .before .before .before .end-cost .result) (c .before .before .before .before .end-cost .ensures) (c .before .before .store .last .0) (c .before .before .store .ensures))
+
+same-length : tie.Need-same-length Inv-loop μ-loop
+same-length c = let i = c .before .loop .inv .1 .long in let p = c .before .before .before .pre in omega arith
+
+returns : tie.Need-returns Inv-loop μ-loop
+returns c = let e : c .before .loop .s ≡ c .before .before .before .args .size = omega arith in
+    rw e at (c .before .loop .inv .1)
+
+pub end-table-spec : {M : Type 1} → statement M
+end-table-spec =
+    tie.close
+    (tie.spec
+    Inv-loop
+    μ-loop
+    loop-holds
+    end-cost-requires
+    store-requires
+    add-s
+    loop-less
+    loop-again
+    same-length
+    returns)
