@@ -11,12 +11,8 @@ use borrow.Author.Tests.{eq-eqb, ne-eqb}
 use lib.Dec.{eqb}
 use Rattle.field.specs.Field.{xor}
 use Rattle.field.proofs.Xor as X
-use Rattle.trellis.specs.Trellis.{Column, Columns, pick, Choice, either, only, step, back, fore, free, leastOf}
+use Rattle.trellis.specs.Trellis.{Column, Columns, pick, Choice, either, only, step, back, fore, free, leastOf, holding, meet}
 use Rattle.trellis.proofs.Least.{least-matched, least-same}
-
--- two tables that meet
-abbrev pub meet : (cap size : ℕ) → (g u : ℕ → ℕ) → ℕ
-meet cap size g u = leastOf (λ s. g s + u s) cap size
 
 module _ (q cap : ℕ) where
   turned : (x s : ℕ) → x < 2 ^ q → s < 2 ^ q → xor s x < 2 ^ q
@@ -57,10 +53,6 @@ module _ (q cap : ℕ) where
   adjoint : (a : Choice) (c : Column) (g u : ℕ → ℕ) → c .h < 2 ^ q → meet cap (2 ^ q) (step a c g) u ≡ meet cap (2 ^ q) g (step a c u)
   adjoint either c g u h = adjoint-either c g u h
   adjoint (only b) c g u h = adjoint-only b c g u h
-
--- bit i held at v
-abbrev pub holding : (i v : ℕ) → ℕ → Choice
-holding i v p = cond (eqb p i) (only v) either
 
 module _ (q cap n : ℕ) (col : Columns) (inside : (i : ℕ) → i < n → col i .h < 2 ^ q) (g : ℕ → ℕ) where
   -- the tables from the front are those from the back, met with any table behind

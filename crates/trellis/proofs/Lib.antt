@@ -5,3 +5,4 @@ pub mod Rows
 pub mod Parts
 pub mod Stages
 pub mod Tables
+pub mod Soft

@@ -45,22 +45,70 @@ pub final-le : (big s : ℕ) → final big s ≤ big
 final-le big zero = omega arith
 final-le big (suc s) = omega arith
 
-module _ (q size top big : ℕ) (t₀ hs zs os : List ℕ) (w : Make q size top big t₀ hs zs os) where
-  n : ℕ
-  n = length hs
-
-  abbrev Col : ℕ → Columns
-  Col = layer hs zs os
-
+module _ (q size top big : ℕ) (hs zs os : List ℕ) (y : Layers q size top hs zs os) where
   -- the entries of a made table
   pub made-le : (t : List ℕ) (i : ℕ) → Made size big hs zs os i t → (k s j : ℕ) → i ≤ k → k ≤ length hs → s < size → j < 4 → at-table t (size * 4) k j s ≤ big + length hs * top
   made-le t i m k s j ik kn ls lj =
       omega (
         arith,
         m .made k s j ik kn ls lj,
-        back-le (Col j) (final big) big top (final-le big) k (length hs - k) s (λ p l u. w .layers .cost-zs p j (omega arith) lj),
+        back-le (layer hs zs os j) (final big) big top (final-le big) k (length hs - k) s (λ p l u. y .cost-zs p j (omega arith) lj),
         mul-le-mul-right top (sub-le (length hs) k),
       )
+
+  pub turned-in : (s h : ℕ) → s < size → h < size → xor s h < size
+  turned-in s h a b = let e : size ≡ 2 ^ q = y .size-is in omega (arith, X.below q s h (omega arith) (omega arith))
+
+  -- the part of tables i and i + 1, where the tables behind i are made
+  module _ (t : List ℕ) (i : ℕ) (m : Made size big hs zs os (suc i) t) (l : suc i ≤ length hs) where
+    abbrev at : ℕ
+    at = i * (size * 4)
+
+    abbrev two : ℕ
+    two = size * 4 + size * 4
+
+    abbrev part : List ℕ
+    part = take two (drop at t)
+
+    below : i * (size * 4) + (size * 4) ≤ length hs * (size * 4)
+    below = omega (arith, mul-le-mul-right (size * 4) l, suc-mul i (size * 4))
+
+    pub inside : at + two ≤ length t
+    inside = omega (arith, below, m .long)
+
+    pub two-tables : Two q size (getD hs i 0) part
+    two-tables = record { size-is = y .size-is; inside = y .inside i l; length-is = part-long t at two inside ∙ omega arith }
+
+    pub part-rear : (s j : ℕ) → s < size → j < 4 → rear size part j s ≡ at-table t (size * 4) (suc i) j s
+    part-rear s j ls lj =
+        part-at t at two ((size + s) * 4 + j) (omega arith) ∙ ap (λ (x : ℕ). getD t x 0) (omega (arith, suc-mul i (size * 4)))
+
+    pub part-front : (s j : ℕ) → s < size → j < 4 → front part j s ≡ at-table t (size * 4) i j s
+    part-front s j ls lj = part-at t at two (s * 4 + j) (omega arith)
+
+    -- after the part comes back
+    module _ (p' : List ℕ) (g : length p' ≡ two) where
+      pub back-front : (s j : ℕ) → s < size → j < 4 → at-table (putMid at two t p') (size * 4) i j s ≡ front p' j s
+      back-front s j ls lj = put-in t p' at two inside g (s * 4 + j) (omega arith)
+
+      pub back-rear : (s j : ℕ) → s < size → j < 4 → at-table (putMid at two t p') (size * 4) (suc i) j s ≡ rear size p' j s
+      back-rear s j ls lj =
+          ap (λ (x : ℕ). getD (putMid at two t p') x 0) (omega (arith, suc-mul i (size * 4))) ∙ put-in t p' at two inside g ((size + s) * 4 + j) (omega arith)
+
+      pub back-rest : (k s j : ℕ) → suc (suc i) ≤ k → at-table (putMid at two t p') (size * 4) k j s ≡ at-table t (size * 4) k j s
+      back-rest k s j h =
+          let u : at + two ≤ k * (size * 4) = omega (arith, mul-le-mul-right (size * 4) h, suc-mul (suc i) (size * 4), suc-mul i (size * 4)) in
+          let e : k * (size * 4) + (s * 4 + j) ≡ at + (two + (k * (size * 4) - (at + two) + (s * 4 + j))) = omega arith in
+          ap (λ (x : ℕ). getD (putMid at two t p') x 0) e
+          ∙ put-after t p' at two inside g (k * (size * 4) - (at + two) + (s * 4 + j))
+          ∙ ap (λ (x : ℕ). getD t x 0) (sym e)
+
+      pub back-long : length (putMid at two t p') ≡ length t
+      back-long = put-long t p' at two inside g
+
+module _ (q size top big : ℕ) (t₀ hs zs os : List ℕ) (w : Make q size top big t₀ hs zs os) where
+  abbrev Col : ℕ → Columns
+  Col = layer hs zs os
 
   pub tables-start : (p : List ℕ) → Ended size big size p → Made size big hs zs os (length hs) (putMid (length hs * (size * 4)) (length t₀ - length hs * (size * 4)) t₀ p)
   unfolding back
@@ -78,83 +126,56 @@ module _ (q size top big : ℕ) (t₀ hs zs os : List ℕ) (w : Make q size top 
       }
 
   module _ (t : List ℕ) (i : ℕ) (m : Made size big hs zs os (suc i) t) (l : suc i ≤ length hs) where
-    abbrev at : ℕ
-    at = i * (size * 4)
-
-    abbrev two : ℕ
-    two = size * 4 + size * 4
+    abbrev y : Layers q size top hs zs os
+    y = w .layers
 
     abbrev p : List ℕ
-    p = take two (drop at t)
-
-    below : i * (size * 4) + (size * 4) ≤ length hs * (size * 4)
-    below = omega (arith, mul-le-mul-right (size * 4) l, suc-mul i (size * 4))
-
-    pub inside : at + two ≤ length t
-    inside = omega (arith, below, m .long)
+    p = take (size * 4 + size * 4) (drop (i * (size * 4)) t)
 
     behind : (s j : ℕ) → s < size → j < 4 → rear size p j s ≡ at-table t (size * 4) (suc i) j s
-    behind s j ls lj =
-        part-at t at two ((size + s) * 4 + j) (omega arith) ∙ ap (λ (x : ℕ). getD t x 0) (omega (arith, suc-mul i (size * 4)))
+    behind = part-rear q size top big hs zs os y t i m l
+
+    le : (s j : ℕ) → s < size → j < 4 → at-table t (size * 4) (suc i) j s ≤ big + length hs * top
+    le s j ls lj = made-le q size top big hs zs os y t (suc i) m (suc i) s j (omega arith) l ls lj
 
     pub relax-ok : Relax q size (getD hs i 0) p (row zs i) (row os i)
     relax-ok = record {
-      two = record { size-is = w .layers .size-is; inside = w .layers .inside i l; length-is = part-long t at two inside ∙ omega arith };
-      room-z = λ s j ls lj.
-          omega (arith, behind s j ls lj, row-at zs i j lj, made-le t (suc i) m (suc i) s j (omega arith) l ls lj, w .layers .cost-zs i j l lj, w .room);
-      room-o = λ s j ls lj.
-          omega (arith, behind s j ls lj, row-at os i j lj, made-le t (suc i) m (suc i) s j (omega arith) l ls lj, w .layers .cost-os i j l lj, w .room);
+      two = two-tables q size top big hs zs os y t i m l;
+      room-z = λ s j ls lj. omega (arith, behind s j ls lj, row-at zs i j lj, le s j ls lj, y .cost-zs i j l lj, w .room);
+      room-o = λ s j ls lj. omega (arith, behind s j ls lj, row-at os i j lj, le s j ls lj, y .cost-os i j l lj, w .room);
     }
 
-    pub tables-more : (p' : List ℕ) → Relaxed size (getD hs i 0) p (row zs i) (row os i) size p' → Made size big hs zs os i (putMid at two t p')
-    tables-more p' r =
-        let g : length p' ≡ two = r .long ∙ part-long t at two inside in
-        record { long = put-long t p' at two inside g ∙ m .long; made = λ k s j ik kn ls lj. go g k s j kn ls lj (decLe k i) ik }
-      where
-        same : (j s : ℕ) → s < size → j < 4 → step either (column (getD hs i 0) (row zs i) (row os i) j) (rear size p j) s ≡ back free (Col j) (final big) i (suc (length hs - suc i)) s
-        same j s ls lj =
-            unfold step back in
-            let h : ℕ = getD hs i 0 in
-            let x : xor s h < size = turned-in s h ls (w .layers .inside i l) in
-            omega (
-              arith,
-              row-at zs i j lj,
-              row-at os i j lj,
-              behind s j ls lj,
-              behind (xor s h) j x lj,
-              m .made (suc i) s j (omega arith) l ls lj,
-              m .made (suc i) (xor s h) j (omega arith) l x lj,
-            )
-          where
-            turned-in : (s h : ℕ) → s < size → h < size → xor s h < size
-            turned-in s h a b = let e : size ≡ 2 ^ q = w .layers .size-is in omega (arith, X.below q s h (omega arith) (omega arith))
+    made-step : (j s : ℕ) → s < size → j < 4 → step either (column (getD hs i 0) (row zs i) (row os i) j) (rear size p j) s ≡ back free (Col j) (final big) i (suc (length hs - suc i)) s
+    unfolding step back
+    made-step j s ls lj =
+        let h : ℕ = getD hs i 0 in
+        let x : xor s h < size = turned-in q size top big hs zs os y s h ls (y .inside i l) in
+        omega (
+          arith,
+          row-at zs i j lj,
+          row-at os i j lj,
+          behind s j ls lj,
+          behind (xor s h) j x lj,
+          m .made (suc i) s j (omega arith) l ls lj,
+          m .made (suc i) (xor s h) j (omega arith) l x lj,
+        )
 
-        go : length p' ≡ two → (k s j : ℕ) → k ≤ length hs → s < size → j < 4 → Dec (k ≤ i) → i ≤ k →
-            at-table (putMid at two t p') (size * 4) k j s ≡ back free (Col j) (final big) k (length hs - k) s
-        go g k s j kn ls lj (yes a) b =
+    pub tables-more : (p' : List ℕ) → Relaxed size (getD hs i 0) p (row zs i) (row os i) size p' → Made size big hs zs os i (putMid (i * (size * 4)) (size * 4 + size * 4) t p')
+    tables-more p' r = record { long = back-long q size top big hs zs os y t i m l p' g ∙ m .long; made = λ k s j ik kn ls lj. go k s j kn ls lj (decLe k i) (decLe k (suc i)) ik }
+      where
+        g : length p' ≡ size * 4 + size * 4
+        g = r .long ∙ part-long t (i * (size * 4)) (size * 4 + size * 4) (inside q size top big hs zs os y t i m l)
+
+        go : (k s j : ℕ) → k ≤ length hs → s < size → j < 4 → Dec (k ≤ i) → Dec (k ≤ suc i) → i ≤ k →
+            at-table (putMid (i * (size * 4)) (size * 4 + size * 4) t p') (size * 4) k j s ≡ back free (Col j) (final big) k (length hs - k) s
+        go k s j kn ls lj (yes a) b c =
             let e : k ≡ i = omega arith in
             let f : length hs - i ≡ suc (length hs - suc i) = omega arith in
-            rw (e, f) (put-in t p' at two inside g (s * 4 + j) (omega arith) ∙ r .made s j ls lj ∙ same j s ls lj)
-        go g k s j kn ls lj (no a) b = go-on (decLe k (suc i))
-          where
-            go-on : Dec (k ≤ suc i) → at-table (putMid at two t p') (size * 4) k j s ≡ back free (Col j) (final big) k (length hs - k) s
-            go-on (yes c) =
-                let e : k ≡ suc i = omega arith in
-                rw e (ap (λ (x : ℕ). getD (putMid at two t p') x 0) (omega (arith, suc-mul i (size * 4)))
-                ∙ put-in t p' at two inside g ((size + s) * 4 + j) (omega arith)
-                ∙ r .kept ((size + s) * 4 + j) (omega arith)
-                ∙ behind s j ls lj
-                ∙ m .made (suc i) s j (omega arith) l ls lj)
-            go-on (no c) =
-                let d : ℕ = k * (size * 4) - (at + two) in
-                let u : at + two ≤ k * (size * 4) = omega (arith, mul-le-mul-right (size * 4) (under c), suc-mul (suc i) (size * 4), suc-mul i (size * 4)) in
-                ap (λ (x : ℕ). getD (putMid at two t p') x 0) (index d u)
-                ∙ put-after t p' at two inside g (d + (s * 4 + j))
-                ∙ ap (λ (x : ℕ). getD t x 0) (sym (index d u))
-                ∙ m .made k s j (omega arith) kn ls lj
-              where
-                under : (k ≤ suc i → ⊥) → suc (suc i) ≤ k
-                under c = omega arith
-
-                index : (d : ℕ) → at + two ≤ k * (size * 4) → k * (size * 4) + (s * 4 + j) ≡ at + (two + (k * (size * 4) - (at + two) + (s * 4 + j)))
-                index d u = omega arith
+            rw (e, f) (back-front q size top big hs zs os y t i m l p' g s j ls lj ∙ r .made s j ls lj ∙ made-step j s ls lj)
+        go k s j kn ls lj (no a) (yes b) c =
+            let e : k ≡ suc i = omega arith in
+            rw e (back-rear q size top big hs zs os y t i m l p' g s j ls lj
+            ∙ r .kept ((size + s) * 4 + j) (omega arith)
+            ∙ behind s j ls lj
+            ∙ m .made (suc i) s j (omega arith) l ls lj)
+        go k s j kn ls lj (no a) (no b) c = back-rest q size top big hs zs os y t i m l p' g k s j (omega arith) ∙ m .made k s j (omega arith) kn ls lj

@@ -2,10 +2,10 @@
 -- What the calls ask, and what they leave. Assumes nothing: these are definitions.
 use mathlib.Core.Path.{_≡_}
 use mathlib.Core.List.{List, [], _∷_}
-use Prim.Native.Nat.{ℕ, suc, _+_, _-_, _*_, _^_, _≤_, _<_, min}
+use Prim.Native.Nat.{ℕ, zero, suc, _+_, _-_, _*_, _^_, _≤_, _<_, min}
 use lib.ListN.{length, getD, set}
 use Rattle.field.specs.Field.{xor}
-use Rattle.trellis.specs.Trellis.{Column, Columns, Choice, pick, step, either, only, back, fore, free, final, choice, trace, leastOf}
+use Rattle.trellis.specs.Trellis.{Column, Columns, pick, step, either, only, back, free, final, choice, leastOf, holding, meet}
 
 abbrev pub entry : List ℕ → ℕ → ℕ → ℕ
 entry t s j = getD t (s * 4 + j) 0
@@ -134,3 +134,49 @@ pub record Made (size big : ℕ) (hs zs os : List ℕ) (i : ℕ) (t : List ℕ) 
 pub record Ended (size big n : ℕ) (p : List ℕ) : Type 0 where
   pub long : length p ≡ size * 4
   pub rows : (s j : ℕ) → s < n → j < 4 → entry p s j ≡ final big s
+
+-- what `soft_pass` asks: table 0 is any table of numbers up to cap, the others are made
+pub record Pass (q size top big cap : ℕ) (t hs zs os zero one : List ℕ) : Type 0 where
+  pub layers : Layers q size top hs zs os
+  pub made : Made size big hs zs os 1 t
+  pub start : (s j : ℕ) → s < size → j < 4 → at-table t (size * 4) 0 j s ≤ cap
+  pub length-zero : length zero ≡ length hs * 4
+  pub length-one : length one ≡ length hs * 4
+  pub room : cap + length hs * top + top + big + length hs * top < limit
+
+-- the first n columns' numbers for the bit v: the least where table 0 meets the whole table with that bit held
+abbrev pub Passed : (size big cap : ℕ) → (t hs zs os : List ℕ) → (v n : ℕ) → (out : List ℕ) → Type 0
+Passed size big cap t hs zs os v n out =
+    (i j : ℕ) → i < n → j < 4 → entry out i j ≡ meet cap size (at-table t (size * 4) 0 j) (back (holding i v) (layer hs zs os j) (final big) 0 (length hs))
+
+-- THE TRACE: at position i, with k positions behind it, each layer's bit from its syndrome in s
+unfoldable pub chosen : (big : ℕ) → (hs zs os : List ℕ) → (i k : ℕ) → (s : List ℕ) → (j : ℕ) → ℕ
+chosen big hs zs os i k s j = choice (layer hs zs os j i) (back free (layer hs zs os j) (final big) (suc i) k) (lane s j)
+
+-- four bits in one symbol
+abbrev pub symbol : (ℕ → ℕ) → ℕ
+symbol f = f 0 + 2 * f 1 + 4 * f 2 + 8 * f 3
+
+unfoldable pub traced : (big : ℕ) → (hs zs os : List ℕ) → (i left : ℕ) → (s : List ℕ) → List ℕ
+traced big hs zs os i zero s = []
+traced big hs zs os i (suc k) s =
+    symbol (chosen big hs zs os i k s) ∷ traced big hs zs os (suc i) k (lanes (λ j. xor (lane s j) (pick (chosen big hs zs os i k s j) 0 (getD hs i 0))))
+
+-- what one position of the trace asks of the table behind it
+pub record TraceRow (q size h : ℕ) (p s z o : List ℕ) : Type 0 where
+  pub size-is : size ≡ 2 ^ q
+  pub inside : h < size
+  pub length-is : length p ≡ size * 4
+  pub length-s : (j : ℕ) → j < 4 → lane s j < size
+  pub room : (u j : ℕ) → u < size → j < 4 → (front p j u + lane z j < limit) × (front p j u + lane o j < limit)
+
+abbrev pub picked : (h : ℕ) → (p s z o : List ℕ) → (j : ℕ) → ℕ
+picked h p s z o j = choice (column h z o j) (front p j) (lane s j)
+
+-- what `trace_word` asks
+pub record Trace (q size top big : ℕ) (t hs zs os s word : List ℕ) : Type 0 where
+  pub layers : Layers q size top hs zs os
+  pub made : Made size big hs zs os 0 t
+  pub from : (j : ℕ) → j < 4 → lane s j < size
+  pub length-word : length word ≡ length hs
+  pub room : big + length hs * top + top < limit

@@ -1,10 +1,10 @@
 -- A trellis over syndromes, in costs: what bits with a given sum of column syndromes cost at the least. It knows columns and xor, and no code.
 -- A table gives each syndrome a cost. Assumes nothing: these are definitions.
 use mathlib.Core.Path.{_≡_}
-use mathlib.Core.Bool.{Bool, true, false}
+use mathlib.Core.Bool.{Bool, true, false, cond}
 use mathlib.Core.List.{List, [], _∷_}
 use Prim.Native.Nat.{ℕ, zero, suc, _+_, min}
-use lib.Dec.{leb}
+use lib.Dec.{leb, eqb}
 use Rattle.field.specs.Field.{xor}
 
 -- a bit that is to be chosen: the syndrome that a 1 adds, the cost of a 0, the cost of a 1
@@ -86,3 +86,11 @@ trace col v i (suc k) s =
 unfoldable pub leastOf : (ℕ → ℕ) → (cap n : ℕ) → ℕ
 leastOf f cap zero = cap
 leastOf f cap (suc n) = min (leastOf f cap n) (f n)
+
+-- the bit at position i is held at v
+abbrev pub holding : (i v : ℕ) → ℕ → Choice
+holding i v p = cond (eqb p i) (only v) either
+
+-- the least over the syndromes where two tables meet
+abbrev pub meet : (cap size : ℕ) → (g u : ℕ → ℕ) → ℕ
+meet cap size g u = leastOf (λ s. g s + u s) cap size

@@ -5,7 +5,7 @@ ghost use mathlib.Core.Path.{_≡_};
 ghost use Prim.Native.Nat.{ℕ, _+_, _*_, _^_, _<_, _≤_, min};
 ghost use lib.ListN.{length};
 ghost use Rattle.trellis.specs.Trellis.{final};
-ghost use Rattle.trellis.specs.Rows.{row, sum, less, put, limit, Small, Sums, Relax, Relaxed, Turn, Advance, Advanced, Make, Made, Ended};
+ghost use Rattle.trellis.specs.Rows.{row, sum, less, put, limit, Small, Sums, Relax, Relaxed, Turn, Advance, Advanced, Make, Made, Ended, Pass, Passed};
 
 // The less of two costs. They are compared as signed numbers, for which the vector instructions have a test.
 fn min_of(a: u32, b: u32) -> u32
@@ -186,5 +186,41 @@ pub fn make_tables(
         let z = load(zs, i);
         let o = load(os, i);
         relax(&mut t[at..end], q, size, h, z, o);
+    }
+}
+
+// The soft pass: for each column and layer, the least cost with a 0 and with a 1 there, over table 0 as what each syndrome of the
+// layer costs besides. The tables are used up.
+pub fn soft_pass(
+    t: &mut [u32],
+    q: u32,
+    size: usize,
+    hs: &[u16],
+    zs: &[u32],
+    os: &[u32],
+    top: u32,
+    big: u32,
+    cap: u32,
+    zero: &mut [u32],
+    one: &mut [u32],
+)
+    requires { ⌜ Pass q size top big cap (now t) (now hs) (now zs) (now os) (now zero) (now one) ⌝ }
+    ensures { λ _. ⌜ Passed size big cap (now (t .entry)) (now (hs .entry)) (now (zs .entry)) (now (os .entry)) 0 (length (now (hs .entry))) (now (zero .exit)) ⌝ }
+    ensures { λ _. ⌜ Passed size big cap (now (t .entry)) (now (hs .entry)) (now (zs .entry)) (now (os .entry)) 1 (length (now (hs .entry))) (now (one .exit)) ⌝ }
+{
+    let step = size * 4;
+    let mut i = 0;
+    while i < hs.len() {
+        let at = i * step;
+        let end = at + step + step;
+        let h = hs[i] as usize;
+        let z = load(zs, i);
+        let o = load(os, i);
+        let pair = advance(&mut t[at..end], q, size, h, z, o, cap);
+        let x = pair.zero;
+        let y = pair.one;
+        store(zero, i, x);
+        store(one, i, y);
+        i += 1;
     }
 }

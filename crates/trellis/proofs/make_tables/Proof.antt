@@ -80,7 +80,7 @@ mul-at c = let st = c .before .before .before .before .before .before .before .b
     let e : t .i ≡ suc i = omega arith in
     let l : suc i ≤ length (a .hs .now) = omega (arith, t .inv .0) in
     let m : Made (a .size) (a .big) (a .hs .now) (a .zs .now) (a .os .now) (suc i) (t .t) = subst (λ (x : ℕ). Made (a .size) (a .big) (a .hs .now) (a .zs .now) (a .os .now) x (t .t)) e (t .inv .1) in
-    record { fits = omega (arith, inside (a .q) (a .size) (a .top) (a .big) (a .t .now) (a .hs .now) (a .zs .now) (a .os .now) w (t .t) i m l, m .long, w .length-t, st .good .0) }
+    record { fits = omega (arith, inside (a .q) (a .size) (a .top) (a .big) (a .hs .now) (a .zs .now) (a .os .now) (w .layers) (t .t) i m l, m .long, w .length-t, st .good .0) }
 
 add-end : tie.Need-add-end Inv-loop μ-loop
 add-end c = let st = c .before .before .before .before .before .before .before .before .before .before in
@@ -92,7 +92,7 @@ add-end c = let st = c .before .before .before .before .before .before .before .
     let e : t .i ≡ suc i = omega arith in
     let l : suc i ≤ length (a .hs .now) = omega (arith, t .inv .0) in
     let m : Made (a .size) (a .big) (a .hs .now) (a .zs .now) (a .os .now) (suc i) (t .t) = subst (λ (x : ℕ). Made (a .size) (a .big) (a .hs .now) (a .zs .now) (a .os .now) x (t .t)) e (t .inv .1) in
-    record { fits = omega (arith, inside (a .q) (a .size) (a .top) (a .big) (a .t .now) (a .hs .now) (a .zs .now) (a .os .now) w (t .t) i m l, m .long, w .length-t, st .good .0) }
+    record { fits = omega (arith, inside (a .q) (a .size) (a .top) (a .big) (a .hs .now) (a .zs .now) (a .os .now) (w .layers) (t .t) i m l, m .long, w .length-t, st .good .0) }
 
 add-end-2 : tie.Need-add-end-2 Inv-loop μ-loop
 add-end-2 c = let st = c .before .before .before .before .before .before .before .before .before .before in
@@ -104,7 +104,7 @@ add-end-2 c = let st = c .before .before .before .before .before .before .before
     let e : t .i ≡ suc i = omega arith in
     let l : suc i ≤ length (a .hs .now) = omega (arith, t .inv .0) in
     let m : Made (a .size) (a .big) (a .hs .now) (a .zs .now) (a .os .now) (suc i) (t .t) = subst (λ (x : ℕ). Made (a .size) (a .big) (a .hs .now) (a .zs .now) (a .os .now) x (t .t)) e (t .inv .1) in
-    record { fits = omega (arith, inside (a .q) (a .size) (a .top) (a .big) (a .t .now) (a .hs .now) (a .zs .now) (a .os .now) w (t .t) i m l, m .long, w .length-t, st .good .0) }
+    record { fits = omega (arith, inside (a .q) (a .size) (a .top) (a .big) (a .hs .now) (a .zs .now) (a .os .now) (w .layers) (t .t) i m l, m .long, w .length-t, st .good .0) }
 
 mul-h : tie.Need-mul-h Inv-loop μ-loop
 mul-h c = let st = c .before .before .before .before .before .before .before .before .before .before in
@@ -167,7 +167,7 @@ mul-relax c = let st = c .before .before .before .before .before .before .before
     let e : t .i ≡ suc i = omega arith in
     let l : suc i ≤ length (a .hs .now) = omega (arith, t .inv .0) in
     let m : Made (a .size) (a .big) (a .hs .now) (a .zs .now) (a .os .now) (suc i) (t .t) = subst (λ (x : ℕ). Made (a .size) (a .big) (a .hs .now) (a .zs .now) (a .os .now) x (t .t)) e (t .inv .1) in
-    record { fits = omega (arith, inside (a .q) (a .size) (a .top) (a .big) (a .t .now) (a .hs .now) (a .zs .now) (a .os .now) w (t .t) i m l, m .long, w .length-t, st .good .0) }
+    record { fits = omega (arith, inside (a .q) (a .size) (a .top) (a .big) (a .hs .now) (a .zs .now) (a .os .now) (w .layers) (t .t) i m l, m .long, w .length-t, st .good .0) }
 
 sub-relax : tie.Need-sub-relax Inv-loop μ-loop
 sub-relax c = let st = c .before .before .before .before .before .before .before .before .before .before .before .before .before in
@@ -179,7 +179,7 @@ sub-relax c = let st = c .before .before .before .before .before .before .before
     let e : t .i ≡ suc i = omega arith in
     let l : suc i ≤ length (a .hs .now) = omega (arith, t .inv .0) in
     let m : Made (a .size) (a .big) (a .hs .now) (a .zs .now) (a .os .now) (suc i) (t .t) = subst (λ (x : ℕ). Made (a .size) (a .big) (a .hs .now) (a .zs .now) (a .os .now) x (t .t)) e (t .inv .1) in
-    omega (arith, inside (a .q) (a .size) (a .top) (a .big) (a .t .now) (a .hs .now) (a .zs .now) (a .os .now) w (t .t) i m l)
+    omega (arith, inside (a .q) (a .size) (a .top) (a .big) (a .hs .now) (a .zs .now) (a .os .now) (w .layers) (t .t) i m l)
 
 part-relax-start : tie.Need-part-relax-start Inv-loop μ-loop
 part-relax-start c = let st = c .before .before .before .before .before .before .before .before .before .before .before .before .before in
@@ -191,7 +191,7 @@ part-relax-start c = let st = c .before .before .before .before .before .before 
     let e : t .i ≡ suc i = omega arith in
     let l : suc i ≤ length (a .hs .now) = omega (arith, t .inv .0) in
     let m : Made (a .size) (a .big) (a .hs .now) (a .zs .now) (a .os .now) (suc i) (t .t) = subst (λ (x : ℕ). Made (a .size) (a .big) (a .hs .now) (a .zs .now) (a .os .now) x (t .t)) e (t .inv .1) in
-    omega (arith, inside (a .q) (a .size) (a .top) (a .big) (a .t .now) (a .hs .now) (a .zs .now) (a .os .now) w (t .t) i m l)
+    omega (arith, inside (a .q) (a .size) (a .top) (a .big) (a .hs .now) (a .zs .now) (a .os .now) (w .layers) (t .t) i m l)
 
 part-relax-end : tie.Need-part-relax-end Inv-loop μ-loop
 part-relax-end c = let st = c .before .before .before .before .before .before .before .before .before .before .before .before .before in
@@ -203,7 +203,7 @@ part-relax-end c = let st = c .before .before .before .before .before .before .b
     let e : t .i ≡ suc i = omega arith in
     let l : suc i ≤ length (a .hs .now) = omega (arith, t .inv .0) in
     let m : Made (a .size) (a .big) (a .hs .now) (a .zs .now) (a .os .now) (suc i) (t .t) = subst (λ (x : ℕ). Made (a .size) (a .big) (a .hs .now) (a .zs .now) (a .os .now) x (t .t)) e (t .inv .1) in
-    omega (arith, inside (a .q) (a .size) (a .top) (a .big) (a .t .now) (a .hs .now) (a .zs .now) (a .os .now) w (t .t) i m l)
+    omega (arith, inside (a .q) (a .size) (a .top) (a .big) (a .hs .now) (a .zs .now) (a .os .now) (w .layers) (t .t) i m l)
 
 relax-requires : tie.Need-relax-requires Inv-loop μ-loop
 relax-requires c κs = let st = c .before .before .before .before .before .before .before .before .before .before .before .before .before .before in
