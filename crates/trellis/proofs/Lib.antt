@@ -6,3 +6,4 @@ pub mod Parts
 pub mod Stages
 pub mod Tables
 pub mod Soft
+pub mod Traces

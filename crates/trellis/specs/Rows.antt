@@ -162,6 +162,13 @@ traced big hs zs os i zero s = []
 traced big hs zs os i (suc k) s =
     symbol (chosen big hs zs os i k s) ∷ traced big hs zs os (suc i) k (lanes (λ j. xor (lane s j) (pick (chosen big hs zs os i k s j) 0 (getD hs i 0))))
 
+-- what a bit of the trace asks of the table behind it
+pub record Bit (p : List ℕ) (j s h z o : ℕ) : Type 0 where
+  pub here : s * 4 + j < length p
+  pub there : xor s h * 4 + j < length p
+  pub room-z : front p j s + z < limit
+  pub room-o : front p j (xor s h) + o < limit
+
 -- what one position of the trace asks of the table behind it
 pub record TraceRow (q size h : ℕ) (p s z o : List ℕ) : Type 0 where
   pub size-is : size ≡ 2 ^ q

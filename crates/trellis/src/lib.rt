@@ -4,8 +4,9 @@
 ghost use mathlib.Core.Path.{_≡_};
 ghost use Prim.Native.Nat.{ℕ, _+_, _*_, _^_, _<_, _≤_, min};
 ghost use lib.ListN.{length};
-ghost use Rattle.trellis.specs.Trellis.{final};
-ghost use Rattle.trellis.specs.Rows.{row, sum, less, put, limit, Small, Sums, Relax, Relaxed, Turn, Advance, Advanced, Make, Made, Ended, Pass, Passed};
+ghost use Rattle.trellis.specs.Trellis.{final, pick, choice};
+ghost use Rattle.field.specs.Field.{xor};
+ghost use Rattle.trellis.specs.Rows.{row, sum, less, put, limit, Small, Sums, Relax, Relaxed, Turn, Advance, Advanced, Make, Made, Ended, Pass, Passed, front, lane, lanes, symbol, traced, Bit, TraceRow, picked, Trace};
 
 // The less of two costs. They are compared as signed numbers, for which the vector instructions have a test.
 fn min_of(a: u32, b: u32) -> u32
@@ -221,6 +222,89 @@ pub fn soft_pass(
         let y = pair.one;
         store(zero, i, x);
         store(one, i, y);
+        i += 1;
+    }
+}
+
+// A layer's bit at a column, from the syndrome that is left to reach: 0 where a 0 attains the least. p is the table behind the column.
+fn bit_of(p: &[u32], j: usize, s: u16, h: u16, z: u32, o: u32) -> u8
+    requires { ⌜ Bit (now p) j s h z o ⌝ }
+    ensures { λ r. ⌜ (r ≡ choice (record { h = h; c0 = z; c1 = o }) (front (now (p .entry)) j) s) × (r < 2) ⌝ }
+{
+    let a = (s as usize) * 4 + j;
+    let b = ((s ^ h) as usize) * 4 + j;
+    if p[a] + z <= p[b] + o { 0 } else { 1 }
+}
+
+// What is left to reach after a bit of a column h.
+fn after(s: u16, h: u16, b: u8) -> u16
+    ensures { λ r. ⌜ r ≡ xor s (pick b 0 h) ⌝ }
+{
+    if b == 0 { s } else { s ^ h }
+}
+
+// One position of the word: its symbol, and what each layer has left to reach.
+struct Position {
+    symbol: u8,
+    left: [u16; 4],
+}
+
+fn trace_row(
+    p: &[u32],
+    q: u32,
+    size: usize,
+    s: [u16; 4],
+    h: u16,
+    z: [u32; 4],
+    o: [u32; 4],
+) -> Position
+    requires { ⌜ TraceRow q size h (now p) s z o ⌝ }
+    ensures { λ r. ⌜ (r .symbol ≡ symbol (picked h (now (p .entry)) s z o)) × (r .left ≡ lanes (λ j. xor (lane s j) (pick (picked h (now (p .entry)) s z o j) 0 h))) ⌝ }
+{
+    let b0 = bit_of(p, 0, s[0], h, z[0], o[0]);
+    let b1 = bit_of(p, 1, s[1], h, z[1], o[1]);
+    let b2 = bit_of(p, 2, s[2], h, z[2], o[2]);
+    let b3 = bit_of(p, 3, s[3], h, z[3], o[3]);
+    let left = [
+        after(s[0], h, b0),
+        after(s[1], h, b1),
+        after(s[2], h, b2),
+        after(s[3], h, b3),
+    ];
+    Position {
+        symbol: b0 + 2 * b1 + 4 * b2 + 8 * b3,
+        left,
+    }
+}
+
+// A least word of the four layers with the syndromes `from`, symbol by symbol: 0 bits first where they tie.
+pub fn trace_word(
+    t: &[u32],
+    q: u32,
+    size: usize,
+    hs: &[u16],
+    zs: &[u32],
+    os: &[u32],
+    top: u32,
+    big: u32,
+    from: [u16; 4],
+    word: &mut [u8],
+)
+    requires { ⌜ Trace q size top big (now t) (now hs) (now zs) (now os) from (now word) ⌝ }
+    ensures { λ _. ⌜ now (word .exit) ≡ traced big (now (hs .entry)) (now (zs .entry)) (now (os .entry)) 0 (length (now (hs .entry))) from ⌝ }
+{
+    let step = size * 4;
+    let mut s = from;
+    let mut i = 0;
+    while i < hs.len() {
+        let at = i * step + step;
+        let end = at + step;
+        let z = load(zs, i);
+        let o = load(os, i);
+        let r = trace_row(&t[at..end], q, size, s, hs[i], z, o);
+        let left = r.left;
+        s = left;
+        word[i] = r.symbol;
         i += 1;
     }
 }

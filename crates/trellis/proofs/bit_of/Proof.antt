@@ -1,0 +1,78 @@
+-- `trellis::bit_of` meets its contract.
+-- Assumes nothing.
+use Rattle.trellis.specs.Trellis.{choice}
+use borrow.Author.Tests.{le-leb, lt-leb}
+use Rattle.field.specs.Field.{xor}
+use lib.ListN.{length}
+use native.Mathlib.Omega.{arith}
+use Prim.Native.Nat.{ℕ, suc, _<_, _≤_, _-_, _+_, _*_}
+use mathlib.Core.List.{List}
+use mathlib.Core.Path.{_≡_, sym, ap, ap₂, _∙_, subst, refl}
+use borrow.Author.Needs.{needs}
+use Rattle.trellis.proofs.bit_of.Statement.{statement}
+use Rattle.trellis.proofs.bit_of.Tie as tie
+
+mul-a : tie.Need-mul-a
+mul-a c = search needs
+
+add-a : tie.Need-add-a
+add-a c = search needs
+
+cast-b : tie.Need-cast-b
+unfolding xor
+cast-b c = let s = c in record { fits = omega (arith, s .pre .there, s .good .0) }
+
+mul-b : tie.Need-mul-b
+unfolding xor
+mul-b c = let s = c in record { fits = omega (arith, s .pre .there, s .good .0) }
+
+add-b : tie.Need-add-b
+unfolding xor
+add-b c = let s = c in record { fits = omega (arith, s .pre .there, s .good .0) }
+
+mul-if1 : tie.Need-mul-if1
+mul-if1 c = search needs
+
+shared-slice-read-if1 : tie.Need-shared-slice-read-if1
+shared-slice-read-if1 c = search needs
+
+add-if1 : tie.Need-add-if1
+add-if1 c = search needs
+
+mul-if1-2 : tie.Need-mul-if1-2
+unfolding xor
+mul-if1-2 c = let s = c .before in record { fits = omega (arith, s .pre .there, s .good .0) }
+
+shared-slice-read-if1-2 : tie.Need-shared-slice-read-if1-2
+unfolding xor
+shared-slice-read-if1-2 c = let s = c .before .before in s .pre .there
+
+add-if1-2 : tie.Need-add-if1-2
+unfolding xor
+add-if1-2 c = let s = c .before .before in record { fits = omega (arith, s .pre .room-o) }
+
+returns : tie.Need-returns
+unfolding xor choice
+returns c = (rw (le-leb _ _ (c .if1 .taken)), omega arith)
+
+returns-2 : tie.Need-returns-2
+unfolding xor choice
+returns-2 c = (rw (lt-leb _ _ (c .if1 .left)), omega arith)
+
+pub bit-of-spec : {M : Type 1} → statement M
+bit-of-spec =
+    tie.close
+    (tie.spec
+    mul-a
+    add-a
+    cast-b
+    mul-b
+    add-b
+    mul-if1
+    shared-slice-read-if1
+    add-if1
+    mul-if1-2
+    shared-slice-read-if1-2
+    add-if1-2
+    returns
+    returns-2)
