@@ -1,0 +1,69 @@
+-- `glue::visit` meets its contract.
+-- Assumes nothing.
+use Rattle.glue.specs.Walk.{lower-at, lowered}
+use lib.ListN.{length, getD}
+use native.Mathlib.Omega.{arith}
+use Prim.Native.Nat.{ℕ, suc, _<_, _≤_, _-_, _+_, _*_}
+use mathlib.Core.List.{List}
+use mathlib.Core.Path.{_≡_, sym, ap, ap₂, _∙_, subst, refl}
+use borrow.Author.Needs.{needs}
+use Rattle.glue.proofs.visit.Statement.{statement}
+use Rattle.glue.proofs.visit.Tie as tie
+
+total-of-requires : tie.Need-total-of-requires
+total-of-requires c κs = search needs
+
+array-read-lower : tie.Need-array-read-lower
+array-read-lower c = search needs
+
+lower-requires : tie.Need-lower-requires
+lower-requires c κs = search needs
+
+array-read-lower-2 : tie.Need-array-read-lower-2
+array-read-lower-2 c = search needs
+
+lower-requires-2 : tie.Need-lower-requires-2
+lower-requires-2 c κs = search needs
+
+array-read-lower-3 : tie.Need-array-read-lower-3
+array-read-lower-3 c = search needs
+
+lower-requires-3 : tie.Need-lower-requires-3
+lower-requires-3 c κs = search needs
+
+array-read-lower-4 : tie.Need-array-read-lower-4
+array-read-lower-4 c = search needs
+
+lower-requires-4 : tie.Need-lower-requires-4
+lower-requires-4 c κs = search needs
+
+same-length : tie.Need-same-length
+same-length c = search needs
+
+returns : tie.Need-returns
+unfolding lowered
+returns c = let st = c .before .before .before .before .before .before .before .before .before .before .before .before .before .before .before .before .before .before .before in
+    let t = st .args .t3 in
+    let x = c .before .before .before .before .before .before .before .before .before .before .before .before .before .before .before .before .total-of .result in
+    let e1 = c .before .before .before .before .before .before .before .before .before .before .before .before .before .before .lower .ensures in
+    let e2 = c .before .before .before .before .before .before .before .before .before .before .lower2 .ensures ∙ ap (λ (y : List ℕ). lower-at y (getD t 1 0 * 4 + 1) x) e1 in
+    let e3 = c .before .before .before .before .before .before .lower3 .ensures ∙ ap (λ (y : List ℕ). lower-at y (getD t 2 0 * 4 + 2) x) e2 in
+    let e4 = c .before .before .lower4 .ensures ∙ ap (λ (y : List ℕ). lower-at y (getD t 3 0 * 4 + 3) x) e3 in
+    let e = c .before .before .before .before .before .before .before .before .before .before .before .before .before .before .before .before .total-of .ensures in
+    (e, e4 ∙ ap (lowered (st .args .g .now) t) e)
+
+pub visit-spec : {M : Type 1} → statement M
+visit-spec =
+    tie.close
+    (tie.spec
+    total-of-requires
+    array-read-lower
+    lower-requires
+    array-read-lower-2
+    lower-requires-2
+    array-read-lower-3
+    lower-requires-3
+    array-read-lower-4
+    lower-requires-4
+    same-length
+    returns)

@@ -1,0 +1,139 @@
+// The glue between the layers: a walk over the allowed tuples of syndromes, four by four as arrays by value. It finds the least total of the
+// layers' tables with a tuple that has it and, for the soft outputs, the least total with each syndrome in each layer. It knows no code.
+// Its functions are for the crates above; their promises cite specs/Walk.antt.
+ghost use mathlib.Core.Path.{_≡_};
+ghost use Prim.Native.Nat.{ℕ, _+_, _-_, _*_, _^_, _<_, _≤_, min};
+ghost use mathlib.Core.Bool.{cond};
+ghost use lib.Dec.{ltb};
+ghost use lib.ListN.{length, getD};
+ghost use Rattle.trellis.specs.Rows.{entry, limit};
+ghost use Rattle.glue.specs.Walk.{conf, tuple, total, least-total, lower-at, lowered, Within, Tuples, Walked, Marginals};
+
+// What syndrome s costs in layer j.
+fn cost_at(f: &[u32], j: usize, s: u16) -> u32
+    requires { ⌜ s * 4 + j < length (now f) ⌝ }
+    ensures { λ r. ⌜ r ≡ entry (now (f .entry)) s j ⌝ }
+{
+    let i = (s as usize) * 4 + j;
+    f[i]
+}
+
+// Tuple k.
+fn tuple_at(configs: &[u16], k: usize) -> [u16; 4]
+    requires { ⌜ k * 4 + 4 ≤ length (now configs) ⌝ }
+    ensures { λ r. ⌜ r ≡ tuple (now (configs .entry)) k ⌝ }
+{
+    let at = k * 4;
+    [
+        configs[at + 0],
+        configs[at + 1],
+        configs[at + 2],
+        configs[at + 3],
+    ]
+}
+
+// What a tuple costs.
+fn total_of(f: &[u32], size: usize, t: [u16; 4]) -> u32
+    requires { ⌜ Within size (now f) t ⌝ }
+    ensures { λ r. ⌜ r ≡ total (now (f .entry)) t ⌝ }
+{
+    cost_at(f, 0, t[0]) + cost_at(f, 1, t[1]) + cost_at(f, 2, t[2]) + cost_at(f, 3, t[3])
+}
+
+// The entry of syndrome s in layer j lowered to x.
+fn lower(g: &mut [u32], j: usize, s: u16, x: u32)
+    requires { ⌜ s * 4 + j < length (now g) ⌝ }
+    ensures { λ _. ⌜ now (g .exit) ≡ lower-at (now (g .entry)) (s * 4 + j) x ⌝ }
+{
+    let i = (s as usize) * 4 + j;
+    if x < g[i] {
+        g[i] = x;
+    }
+}
+
+// One tuple: what it costs, and g lowered to that at its four places.
+fn visit(f: &[u32], size: usize, t: [u16; 4], g: &mut [u32]) -> u32
+    requires { ⌜ Within size (now f) t ⌝ }
+    requires { ⌜ length (now g) ≡ size * 4 ⌝ }
+    ensures { λ r. ⌜ (r ≡ total (now (f .entry)) t) × (now (g .exit) ≡ lowered (now (g .entry)) t (total (now (f .entry)) t)) ⌝ }
+{
+    let x = total_of(f, size, t);
+    lower(g, 0, t[0], x);
+    lower(g, 1, t[1], x);
+    lower(g, 2, t[2], x);
+    lower(g, 3, t[3], x);
+    x
+}
+
+// The less of two costs.
+fn less(a: u32, b: u32) -> u32
+    ensures { λ r. ⌜ r ≡ min a b ⌝ }
+{
+    if a <= b { a } else { b }
+}
+
+// k where x is less than the least so far, else where the least was found.
+fn where_less(x: u32, least: u32, k: usize, at: usize) -> usize
+    ensures { λ r. ⌜ r ≡ cond (ltb x least) k at ⌝ }
+{
+    if x < least { k } else { at }
+}
+
+// The least that a tuple costs, and such a tuple.
+pub struct Least {
+    pub total: u32,
+    pub at: [u16; 4],
+}
+
+// All n tuples: the least, and in g, which is all cap before, the least with each syndrome in each layer.
+pub fn walk(f: &[u32], size: usize, configs: &[u16], n: usize, g: &mut [u32], cap: u32) -> Least
+    requires { ⌜ Tuples size n cap (now f) (now configs) ⌝ }
+    requires { ⌜ length (now g) ≡ size * 4 ⌝ }
+    requires { ⌜ ((i : ℕ) → i < size * 4 → getD (now g) i 0 ≡ cap) ⌝ }
+    ensures { λ r. ⌜ Walked n cap (now (f .entry)) (now (configs .entry)) (r .total) (r .at) ⌝ }
+    ensures { λ _. ⌜ Marginals size n cap (now (f .entry)) (now (configs .entry)) (now (g .exit)) ⌝ }
+{
+    let mut least = cap;
+    let mut at = 0;
+    let mut k = 0;
+    while k < n {
+        let x = visit(f, size, tuple_at(configs, k), g);
+        at = where_less(x, least, k, at);
+        least = less(least, x);
+        k += 1;
+    }
+    let best = tuple_at(configs, at);
+    Least {
+        total: least,
+        at: best,
+    }
+}
+
+// The least that a tuple costs, with nothing else kept.
+pub fn least_of(f: &[u32], size: usize, configs: &[u16], n: usize, cap: u32) -> u32
+    requires { ⌜ Tuples size n cap (now f) (now configs) ⌝ }
+    ensures { λ r. ⌜ r ≡ least-total cap (now (f .entry)) (now (configs .entry)) n ⌝ }
+{
+    let mut least = cap;
+    let mut k = 0;
+    while k < n {
+        least = less(least, total_of(f, size, tuple_at(configs, k)));
+        k += 1;
+    }
+    least
+}
+
+// Each entry of t taken from that of g.
+pub fn subtract(g: &[u32], t: &mut [u32])
+    requires { ⌜ length (now g) ≤ length (now t) ⌝ }
+    requires { ⌜ ((i : ℕ) → i < length (now g) → getD (now t) i 0 ≤ getD (now g) i 0) ⌝ }
+    ensures { λ _. ⌜ length (now (t .exit)) ≡ length (now (t .entry)) ⌝ }
+    ensures { λ _. ⌜ ((i : ℕ) → i < length (now (g .entry)) → getD (now (t .exit)) i 0 ≡ getD (now (g .entry)) i 0 - getD (now (t .entry)) i 0) ⌝ }
+    ensures { λ _. ⌜ ((i : ℕ) → length (now (g .entry)) ≤ i → getD (now (t .exit)) i 0 ≡ getD (now (t .entry)) i 0) ⌝ }
+{
+    let mut i = 0;
+    while i < g.len() {
+        t[i] = g[i] - t[i];
+        i += 1;
+    }
+}
