@@ -12,8 +12,8 @@ use Rattle.field.specs.Field.{width-good}
 use Rattle.field.proofs.Tests.{and-l, and-r, to-T}
 use Rattle.code.specs.Code.{code-good, width, roots, long, message-long, symbols-good, is-codeword, message}
 use Rattle.code.specs.Promise.{Codes-inside, Encodes-once, Message-good}
-use Rattle.code.proofs.Words.{Below, good, Codeword-parts, codeword-parts}
-use Rattle.code.proofs.Encode.{encode, encode-good, encode-top, codeword-is}
+use Rattle.code.proofs.Words.{Below, good, drop-below, Codeword-parts, codeword-parts}
+use Rattle.code.proofs.Encoding.{encode, encode-good, encode-top, codeword-is}
 
 -- a rule at each code number
 pub codes {ℓ} : (P : ℕ → Type ℓ) → P 1 → P 2 → P 3 → (c : ℕ) → code-good c ≡ true → P c
@@ -38,11 +38,6 @@ encodes-once m r ms w small n g = (
   (encode m r 1 ms, encode-good m r w small ms n g, encode-top m w r 1 ms),
   (λ vs ws p q e f. codeword-is m r w small vs p ∙ ap (encode m r 1) (e ∙ sym f) ∙ sym (codeword-is m r w small ws q)),
 )
-
-drop-below : (n k : ℕ) (ws : List ℕ) → Below n ws → Below n (drop k ws)
-drop-below n zero ws b = b
-drop-below n (suc k) [] b = tt
-drop-below n (suc k) (c ∷ cs) b = drop-below n k cs (b .1)
 
 pub message-good : Message-good
 unfolding Message-good message message-long
