@@ -7,7 +7,7 @@ use Prim.Native.Nat.{ℕ, zero, suc, _<_, _≤_}
 use native.Mathlib.Omega.{arith}
 use lib.Dec.{eqb, lit<}
 use lib.ListN.{length}
-use borrow.Author.Tests.{eqb-true}
+use borrow.Author.Tests.{eqb-true, eq-eqb}
 use Rattle.field.specs.Field.{width-good}
 use Rattle.field.proofs.Refusals.{passes, passes-last}
 use Rattle.code.specs.declared.Membership.{Membership}
@@ -53,6 +53,15 @@ module _ (c : ℕ) where
         symbols = passes-last (symbols-good (width c) ms) 5 (d .1);
       }
 
+  pub encode-code : (ms : List ℕ) (o : ℕ) → encode-refusal c ms o ≡ 0 → code-good c ≡ true
+  unfolding encode-refusal
+  encode-code ms o e = passes (code-good c) 0 _ e .0
+
+  -- and the other way round
+  pub encode-taken : (ms : List ℕ) (o : ℕ) → code-good c ≡ true → Message-within (width c) (roots c) ms o → encode-refusal c ms o ≡ 0
+  unfolding encode-refusal
+  encode-taken ms o g w = rw (g, eq-eqb _ _ (w .count), eq-eqb _ _ (w .room), w .symbols) refl
+
   pub check-accepts : (ws : List ℕ) → check-refusal c ws ≡ 0 → Word-within (width c) (roots c) ws
   unfolding check-refusal
   check-accepts ws e =
@@ -90,6 +99,14 @@ module _ (c : ℕ) where
         codeword = passes-last (is-codeword (width c) (roots c) ws) 7 (f .1);
       }
 
+  pub read-code : (ws : List ℕ) (o : ℕ) → read-refusal c ws o ≡ 0 → code-good c ≡ true
+  unfolding read-refusal
+  read-code ws o e = passes (code-good c) 0 _ e .0
+
+  pub read-taken : (ws : List ℕ) (o : ℕ) → code-good c ≡ true → Readable ws o → symbols-good (width c) ws ≡ true → read-refusal c ws o ≡ 0
+  unfolding read-refusal
+  read-taken ws o g w s = rw (g, eq-eqb _ _ (w .count), eq-eqb _ _ (w .room), s, w .codeword) refl
+
 pub outcome-refused : (n r : ℕ) (Done Kept : Type 0) → r ≡ n → (r ≡ 0 → ⊥) → Kept → Outcome n r Done Kept
 unfolding Outcome
 outcome-refused zero r Done Kept e f k = absurd (f e)
@@ -99,6 +116,16 @@ pub outcome-done : (n : ℕ) (Done Kept : Type 0) → n ≡ 0 → Done → Outco
 unfolding Outcome
 outcome-done zero Done Kept e d = (refl, d)
 outcome-done (suc n) Done Kept e d = absurd (omega arith)
+
+pub outcome-zero : (n : ℕ) (Done Kept : Type 0) → Outcome n 0 Done Kept → (n ≡ 0) × Done
+unfolding Outcome
+outcome-zero zero Done Kept o = (refl, o .1)
+outcome-zero (suc n) Done Kept o = absurd (omega (arith, o .0))
+
+pub outcome-taken : (n r : ℕ) (Done Kept : Type 0) → n ≡ 0 → Outcome n r Done Kept → (r ≡ 0) × Done
+unfolding Outcome
+outcome-taken zero r Done Kept e o = o
+outcome-taken (suc n) r Done Kept e o = absurd (omega arith)
 
 pub refused : (n r : ℕ) (b : Bool) → r ≡ n → (r ≡ 0 → ⊥) → Refused r ≡ membership n b
 unfolding membership
