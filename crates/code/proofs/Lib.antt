@@ -1,4 +1,9 @@
 pub mod Words
-pub mod Encode
+pub mod Loops
+pub mod Encoding
+pub mod Sweeps
+pub mod Parts
+pub mod Roots
+pub mod Accepted
 pub mod Both
 pub mod Promise
