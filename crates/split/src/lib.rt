@@ -1,0 +1,1 @@
+// Splitting a word into binary layers.
