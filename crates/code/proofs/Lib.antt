@@ -1,4 +1,5 @@
 pub mod Words
+pub mod Loops
 pub mod Encode
 pub mod Both
 pub mod Promise

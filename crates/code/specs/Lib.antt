@@ -1,4 +1,5 @@
 pub mod Code
 pub mod Bits
 pub mod Calls
+pub mod Within
 pub mod Promise

@@ -3,8 +3,10 @@
 // The others are for the crates above.
 ghost use mathlib.Core.Path.{_≡_};
 ghost use mathlib.Core.Bool.{true};
+ghost use Prim.Native.Nat.{_^_};
 ghost use Rattle.field.specs.Field.{width-good};
-ghost use Rattle.code.specs.Code.{code-good, width, roots, long, symbols-good};
+ghost use Rattle.code.specs.Code.{code-good, width, roots, long, value-at, symbols-good, is-codeword};
+ghost use Rattle.code.specs.Within.{Word-within};
 ghost use Rattle.code.specs.Bits.{row-long};
 
 pub enum Membership {
@@ -56,6 +58,54 @@ pub fn row_long_of(m: u32) -> usize
 // The number of symbols of a field: 2^m.
 fn below_of(m: u32) -> u8
     requires { ⌜ width-good m ≡ true ⌝ }
+    ensures { λ r. ⌜ r ≡ 2 ^ m ⌝ }
 {
     if m == 3 { 8 } else { 16 }
+}
+
+// Whether every symbol is below 2^m.
+pub fn symbols_good(m: u32, word: &[u8]) -> bool
+    requires { ⌜ width-good m ≡ true ⌝ }
+    ensures { λ x. ⌜ x ≡ symbols-good m (now (word .entry)) ⌝ }
+{
+    let top = below_of(m);
+    let mut i: usize = 0;
+    while i < word.len() {
+        if top <= word[i] {
+            return false;
+        }
+        i += 1;
+    }
+    true
+}
+
+// The value of a word at α^t, position by position.
+fn value(m: u32, t: u32, word: &[u8]) -> u8
+    requires { ⌜ Word-within m t (now word) ⌝ }
+    ensures { λ x. ⌜ x ≡ value-at m t (now (word .entry)) ⌝ }
+{
+    let mut sum: u8 = 0;
+    let mut e: u32 = 0;
+    let mut i: usize = 0;
+    while i < word.len() {
+        sum = field::add(sum, field::multiply(m, word[i], field::power(m, e)));
+        e += t;
+        i += 1;
+    }
+    sum
+}
+
+// Whether a word of n symbols has the roots α to α^r.
+pub fn is_codeword(m: u32, r: u32, word: &[u8]) -> bool
+    requires { ⌜ Word-within m r (now word) ⌝ }
+    ensures { λ x. ⌜ x ≡ is-codeword m r (now (word .entry)) ⌝ }
+{
+    let mut t: u32 = 1;
+    while t <= r {
+        if value(m, t, word) != 0 {
+            return false;
+        }
+        t += 1;
+    }
+    true
 }

@@ -2,3 +2,4 @@ pub mod Tests
 pub mod Xor
 pub mod Field
 pub mod Laws
+pub mod Tables

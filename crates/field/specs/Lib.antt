@@ -1,3 +1,4 @@
 pub mod Field
 pub mod Answers
 pub mod Laws
+pub mod Within

@@ -5,12 +5,18 @@ ghost use mathlib.Core.Path.{_≡_};
 ghost use mathlib.Core.Bool.{true};
 ghost use Prim.Native.Nat.{_^_, _<_};
 ghost use Rattle.field.specs.Field.{width-good, xor, times, alpha};
+ghost use Rattle.field.specs.Within.{Elements, Nonzero, Log};
 ghost use Rattle.field.specs.Answers.{made, sum-of, product-of, inverse-of};
 
 // The powers of α from exponent 0.
 pub const ANTILOG_3: [u8; 7] = [1, 2, 4, 3, 6, 7, 5];
 
 pub const ANTILOG_4: [u8; 15] = [1, 2, 4, 8, 3, 6, 12, 11, 5, 10, 7, 14, 15, 13, 9];
+
+// The exponents of the elements from 1 on, the antilog tables turned round; entry 0 is not used.
+const LOG_3: [u8; 8] = [0, 0, 1, 3, 2, 6, 4, 5];
+
+const LOG_4: [u8; 16] = [0, 0, 1, 4, 2, 8, 5, 10, 3, 14, 9, 7, 6, 13, 11, 12];
 
 // An element of the field of 2^m, as a number below 2^m.
 pub struct Element {
@@ -22,4 +28,50 @@ pub struct Element {
 pub enum Answer {
     Found(Element),
     Refused(u32),
+}
+
+// The sum of two elements.
+pub fn add(a: u8, b: u8) -> u8
+    ensures { λ r. ⌜ r ≡ xor a b ⌝ }
+{
+    a ^ b
+}
+
+// α^e for any e: the powers come round after 2^m - 1 of them.
+pub fn power(m: u32, e: u32) -> u8
+    requires { ⌜ width-good m ≡ true ⌝ }
+    ensures { λ r. ⌜ r ≡ alpha m e ⌝ }
+{
+    if m == 3 {
+        let i = (e % 7) as usize;
+        return ANTILOG_3[i];
+    }
+    let i = (e % 15) as usize;
+    ANTILOG_4[i]
+}
+
+// The exponent of an element that is not 0.
+fn log(m: u32, a: u8) -> u32
+    requires { ⌜ Nonzero m a ⌝ }
+    ensures { λ r. ⌜ Log m a r ⌝ }
+{
+    let i = a as usize;
+    if m == 3 {
+        return LOG_3[i] as u32;
+    }
+    LOG_4[i] as u32
+}
+
+// The product of two elements: exponents add.
+pub fn multiply(m: u32, a: u8, b: u8) -> u8
+    requires { ⌜ Elements m a b ⌝ }
+    ensures { λ r. ⌜ r ≡ times m a b ⌝ }
+{
+    if a == 0 {
+        return 0;
+    }
+    if b == 0 {
+        return 0;
+    }
+    power(m, log(m, a) + log(m, b))
 }

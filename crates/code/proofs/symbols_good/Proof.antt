@@ -1,0 +1,61 @@
+-- `code::symbols_good` meets its contract: what is left of the word is as good as the whole.
+-- Assumes nothing.
+use mathlib.Core.Path.{_≡_, refl, sym, _∙_}
+use Prim.Native.Nat.{_≤_, _-_, _^_}
+use native.Mathlib.Omega.{arith}
+use borrow.Author.Needs.{needs}
+use lib.ListN.{length, drop}
+use Rattle.code.specs.Code.{symbols-good}
+use Rattle.code.proofs.Loops.{symbol-good, symbol-bad, symbols-none}
+use Rattle.code.proofs.symbols_good.Statement.{statement}
+use Rattle.code.proofs.symbols_good.Tie as tie
+
+abbrev Inv-loop : tie.InvT-loop
+Inv-loop m word top i₀ i = (i ≤ length word) × (symbols-good m word ≡ symbols-good m (drop i word))
+
+abbrev μ-loop : tie.MeasureT-loop
+μ-loop m word top i₀ i = length word - i
+
+below-of-requires : tie.Need-below-of-requires Inv-loop μ-loop
+below-of-requires c κs = search needs
+
+loop-holds : tie.Need-loop-holds Inv-loop μ-loop
+loop-holds c = (search needs, refl)
+
+shared-slice-read-if1 : tie.Need-shared-slice-read-if1 Inv-loop μ-loop
+shared-slice-read-if1 c = search needs
+
+returns : tie.Need-returns Inv-loop μ-loop
+returns c = let s = c .before .before .before in let g = s .before in let a = g .before .before .args in
+    sym (s .loop .inv .1 ∙ symbol-bad (a .m) (a .word .now) (s .loop .i) (c .before .before .loop-test .taken) (rw (g .below-of .ensures) at (c .if1 .taken)))
+
+add-i : tie.Need-add-i Inv-loop μ-loop
+add-i c = search needs
+
+loop-less : tie.Need-loop-less Inv-loop μ-loop
+loop-less c = search needs
+
+loop-again : tie.Need-loop-again Inv-loop μ-loop
+loop-again c = let s = c .before .before .before in let g = s .before in let a = g .before .before .args in (
+  search needs,
+  s .loop .inv .1 ∙ symbol-good (a .m) (a .word .now) (s .loop .i) (c .before .before .loop-test .taken) (rw (g .below-of .ensures) at (c .if1 .left)),
+)
+
+returns-2 : tie.Need-returns-2 Inv-loop μ-loop
+returns-2 c = let s = c .before in let g = s .before .before .before in
+    sym (s .loop .inv .1 ∙ symbols-none (g .args .m) (g .args .word .now) (s .loop .i) (c .loop-test .left))
+
+pub symbols-good-spec : {M : Type 1} → statement M
+symbols-good-spec =
+    tie.close
+    (tie.spec
+    Inv-loop
+    μ-loop
+    below-of-requires
+    loop-holds
+    shared-slice-read-if1
+    returns
+    add-i
+    loop-less
+    loop-again
+    returns-2)
