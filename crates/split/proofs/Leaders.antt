@@ -66,7 +66,7 @@ at-word (suc n) (suc t) f p (suc zero ∷ ds) e b h =
     at-word n t (λ ds. f (1 ∷ ds)) (and-r (words n (suc t) (λ ds. f (0 ∷ ds))) (words n t (λ ds. f (1 ∷ ds))) p) ds (omega arith) (b .1) (omega arith)
 at-word (suc n) (suc t) f p (suc (suc d) ∷ ds) e b h = absurd (omega (arith, b .0))
 
-le-or-lt : (a b : ℕ) → (a ≤ b) ⊎ (b < a)
+pub le-or-lt : (a b : ℕ) → (a ≤ b) ⊎ (b < a)
 le-or-lt a b = go (leb a b) refl
   where
     go : (x : Bool) → leb a b ≡ x → (a ≤ b) ⊎ (b < a)

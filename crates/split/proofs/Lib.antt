@@ -2,3 +2,4 @@ pub mod Layers
 pub mod Glue
 pub mod Cosets
 pub mod Leaders
+pub mod Configurations

@@ -1,2 +1,3 @@
 pub mod Split
+pub mod Configurations
 pub mod Promise
