@@ -48,7 +48,7 @@ bits-binary : (m k : ℕ) → Binary m (bits-of (long m) k)
 bits-binary m k = record { count = bits-length (long m) k; bits = L.all-of 2 (bits-of (long m) k) (bits-below (long m) k) }
 
 -- a test at every binary word of length n and weight t or less
-pub words : (n t : ℕ) → (List ℕ → Bool) → Bool
+unfoldable pub words : (n t : ℕ) → (List ℕ → Bool) → Bool
 words zero t f = f []
 words (suc n) zero f = words n zero (λ ds. f (0 ∷ ds))
 words (suc n) (suc t) f = words n (suc t) (λ ds. f (0 ∷ ds)) && words n t (λ ds. f (1 ∷ ds))
@@ -122,18 +122,26 @@ module _ (m r t : ℕ) (ls : List ℕ) (p : T (perfect m r t ls)) where
       let k : Leader m r s (led m ls s) = leader-at s h in
       only-light s bs (l .binary) (l .of-coset) (omega (arith, led-light s h, l .least (led m ls s) (k .binary) (k .of-coset)))
 
--- the leaders of each code: position i has the bit of weight 2^i
-table : (code : ℕ) → List ℕ
-table c =
-    cond (eqb c 1) (0 ∷ 1 ∷ 2 ∷ 8 ∷ 4 ∷ 64 ∷ 16 ∷ 32 ∷ [])
-    (cond (eqb c 2) (0 ∷ 104 ∷ 81 ∷ 70 ∷ 35 ∷ 52 ∷ 13 ∷ 26 ∷ 22 ∷ 1 ∷ 56 ∷ 80 ∷ 74 ∷ 34 ∷ 100 ∷ 12 ∷ 69 ∷ 82 ∷ 20 ∷ 3 ∷ 25 ∷ 14 ∷ 72 ∷ 32 ∷ 44 ∷ 68 ∷ 2 ∷ 21 ∷ 112 ∷ 24 ∷ 33 ∷ 73 ∷ 49 ∷ 38 ∷ 96 ∷ 8 ∷ 18 ∷ 5 ∷ 67 ∷ 84 ∷ 88 ∷ 48 ∷ 9 ∷ 97 ∷ 4 ∷ 19 ∷ 42 ∷ 66 ∷ 11 ∷ 28 ∷ 37 ∷ 50 ∷ 40 ∷ 64 ∷ 6 ∷ 17 ∷ 98 ∷ 10 ∷ 76 ∷ 36 ∷ 65 ∷ 41 ∷ 16 ∷ 7 ∷ []) (0 ∷ 1 ∷ 2 ∷ 16 ∷ 4 ∷ 256 ∷ 32 ∷ 1024 ∷ 8 ∷ 16384 ∷ 512 ∷ 128 ∷ 64 ∷ 8192 ∷ 2048 ∷ 4096 ∷ []))
+-- the tables of src/lib.rt: the leaders of each code by syndrome, the bit of weight 2^i that of position i
+abbrev pub leaders-1 : List ℕ
+leaders-1 = 0 ∷ 1 ∷ 2 ∷ 8 ∷ 4 ∷ 64 ∷ 16 ∷ 32 ∷ []
+
+abbrev pub leaders-2 : List ℕ
+leaders-2 =
+    0 ∷ 104 ∷ 81 ∷ 70 ∷ 35 ∷ 52 ∷ 13 ∷ 26 ∷ 22 ∷ 1 ∷ 56 ∷ 80 ∷ 74 ∷ 34 ∷ 100 ∷ 12 ∷ 69 ∷ 82 ∷ 20 ∷ 3 ∷ 25 ∷ 14 ∷ 72 ∷ 32 ∷ 44 ∷ 68 ∷ 2 ∷ 21 ∷ 112 ∷ 24 ∷ 33 ∷ 73 ∷ 49 ∷ 38 ∷ 96 ∷ 8 ∷ 18 ∷ 5 ∷ 67 ∷ 84 ∷ 88 ∷ 48 ∷ 9 ∷ 97 ∷ 4 ∷ 19 ∷ 42 ∷ 66 ∷ 11 ∷ 28 ∷ 37 ∷ 50 ∷ 40 ∷ 64 ∷ 6 ∷ 17 ∷ 98 ∷ 10 ∷ 76 ∷ 36 ∷ 65 ∷ 41 ∷ 16 ∷ 7 ∷ []
+
+abbrev pub leaders-3 : List ℕ
+leaders-3 = 0 ∷ 1 ∷ 2 ∷ 16 ∷ 4 ∷ 256 ∷ 32 ∷ 1024 ∷ 8 ∷ 16384 ∷ 512 ∷ 128 ∷ 64 ∷ 8192 ∷ 2048 ∷ 4096 ∷ []
+
+abbrev table : (code : ℕ) → List ℕ
+table c = cond (eqb c 1) leaders-1 (cond (eqb c 2) leaders-2 leaders-3)
 
 -- the greatest weight of a leader
-pub heaviest : (code : ℕ) → ℕ
+unfoldable pub heaviest : (code : ℕ) → ℕ
 heaviest c = cond (eqb c 2) 3 1
 
 all-perfect : (c : ℕ) → code-good c ≡ true → T (perfect (width c) (roots c) (heaviest c) (table c))
-unfolding width roots long cosets number syndrome value-from value-at xor times times-from doubled alpha weight mask bits-of words heaviest table
+unfolding width roots long cosets number syndrome value-from value-at xor times times-from doubled alpha weight mask bits-of words heaviest
 all-perfect = codes (λ c. T (perfect (width c) (roots c) (heaviest c) (table c))) tt tt tt
 
 pub leader-there : Leader-there
@@ -146,3 +154,10 @@ one-leader c s bs ds g p q =
     let only : (ds : List ℕ) → Leader (width c) (roots c) s ds → ds ≡ led (width c) (table c) s =
     only-leader (width c) (roots c) (heaviest c) (table c) (all-perfect c g) (codes-inside c g .0) s in
     only bs p ∙ sym (only ds q)
+
+-- for the function that looks a leader up
+pub look-up : (c d : ℕ) → code-good c ≡ true → c ≡ d → (s : ℕ) → s < cosets (width c) (roots c) → Leader (width c) (roots c) s (led (width c) (table d) s)
+look-up c d g e s h = rw (← e) (leader-at (width c) (roots c) (heaviest c) (table c) (all-perfect c g) s h)
+
+pub last-code : (c : ℕ) → code-good c ≡ true → (c ≡ 1 → ⊥) → (c ≡ 2 → ⊥) → c ≡ 3
+last-code = codes (λ c. (c ≡ 1 → ⊥) → (c ≡ 2 → ⊥) → c ≡ 3) (λ p q. absurd (p refl)) (λ p q. absurd (q refl)) (λ p q. refl)

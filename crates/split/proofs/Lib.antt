@@ -2,4 +2,3 @@ pub mod Layers
 pub mod Glue
 pub mod Cosets
 pub mod Leaders
-pub mod Configurations

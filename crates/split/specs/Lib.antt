@@ -1,3 +1,3 @@
 pub mod Split
-pub mod Configurations
+pub mod Within
 pub mod Promise

@@ -1,4 +1,4 @@
--- What is promised of layers, cosets and configurations. A statement is a type; its proof stands in proofs/, in the file that is
+-- What is promised of layers and cosets. A statement is a type; its proof stands in proofs/, in the file that is
 -- named beside it. Assumes nothing.
 use mathlib.Core.Path.{_≡_}
 use mathlib.Core.Bool.{true}
@@ -8,7 +8,6 @@ use lib.ListN.{length}
 use Rattle.field.specs.Field.{width-good}
 use Rattle.code.specs.Code.{code-good, width, roots, long, symbols-good, is-codeword}
 use Rattle.split.specs.Split.{layer, syndrome, syndromes, cosets, valid, Binary, Leader, sum}
-use Rattle.split.specs.Configurations.{Configurations-right, configurations, configuration}
 
 -- (Glue) a word is a codeword exactly when its layers' syndromes are a valid configuration
 unfoldable pub Glued-right : Type 0
@@ -32,14 +31,3 @@ One-leader =
 unfoldable pub Sum-is-bch : Type 0
 Sum-is-bch =
     (m r : ℕ) (bs ds : List ℕ) → width-good m ≡ true → Binary m bs → Binary m ds → syndrome m r ds ≡ syndrome m r bs → syndrome m r (sum bs ds) ≡ 0
-
--- (Configurations) the configurations of the three codes: each valid, none missing, each once, ascending with s_1 as the leading digit
-unfoldable pub Configurations : Type 0
-Configurations = (c : ℕ) → code-good c ≡ true → Configurations-right c
-
--- (Configurations) the syndromes of a codeword are one of them, and a word whose syndromes are one of them is a codeword
-unfoldable pub Codewords-configured : Type 0
-Codewords-configured =
-    (c : ℕ) (ws : List ℕ) → code-good c ≡ true → length ws ≡ long (width c) → symbols-good (width c) ws ≡ true →
-    (is-codeword (width c) (roots c) ws ≡ true → (k : ℕ) × (k < configurations c) × (configuration c k ≡ syndromes (width c) (roots c) ws))
-    × ((k : ℕ) → k < configurations c → configuration c k ≡ syndromes (width c) (roots c) ws → is-codeword (width c) (roots c) ws ≡ true)

@@ -13,17 +13,18 @@ use lib.ListN.{length}
 use Rattle.field.specs.Field.{width-good, xor, times, times-from, doubled, alpha, square}
 use Rattle.code.specs.Code.{code-good, width, roots, long, symbols-good, is-codeword}
 use Rattle.code.specs.Promise.{Codes-inside}
 use Rattle.split.specs.Split.{layer, number, numbered, cosets, syndromes, syndromes-from, layer-value, glued, valid, valid-at, all-below}
-use Rattle.split.specs.Configurations.{Configuration, configurations, configuration, of-code-1, of-code-2, of-code-3, leading, Configurations-right}
-use Rattle.split.specs.Promise.{Glued-right, Syndrome-inside, Configurations, Codewords-configured}
+use Rattle.configurations.specs.Configurations.{Configuration, configurations, configuration, of-code-1, of-code-2, of-code-3, leading, Configurations-right}
+use Rattle.split.specs.Promise.{Glued-right, Syndrome-inside}
+use Rattle.configurations.specs.Promise.{Configurations, Codewords-configured}
 use Rattle.field.proofs.Tests.{all, at, eq-below, and-l, and-r, to-T, from-T}
 use Rattle.field.proofs.Xor as X
 use Rattle.code.proofs.Words.{Below}
 use Rattle.code.proofs.Promise.{codes, codes-inside}
 use Rattle.split.proofs.Layers.{below, all-of, layer-binary}
 use Rattle.split.proofs.Glue.{glued-right}
 use Rattle.split.proofs.Cosets.{syndrome-inside}
 use Rattle.split.proofs.Leaders.{le-or-lt}
 
 -- VALID, each of them, by a test
 abbrev good : (c k : ℕ) → Bool

@@ -3,12 +3,12 @@
 use mathlib.Core.Path.{_≡_}
 use mathlib.Core.Bool.{true, cond}
 use mathlib.Core.List.{List, [], _∷_, _++_}
-use Prim.Native.Nat.{ℕ, _+_, _*_, _-_, _/_, _%_, _^_, _<_}
+use Prim.Native.Nat.{ℕ, zero, suc, _+_, _*_, _-_, _/_, _%_, _^_, _<_}
 use lib.Dec.{eqb}
 use lib.ListN.{length, replicate}
 use Rattle.field.specs.Field.{xor, times, alpha}
 use Rattle.code.specs.Code.{width, roots}
 use Rattle.split.specs.Split.{cosets, valid, all-below}
 
 -- a tuple of m syndromes that is valid
 pub record Configuration (m r : ℕ) (ss : List ℕ) : Type 0 where
@@ -44,6 +44,14 @@ configuration c k = cond (eqb c 1) (of-code-1 k) (cond (eqb c 2) (of-code-2 k) (
 -- with m = 3 any fourth place is 0
 unfoldable pub padded : (configuration : List ℕ) → List ℕ
 padded ss = ss ++ replicate (4 - length ss) 0
+
+-- all of a code, end to end, four places each
+unfoldable pub listed-from : (left k : ℕ) → (code : ℕ) → List ℕ
+listed-from zero k c = []
+listed-from (suc n) k c = padded (configuration c k) ++ listed-from n (suc k) c
+
+unfoldable pub listed : (code : ℕ) → List ℕ
+listed c = listed-from (configurations c) 0 c
 
 -- a tuple read as a number, its first place the leading digit
 unfoldable pub leading : (base : ℕ) → (tuple : List ℕ) → ℕ
