@@ -1,0 +1,56 @@
+-- A configuration in the list of all: number k has the four places from 4 k on.
+-- Assumes nothing.
+use mathlib.Core.Path.{_≡_, refl, sym, ap, _∙_}
+use mathlib.Core.Bool.{Bool, true, false, cond}
+use mathlib.Core.List.{List, [], _∷_, _++_}
+use Prim.Native.Nat.{ℕ, zero, suc, _+_, _*_, _<_}
+use native.Mathlib.Nat.{zero-add, add-zero, add-suc, suc-add, not-suc-le-zero, le-of-suc-le-suc, mul-zero, mul-suc}
+use native.Mathlib.Omega.{arith}
+use lib.Dec.{eqb, lit<}
+use lib.ListN.{length, getD, length-append, List·getD-append}
+use lib.Seq.{getD-append-add}
+use Rattle.code.specs.Code.{code-good}
+use Rattle.code.proofs.Promise.{codes}
+use Rattle.configurations.specs.Configurations.{configuration, configurations, of-code-1, of-code-2, of-code-3, padded, listed-from, listed}
+
+pub four-places : (c k : ℕ) → length (padded (configuration c k)) ≡ 4
+unfolding configuration
+four-places c k = go (eqb c 1) (eqb c 2)
+  where
+    go : (a b : Bool) → length (padded (cond a (of-code-1 k) (cond b (of-code-2 k) (of-code-3 k)))) ≡ 4
+    go true b = unfold padded of-code-1 in refl
+    go false true = unfold padded of-code-2 in refl
+    go false false = unfold padded of-code-3 in refl
+
+from-at : (n k c i j : ℕ) → i < n → j < 4 → getD (listed-from n k c) (4 * i + j) 0 ≡ getD (padded (configuration c (k + i))) j 0
+unfolding listed-from
+from-at zero k c i j h l = absurd (not-suc-le-zero h)
+from-at (suc n) k c zero j h l =
+    rw (mul-zero, zero-add, add-zero)
+    (List·getD-append (padded (configuration c k)) (listed-from n (suc k) c) 0 j (rw (four-places c k) l))
+from-at (suc n) k c (suc i) j h l =
+    let p : List ℕ = padded (configuration c k) in
+    let e : 4 * suc i + j ≡ length p + (4 * i + j) = omega (arith, four-places c k) in
+    rw (e, getD-append-add p (listed-from n (suc k) c) (4 * i + j) 0, add-suc, ← suc-add) (from-at n (suc k) c i j (le-of-suc-le-suc h) l)
+
+-- THE PLACES OF NUMBER k
+pub listed-at : (c k j : ℕ) → k < configurations c → j < 4 → getD (listed c) (4 * k + j) 0 ≡ getD (padded (configuration c k)) j 0
+unfolding listed
+listed-at c k j h l = from-at (configurations c) 0 c k j h l ∙ ap (λ (i : ℕ). getD (padded (configuration c i)) j 0) (zero-add k)
+
+from-length : (n k c : ℕ) → length (listed-from n k c) ≡ 4 * n
+unfolding listed-from
+from-length zero k c = refl
+from-length (suc n) k c = rw (length-append) (omega (arith, four-places c k, from-length n (suc k) c))
+
+pub listed-length : (c : ℕ) → length (listed c) ≡ 4 * configurations c
+unfolding listed
+listed-length c = from-length (configurations c) 0 c
+
+-- the four places of code 3 as the table has them
+pub row-3 : (k : ℕ) → k < 256 →
+    getD (listed 3) (4 * k) 0 ∷ getD (listed 3) (4 * k + 1) 0 ∷ getD (listed 3) (4 * k + 2) 0 ∷ getD (listed 3) (4 * k + 3) 0 ∷ [] ≡ padded (of-code-3 k)
+unfolding configurations configuration padded of-code-3
+row-3 k h =
+    let zeroth : getD (listed 3) (4 * k) 0 ≡ getD (padded (configuration 3 k)) 0 0 = ap (λ (x : ℕ). getD (listed 3) x 0) (sym (add-zero (4 * k))) ∙ listed-at 3 k 0 h (lit< tt) in
+    rw (zeroth, listed-at 3 k 1 h (lit< tt), listed-at 3 k 2 h (lit< tt), listed-at 3 k 3 h (lit< tt)) refl

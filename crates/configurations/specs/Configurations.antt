@@ -1,0 +1,67 @@
+-- The valid configurations of each code, numbered from 0 (document 01, 'Split'). That these are the valid ones, all of them, in
+-- ascending order, is `Configurations-right`, so that a reader need not believe the formulas. Assumes nothing: these are definitions.
+use mathlib.Core.Path.{_≡_}
+use mathlib.Core.Bool.{true, cond}
+use mathlib.Core.List.{List, [], _∷_, _++_}
+use Prim.Native.Nat.{ℕ, zero, suc, _+_, _*_, _-_, _/_, _%_, _^_, _<_}
+use lib.Dec.{eqb}
+use lib.ListN.{length, replicate}
+use Rattle.field.specs.Field.{xor, times, alpha}
+use Rattle.code.specs.Code.{width, roots}
+use Rattle.split.specs.Split.{cosets, valid, all-below}
+
+-- a tuple of m syndromes that is valid
+pub record Configuration (m r : ℕ) (ss : List ℕ) : Type 0 where
+  pub count : length ss ≡ m
+  pub syndromes : all-below (cosets m r) ss ≡ true
+  pub is-valid : valid m r ss ≡ true
+
+-- how many there are: 8, 64, 256
+unfoldable pub configurations : (code : ℕ) → ℕ
+configurations c = cond (eqb c 1) 8 (cond (eqb c 2) 64 256)
+
+-- code 1: the multiples of (1, α^4, α^2)
+unfoldable pub of-code-1 : (k : ℕ) → List ℕ
+of-code-1 k = k ∷ times 3 (alpha 3 4) k ∷ times 3 (alpha 3 2) k ∷ []
+
+-- code 2: at α every layer has the value 0, at α^3 the values are those combined from (1, 0, α^5) and (0, 1, α^6)
+unfoldable pub of-code-2 : (k : ℕ) → List ℕ
+of-code-2 k =
+    let a = k / 8 in
+    let b = k % 8 in
+    8 * a ∷ 8 * b ∷ 8 * xor (times 3 (alpha 3 5) a) (times 3 (alpha 3 6) b) ∷ []
+
+-- code 3: those combined from (1, 0, α^3, α^7) and (0, 1, α, α^6)
+unfoldable pub of-code-3 : (k : ℕ) → List ℕ
+of-code-3 k =
+    let a = k / 16 in
+    let b = k % 16 in
+    a ∷ b ∷ xor (times 4 (alpha 4 3) a) (times 4 (alpha 4 1) b) ∷ xor (times 4 (alpha 4 7) a) (times 4 (alpha 4 6) b) ∷ []
+
+unfoldable pub configuration : (code k : ℕ) → List ℕ
+configuration c k = cond (eqb c 1) (of-code-1 k) (cond (eqb c 2) (of-code-2 k) (of-code-3 k))
+
+-- with m = 3 any fourth place is 0
+unfoldable pub padded : (configuration : List ℕ) → List ℕ
+padded ss = ss ++ replicate (4 - length ss) 0
+
+-- all of a code, end to end, four places each
+unfoldable pub listed-from : (left k : ℕ) → (code : ℕ) → List ℕ
+listed-from zero k c = []
+listed-from (suc n) k c = padded (configuration c k) ++ listed-from n (suc k) c
+
+unfoldable pub listed : (code : ℕ) → List ℕ
+listed c = listed-from (configurations c) 0 c
+
+-- a tuple read as a number, its first place the leading digit
+unfoldable pub leading : (base : ℕ) → (tuple : List ℕ) → ℕ
+leading q [] = 0
+leading q (s ∷ ss) = s * q ^ length ss + leading q ss
+
+-- every one yielded is valid; every valid one is yielded, exactly once, in ascending order
+pub record Configurations-right (c : ℕ) : Type 0 where
+  pub each-valid : (k : ℕ) → k < configurations c → Configuration (width c) (roots c) (configuration c k)
+  pub none-missing : (ss : List ℕ) → Configuration (width c) (roots c) ss → (k : ℕ) × (k < configurations c) × (configuration c k ≡ ss)
+  pub once : (k l : ℕ) → k < configurations c → l < configurations c → configuration c k ≡ configuration c l → k ≡ l
+  pub ascending : (k l : ℕ) → k < l → l < configurations c →
+      leading (cosets (width c) (roots c)) (configuration c k) < leading (cosets (width c) (roots c)) (configuration c l)

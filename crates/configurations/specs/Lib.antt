@@ -1,0 +1,3 @@
+pub mod Configurations
+pub mod Within
+pub mod Promise

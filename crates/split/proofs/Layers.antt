@@ -1,0 +1,150 @@
+-- The value of a word from those of its layers; of a binary word at a square, and of a sum. By Horner's form.
+-- Assumes nothing.
+use mathlib.Core.Path.{_≡_, refl, sym, ap, ap₂, _∙_, fun-ext}
+use mathlib.Core.Bool.{Bool, true, _&&_}
+use mathlib.Core.List.{List, [], _∷_}
+use Prim.Native.Nat.{ℕ, zero, suc, _+_, _*_, _/_, _%_, _^_, _<_, _≤_}
+use native.Mathlib.Nat.{mod-lt, zero-lt-suc}
+use native.Mathlib.Omega.{arith}
+use lib.Dec.{T, ltb, ltb→lt, lt→ltb}
+use lib.Pow.{pow-pos}
+use lib.ListN.{length}
+use Rattle.field.specs.Field.{xor, times, alpha, width-good, square}
+use Rattle.code.specs.Code.{long, value-at}
+use Rattle.split.specs.Split.{layer, all-below, Binary}
+use Rattle.split.specs.Split as S
+use Rattle.field.proofs.Tests.{and-l, and-r, to-T, from-T}
+use Rattle.field.proofs.Xor as X
+use Rattle.field.proofs.Field as F
+use Rattle.field.proofs.Field.{sum, field, times-lt}
+use Rattle.code.proofs.Words.{Below, widen, horner, horner-lt, value-horner}
+
+-- binary words
+pub below : (n : ℕ) (xs : List ℕ) → T (all-below n xs) → Below n xs
+unfolding all-below
+below n [] t = tt
+below n (x ∷ xs) t = (ltb→lt x n (and-l (ltb x n) (all-below n xs) t), below n xs (and-r (ltb x n) (all-below n xs) t))
+
+pub all-of : (n : ℕ) (xs : List ℕ) → Below n xs → all-below n xs ≡ true
+unfolding all-below
+all-of n [] b = refl
+all-of n (x ∷ xs) b = ap₂ (λ (y z : Bool). y && z) (from-T (ltb x n) (lt→ltb x n (b .0))) (all-of n xs (b .1))
+
+pub bits : (m : ℕ) (bs : List ℕ) → Binary m bs → Below 2 bs
+bits m bs b = below 2 bs (to-T (b .bits))
+
+pub layer-below : (j : ℕ) (ws : List ℕ) → Below 2 (layer j ws)
+unfolding layer
+layer-below j [] = tt
+layer-below j (c ∷ cs) = (mod-lt (c / 2 ^ j) (zero-lt-suc 1), layer-below j cs)
+
+pub layer-length : (j : ℕ) (ws : List ℕ) → length (layer j ws) ≡ length ws
+unfolding layer
+layer-length j [] = refl
+layer-length j (c ∷ cs) = ap suc (layer-length j cs)
+
+pub layer-binary : (m j : ℕ) (ws : List ℕ) → length ws ≡ long m → Binary m (layer j ws)
+layer-binary m j ws n = record { count = layer-length j ws ∙ n; bits = all-of 2 (layer j ws) (layer-below j ws) }
+
+pub sum-length : (bs ds : List ℕ) → length bs ≡ length ds → length (S.sum bs ds) ≡ length ds
+unfolding S.sum
+sum-length [] ds e = e
+sum-length (b ∷ bs) [] e = refl
+sum-length (b ∷ bs) (d ∷ ds) e = ap suc (sum-length bs ds (omega arith))
+
+pub sum-below : (bs ds : List ℕ) → Below 2 bs → Below 2 ds → Below 2 (S.sum bs ds)
+unfolding S.sum
+sum-below [] ds b e = tt
+sum-below (b ∷ bs) [] p q = tt
+sum-below (b ∷ bs) (d ∷ ds) p q = (X.below 1 b d (p .0) (q .0), sum-below bs ds (p .1) (q .1))
+
+-- sums over layers
+sum-add : (k j : ℕ) (f g : ℕ → ℕ) → xor (sum k j f) (sum k j g) ≡ sum k j (λ i. xor (f i) (g i))
+unfolding sum
+sum-add zero j f g = X.self 0
+sum-add (suc k) j f g = X.cross (f j) (sum k (suc j) f) (g j) (sum k (suc j) g) ∙ ap (xor (xor (f j) (g j))) (sum-add k (suc j) f g)
+
+pub sum-same : (k j : ℕ) {f g : ℕ → ℕ} → ((i : ℕ) → f i ≡ g i) → sum k j f ≡ sum k j g
+sum-same k j h = ap (sum k j) (fun-ext h)
+
+sum-lt : (m k j : ℕ) (f : ℕ → ℕ) → ((i : ℕ) → f i < 2 ^ m) → sum k j f < 2 ^ m
+unfolding sum
+sum-lt m zero j f h = pow-pos m
+sum-lt m (suc k) j f h = X.below m (f j) (sum k (suc j) f) (h j) (sum-lt m k (suc j) f h)
+
+module _ (m : ℕ) (w : width-good m ≡ true) where
+  sum-times : (x k j : ℕ) (f : ℕ → ℕ) → x < 2 ^ m → ((i : ℕ) → f i < 2 ^ m) → times m x (sum k j f) ≡ sum k j (λ i. times m x (f i))
+  unfolding sum
+  sum-times x zero j f hx h = F.times-zero-r m w x hx
+  sum-times x (suc k) j f hx h =
+      F.times-add-r m w x (f j) (sum k (suc j) f) hx (h j) (sum-lt m k (suc j) f h) ∙ ap (xor (times m x (f j))) (sum-times x k (suc j) f hx h)
+
+  pub bit : {c : ℕ} → c < 2 → c < 2 ^ m
+  bit h = omega (arith, F.two-lt m w)
+
+  pub symbols : (bs : List ℕ) → Below 2 bs → Below (2 ^ m) bs
+  symbols bs b = widen (omega (arith, F.two-lt m w)) bs b
+
+  bits-lt : (x : ℕ) (bs : List ℕ) → x < 2 ^ m → Below 2 bs → horner m x bs < 2 ^ m
+  bits-lt x bs hx b = horner-lt m w x bs hx (symbols bs b)
+
+  horner-split : (x : ℕ) (ws : List ℕ) → x < 2 ^ m → Below (2 ^ m) ws → horner m x ws ≡ sum m 0 (λ j. times m (alpha m j) (horner m x (layer j ws)))
+  unfolding horner layer
+  horner-split x [] hx b = F.zero-split m w
+  horner-split x (c ∷ cs) hx b =
+      ap₂ (λ (a v : ℕ). xor a (times m x v)) (F.symbol-split m w c (b .0)) (horner-split x cs hx (b .1))
+      ∙ ap (xor (sum m 0 (λ j. times m (alpha m j) (c / 2 ^ j % 2)))) (sum-times x m 0 (λ j. times m (alpha m j) (horner m x (layer j cs))) hx (λ j. F.times-lt m w (alpha m j) (horner m x (layer j cs)) (F.alpha-lt m w j) (bits-lt x (layer j cs) hx (layer-below j cs))))
+      ∙ sum-add m 0 (λ j. times m (alpha m j) (c / 2 ^ j % 2)) (λ j. times m x (times m (alpha m j) (horner m x (layer j cs))))
+      ∙ sum-same m 0 (λ j.
+      let ha : alpha m j < 2 ^ m = F.alpha-lt m w j in
+      let hc : c / 2 ^ j % 2 < 2 ^ m = bit (mod-lt (c / 2 ^ j) (zero-lt-suc 1)) in
+      let hv : horner m x (layer j cs) < 2 ^ m = bits-lt x (layer j cs) hx (layer-below j cs) in
+      simp (field, times-lt))
+
+  horner-square : (x : ℕ) (bs : List ℕ) → x < 2 ^ m → Below 2 bs → horner m (square m x) bs ≡ square m (horner m x bs)
+  unfolding horner
+  horner-square x [] hx b = sym (F.square-bit m w 0 (zero-lt-suc 1))
+  horner-square x (c ∷ cs) hx b =
+      let v : ℕ = horner m x cs in
+      let hv : v < 2 ^ m = bits-lt x cs hx (b .1) in
+      ap (λ (y : ℕ). xor c (times m (square m x) y)) (horner-square x cs hx (b .1))
+      ∙ sym (F.square-add m w c (times m x v) (bit (b .0)) (F.times-lt m w x v hx hv) ∙ ap₂ xor (F.square-bit m w c (b .0)) (F.square-times m w x v hx hv))
+
+  horner-sum : (x : ℕ) (bs ds : List ℕ) → x < 2 ^ m → length bs ≡ length ds → Below 2 bs → Below 2 ds →
+      horner m x (S.sum bs ds) ≡ xor (horner m x bs) (horner m x ds)
+  unfolding horner S.sum
+  horner-sum x [] [] hx e p q = sym (X.self 0)
+  horner-sum x [] (d ∷ ds) hx e p q = absurd (omega arith)
+  horner-sum x (b ∷ bs) [] hx e p q = absurd (omega arith)
+  horner-sum x (b ∷ bs) (d ∷ ds) hx e p q =
+      let u : ℕ = horner m x bs in
+      let v : ℕ = horner m x ds in
+      ap (λ (y : ℕ). xor (xor b d) (times m x y)) (horner-sum x bs ds hx (omega arith) (p .1) (q .1))
+      ∙ ap (xor (xor b d)) (F.times-add-r m w x u v hx (bits-lt x bs hx (p .1)) (bits-lt x ds hx (q .1)))
+      ∙ X.cross b d (times m x u) (times m x v)
+
+  -- a binary word has its value by Horner's rule, below 2^m
+  pub at-horner : (t : ℕ) (bs : List ℕ) → Below 2 bs → value-at m t bs ≡ horner m (alpha m t) bs
+  at-horner t bs b = value-horner m w t bs (symbols bs b)
+
+  pub at-lt : (t : ℕ) (bs : List ℕ) → Below 2 bs → value-at m t bs < 2 ^ m
+  at-lt t bs b = rw (at-horner t bs b) (bits-lt (alpha m t) bs (F.alpha-lt m w t) b)
+
+  -- THE VALUE OF A WORD, from the values of its layers
+  pub value-split : (t : ℕ) (ws : List ℕ) → Below (2 ^ m) ws → value-at m t ws ≡ sum m 0 (λ j. times m (alpha m j) (value-at m t (layer j ws)))
+  value-split t ws b =
+      value-horner m w t ws b ∙ horner-split (alpha m t) ws (F.alpha-lt m w t) b
+      ∙ sum-same m 0 (λ j. ap (times m (alpha m j)) (sym (at-horner t (layer j ws) (layer-below j ws))))
+
+  -- AT THE SQUARE, a binary word's value is the square
+  pub value-twice : (t : ℕ) (bs : List ℕ) → Below 2 bs → value-at m (t + t) bs ≡ square m (value-at m t bs)
+  value-twice t bs b =
+      at-horner (t + t) bs b ∙ ap (λ (x : ℕ). horner m x bs) (F.alpha-twice m w t)
+      ∙ horner-square (alpha m t) bs (F.alpha-lt m w t) b ∙ ap (square m) (sym (at-horner t bs b))
+
+  -- THE VALUE OF A SUM is the sum of the values
+  pub value-sum : (t : ℕ) (bs ds : List ℕ) → length bs ≡ length ds → Below 2 bs → Below 2 ds →
+      value-at m t (S.sum bs ds) ≡ xor (value-at m t bs) (value-at m t ds)
+  value-sum t bs ds e p q =
+      at-horner t (S.sum bs ds) (sum-below bs ds p q) ∙ horner-sum (alpha m t) bs ds (F.alpha-lt m w t) e p q
+      ∙ ap₂ xor (sym (at-horner t bs p)) (sym (at-horner t ds q))

@@ -1,0 +1,4 @@
+pub mod Layers
+pub mod Glue
+pub mod Cosets
+pub mod Leaders

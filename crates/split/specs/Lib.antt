@@ -1,0 +1,3 @@
+pub mod Split
+pub mod Within
+pub mod Promise

@@ -1,0 +1,33 @@
+-- What is promised of layers and cosets. A statement is a type; its proof stands in proofs/, in the file that is
+-- named beside it. Assumes nothing.
+use mathlib.Core.Path.{_≡_}
+use mathlib.Core.Bool.{true}
+use mathlib.Core.List.{List}
+use Prim.Native.Nat.{ℕ, _≤_, _<_}
+use lib.ListN.{length}
+use Rattle.field.specs.Field.{width-good}
+use Rattle.code.specs.Code.{code-good, width, roots, long, symbols-good, is-codeword}
+use Rattle.split.specs.Split.{layer, syndrome, syndromes, cosets, valid, Binary, Leader, sum}
+
+-- (Glue) a word is a codeword exactly when its layers' syndromes are a valid configuration
+unfoldable pub Glued-right : Type 0
+Glued-right =
+    (m r : ℕ) (ws : List ℕ) → width-good m ≡ true → r ≤ 6 → length ws ≡ long m → symbols-good m ws ≡ true →
+    is-codeword m r ws ≡ valid m r (syndromes m r ws)
+
+-- (Cosets) the syndrome of a binary word is below the number of cosets
+unfoldable pub Syndrome-inside : Type 0
+Syndrome-inside = (m r : ℕ) (bs : List ℕ) → width-good m ≡ true → Binary m bs → syndrome m r bs < cosets m r
+
+-- (Leaders) each coset of the three codes has a leader, and no other
+unfoldable pub Leader-there : Type 0
+Leader-there = (c s : ℕ) → code-good c ≡ true → s < cosets (width c) (roots c) → (bs : List ℕ) × Leader (width c) (roots c) s bs
+
+unfoldable pub One-leader : Type 0
+One-leader =
+    (c s : ℕ) (bs ds : List ℕ) → code-good c ≡ true → Leader (width c) (roots c) s bs → Leader (width c) (roots c) s ds → bs ≡ ds
+
+-- (Cosets) a binary word plus a member of its coset, so plus its leader, is a BCH word: its syndrome is 0
+unfoldable pub Sum-is-bch : Type 0
+Sum-is-bch =
+    (m r : ℕ) (bs ds : List ℕ) → width-good m ≡ true → Binary m bs → Binary m ds → syndrome m r ds ≡ syndrome m r bs → syndrome m r (sum bs ds) ≡ 0
