@@ -107,70 +107,70 @@ as-round s m e =
     ∙ ap (λ (x : ℕ). round binary32 s x (down e * 1)) n
     ∙ ap (λ (x : ℕ). round binary32 s (32 * m * up e) x) (mul-one (down e))
 
--- it is exact, or it is an infinity and the exact product is 128 or more
-module _ (s : Bool) (m : ℕ) (e : ℤ) (i : Inside m e) where
-  abbrev w : ℕ
-  w = m * 2 ^ (place e + 5)
+-- the exact product in units
+abbrev scaled : ℕ → ℤ → ℕ
+scaled m e = m * 2 ^ (place e + 5)
 
-  raised : w ≡ m * 2 ^ place e * 32
+-- below 2^277 units the float is exact; from there on it is an infinity, and the exact product is 128 or more
+module _ (s : Bool) (m : ℕ) (e : ℤ) (i : Inside m e) where
+  raised : scaled m e ≡ m * 2 ^ place e * 32
   raised = ap (λ (x : ℕ). m * x) (pow-add 2 (place e) 5) ∙ sym (mul-assoc m (2 ^ place e) 32)
 
-  count : m * up e * 2 ^ 154 ≡ w * down e
+  count : m * up e * 2 ^ 154 ≡ scaled m e * down e
   count = by-32 (m * up e) (2 ^ 149) (m * 2 ^ place e) (down e) (in-units m e (i .deep)) ∙ ap (λ (x : ℕ). x * down e) (sym raised)
 
-  count-149 : 32 * m * up e * 2 ^ 149 ≡ w * down e
-  count-149 = ap (λ (x : ℕ). x * 2 ^ 149) (mul-assoc 32 m (up e)) ∙ under (m * up e) (2 ^ 149) w (down e) count
+  count-149 : 32 * m * up e * 2 ^ 149 ≡ scaled m e * down e
+  count-149 = ap (λ (x : ℕ). x * 2 ^ 149) (mul-assoc 32 m (up e)) ∙ under (m * up e) (2 ^ 149) (scaled m e) (down e) count
 
-  exact : w < 2 ^ 277 → HasValue (times-32 s m e) s (32 * m * up e) (down e)
+  exact : scaled m e < 2 ^ 277 → HasValue (times-32 s m e) s (32 * m * up e) (down e)
   exact h =
       subst (λ (y : Float). HasValue y s (32 * m * up e) (down e)) (sym (as-round s m e))
       (round-exact binary32 s (32 * m * up e) (down e) m (place e + 5) (down-pos e) (i .digits) h count-149)
 
-  bounded : w < 2 ^ 282
+  bounded : scaled m e < 2 ^ 282
   bounded =
       lt-of-mul-lt-mul-right (down e)
       (lt-of-le-of-lt (le-of-eq (sym count)) (lt-of-lt-of-le (mul-lt-mul-of-pos-right (i .below) (pow-pos 154)) (le-of-eq (mul-right-comm (2 ^ 128) (down e) (2 ^ 154)))))
 
-  infinite : 2 ^ 277 ≤ w → times-32 s m e ≡ inf s
-  infinite h = as-round s m e ∙ too-large s (32 * m * up e) (down e) w (down-pos e) count-149 h (lt-of-lt-of-le bounded (lit≤ tt))
+  infinite : 2 ^ 277 ≤ scaled m e → times-32 s m e ≡ inf s
+  infinite h = as-round s m e ∙ too-large s (32 * m * up e) (down e) (scaled m e) (down-pos e) count-149 h (lt-of-lt-of-le bounded (lit≤ tt))
 
-  far : 2 ^ 277 ≤ w → 128 * down e ≤ 32 * m * up e
+  far : 2 ^ 277 ≤ scaled m e → 128 * down e ≤ 32 * m * up e
   far h =
       le-trans
       (beyond (2 ^ 123) (m * up e) (down e) (lit≤ tt)
       (le-of-mul-le-mul-right (le-trans (le-of-eq (mul-right-comm (2 ^ 123) (down e) (2 ^ 154))) (le-trans (mul-le-mul-right (down e) h) (le-of-eq (sym count)))) (pow-pos 154)))
       (le-of-eq (sym (mul-assoc 32 m (up e))))
 
--- ---- so the float `x * 32.0` is a number and is rounded as 32 times the sample is
-module _ (s : Bool) (m : ℕ) (e : ℤ) (i : Inside m e) where
+  -- so the float is a number, and is rounded as 32 times the sample is
   clipped : 128 * down e ≤ 32 * m * up e → min (nearest (32 * m * up e) (down e)) bound ≡ bound
   unfolding bound
   clipped h = min-eq-right (le-div-iff-mul-le (mul-pos (lit< tt) (down-pos e)) .1 (omega arith))
 
   number : isNan (times-32 s m e) ≡ false
   unfolding isNan
-  number = go (ltb (w s m e i) (2 ^ 277)) refl
+  number = go (ltb (scaled m e) (2 ^ 277)) refl
     where
       finite : (y : Float) → HasValue y s (32 * m * up e) (down e) → isNan y ≡ false
       finite nan h = absurd h
       finite (inf t) h = refl
       finite (fin t n d) h = refl
 
-      go : (b : Bool) → ltb (w s m e i) (2 ^ 277) ≡ b → isNan (times-32 s m e) ≡ false
-      go true t = finite (times-32 s m e) (exact s m e i (ltb-true (w s m e i) (2 ^ 277) t))
-      go false t = ap isNan (infinite s m e i (ltb-false (w s m e i) (2 ^ 277) t))
+      go : (b : Bool) → ltb (scaled m e) (2 ^ 277) ≡ b → isNan (times-32 s m e) ≡ false
+      go true t = finite (times-32 s m e) (exact (ltb-true (scaled m e) (2 ^ 277) t))
+      go false t = ap isNan (infinite (ltb-false (scaled m e) (2 ^ 277) t))
 
   rounded-32 : rounded 1 (times-32 s m e) ≡ rounded 32 (fin s m e)
   unfolding rounded
-  rounded-32 = go (ltb (w s m e i) (2 ^ 277)) refl
+  rounded-32 = go (ltb (scaled m e) (2 ^ 277)) refl
     where
-      go : (b : Bool) → ltb (w s m e i) (2 ^ 277) ≡ b → rounded 1 (times-32 s m e) ≡ rounded 32 (fin s m e)
+      go : (b : Bool) → ltb (scaled m e) (2 ^ 277) ≡ b → rounded 1 (times-32 s m e) ≡ rounded 32 (fin s m e)
       go true t =
-          of-value 1 (times-32 s m e) s (32 * m * up e) (down e) (down-pos e) (exact s m e i (ltb-true (w s m e i) (2 ^ 277) t))
+          of-value 1 (times-32 s m e) s (32 * m * up e) (down e) (down-pos e) (exact (ltb-true (scaled m e) (2 ^ 277) t))
           ∙ ap (λ (x : ℕ). signed s (min (nearest x (down e)) bound)) (one-mul (32 * m * up e))
       go false t =
-          let h = ltb-false (w s m e i) (2 ^ 277) t in
-          ap (rounded 1) (infinite s m e i h) ∙ ap (λ (x : ℕ). signed s x) (sym (clipped (far s m e i h)))
+          let h = ltb-false (scaled m e) (2 ^ 277) t in
+          ap (rounded 1) (infinite h) ∙ ap (λ (x : ℕ). signed s x) (sym (clipped (far h)))
 
 pub product-number : (x : Float) → T (fits binary32 x) → isNan x ≡ false → isNan (mul binary32 x thirty-two) ≡ false
 unfolding mul isNan

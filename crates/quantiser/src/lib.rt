@@ -18,11 +18,14 @@ const SIGN: u32 = 2147483648;
 
 const LEADING: u32 = 8388608;
 
-// At most 127.
+// The greatest size of a reliability.
+const BOUND: u32 = metric::BOUND as u32;
+
+// At most the greatest size of a reliability.
 fn clip(n: u32) -> u32
     ensures { λ r. ⌜ r ≡ min n bound ⌝ }
 {
-    if n > 127 { 127 } else { n }
+    if n > BOUND { BOUND } else { n }
 }
 
 // The whole number nearest to v / 2^24, a half going up.
@@ -45,7 +48,7 @@ fn size_of(b: u32) -> u32
         return 0;
     }
     if e >= 134 {
-        return 127;
+        return BOUND;
     }
     clip(halves_up(q << (e - 126)))
 }
@@ -60,7 +63,7 @@ fn round_clipped(y: f32) -> i16
     if b < SIGN { n } else { 0 - n }
 }
 
-// A sample quantised. The product is exact, since it moves the exponent alone; from 2^123 on it is an infinity, which is clipped too.
+// A sample quantised. The product by a power of two is exact; where the sample is 2^123 or more it is an infinity, which is clipped too.
 fn quantise_one(x: f32) -> i16
     requires { ⌜ isNan x ≡ false ⌝ }
     ensures { λ r. ⌜ r ≡ quantised x ⌝ }
