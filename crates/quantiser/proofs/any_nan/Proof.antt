@@ -1,0 +1,65 @@
+-- `quantiser::any_nan` meets its contract. The invariant: the samples below i have no NaN, so what is asked of all is asked of the rest.
+-- Assumes nothing.
+use borrow.Author.Needs.{needs}
+use Prim.Native.Nat.{_≤_, _-_}
+use mathlib.Core.Path.{_≡_, refl, sym, _∙_}
+use native.Mathlib.Omega.{arith}
+use lib.ListN.{length, drop}
+use denote.Ref.{now}
+use Rattle.quantiser.specs.Calls.{has-nan}
+use Rattle.quantiser.proofs.Samples.{found, passed, ended}
+use Rattle.quantiser.proofs.any_nan.Statement.{statement}
+use Rattle.quantiser.proofs.any_nan.Tie as tie
+
+abbrev Inv-loop : tie.InvT-loop
+Inv-loop samples i₀ i = (i ≤ length samples) × (has-nan samples ≡ has-nan (drop i samples))
+
+abbrev μ-loop : tie.MeasureT-loop
+μ-loop samples i₀ i = length samples - i
+
+loop-holds : tie.Need-loop-holds Inv-loop μ-loop
+loop-holds c = (omega arith, refl)
+
+mul-is-nan : tie.Need-mul-is-nan Inv-loop μ-loop
+mul-is-nan c = search needs
+
+shared-slice-read-is-nan : tie.Need-shared-slice-read-is-nan Inv-loop μ-loop
+shared-slice-read-is-nan c = search needs
+
+is-nan-requires : tie.Need-is-nan-requires Inv-loop μ-loop
+is-nan-requires c κs = search needs
+
+returns : tie.Need-returns Inv-loop μ-loop
+returns c =
+    let l = c .before .before .before .before in
+    found (now (l .before .before .args .samples)) (l .loop .i) (c .before .before .before .loop-test .taken) (l .loop .inv .1) (sym (c .before .is-nan .ensures) ∙ c .if1 .taken)
+
+add-i : tie.Need-add-i Inv-loop μ-loop
+add-i c = omega arith
+
+loop-less : tie.Need-loop-less Inv-loop μ-loop
+loop-less c = omega arith
+
+loop-again : tie.Need-loop-again Inv-loop μ-loop
+loop-again c =
+    let l = c .before .before .before .before in
+    (omega arith, passed (now (l .before .before .args .samples)) (l .loop .i) (c .before .before .before .loop-test .taken) (l .loop .inv .1) (sym (c .before .is-nan .ensures) ∙ c .if1 .left))
+
+returns-2 : tie.Need-returns-2 Inv-loop μ-loop
+returns-2 c = ended (now (c .before .before .before .args .samples)) (c .before .loop .i) (c .loop-test .left) (c .before .loop .inv .1)
+
+pub any-nan-spec : {M : Type 1} → statement M
+any-nan-spec =
+    tie.close
+    (tie.spec
+    Inv-loop
+    μ-loop
+    loop-holds
+    mul-is-nan
+    shared-slice-read-is-nan
+    is-nan-requires
+    returns
+    add-i
+    loop-less
+    loop-again
+    returns-2)

@@ -1,0 +1,3 @@
+pub mod Quantise
+pub mod Calls
+pub mod Laws
