@@ -1,2 +1,3 @@
 pub mod Tuples
 pub mod Walks
+pub mod Engine

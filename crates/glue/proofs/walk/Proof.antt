@@ -59,9 +59,11 @@ loop-again c = let st = c .before .before .before .before .before .before .befor
     let t = c .before .before .before .before .before .before .before .before .loop in
     let l : t .k < a .n = c .before .before .before .before .before .before .before .loop-test .taken in
     let e = rw (c .before .before .before .before .before .before .tuple-at .ensures) at (c .before .before .before .before .visit .ensures) in
-    let x = total (a .f .now) (tuple (a .configs .now) (t .k)) in
-    (omega arith, walk-more (a .size) (a .n) (a .cap) (a .f .now) (a .configs .now) w (t .k) (t .g) (t .least) (t .at) (t .inv .1) l (c .before .before .before .before .visit .last .1 .1 .1 .0) (c .less .result) (c .before .where-less .result)
-    (e .1) (c .less .ensures ∙ ap (min (t .least)) (e .0)) (c .before .where-less .ensures ∙ ap (λ (y : ℕ). cond (ltb y (t .least)) (t .k) (t .at)) (e .0)))
+    let x = total (a .f .now) (tuple (a .configs .now) (t .k)) in (
+      omega arith,
+      walk-more (a .size) (a .n) (a .cap) (a .f .now) (a .configs .now) w (t .k) (t .g) (t .least) (t .at) (t .inv .1) l (c .before .before .before .before .visit .last .1 .1 .1 .0) (c .less .result) (c .before .where-less .result)
+          (e .1) (c .less .ensures ∙ ap (min (t .least)) (e .0)) (c .before .where-less .ensures ∙ ap (λ (y : ℕ). cond (ltb y (t .least)) (t .k) (t .at)) (e .0)),
+    )
 
 tuple-at-requires-2 : tie.Need-tuple-at-requires-2 Inv-loop μ-loop
 tuple-at-requires-2 c κs = let st = c .before .before .before .before .before in
