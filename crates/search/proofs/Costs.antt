@@ -1,0 +1,124 @@
+-- The cost of a word is the sum of its layers' costs, and a bit of the word is a bit of its layer.
+-- Assumes nothing.
+use mathlib.Core.Path.{_≡_, refl, sym, ap, ap₂, _∙_, fun-ext}
+use mathlib.Core.Bool.{Bool, true, false, cond}
+use mathlib.Core.List.{List, [], _∷_, _++_}
+use Prim.Native.Nat.{ℕ, zero, suc, _+_, _-_, _*_, _/_, _%_, _^_, _≤_, _<_}
+use native.Mathlib.Nat.{not-suc-le-zero, le-of-suc-le-suc, suc-mul, zero-mul, mul-le-mul-right, div-one, div-div-eq-div-mul, pow-succ'}
+use native.Mathlib.Omega.{arith}
+use lib.Dec.{ltb}
+use lib.ListN.{length, getD, drop, length-drop, List·getD-append}
+use lib.Seq.{getD-drop, drop-drop, getD-append-add}
+use lib.IntN.{ℤ, pos}
+use Rattle.field.specs.Field.{width-good}
+use Rattle.field.proofs.Tests.{widths}
+use Rattle.code.specs.Code.{long}
+use Rattle.code.specs.Bits.{bits-of, all-bits, bit-at, row-long}
+use Rattle.split.specs.Split.{layer}
+use Rattle.metric.specs.Cost.{costZero, costOne, choose, discrepancy, cost}
+use Rattle.trellis.specs.Trellis.{pick}
+use Rattle.trellis.specs.Trellis as T
+use Rattle.trellis.specs.Rows as R
+use Rattle.glue.specs.Walk.{sum4}
+use Rattle.search.specs.Search.{zero-cost, one-cost, Spelt}
+
+-- f 0 + f 1 + .., so many of them
+total : ℕ → (ℕ → ℕ) → ℕ
+total zero f = 0
+total (suc k) f = f 0 + total k (λ i. f (suc i))
+
+pub next : (x j : ℕ) → x / 2 ^ suc j % 2 ≡ x / 2 / 2 ^ j % 2
+next x j = rw (pow-succ' 2 j, ← div-div-eq-div-mul x 2 (2 ^ j))
+
+pub first : (x : ℕ) → x / 2 ^ 0 % 2 ≡ x % 2
+first x = rw (div-one x)
+
+total-same : (k : ℕ) {f g : ℕ → ℕ} → ((i : ℕ) → f i ≡ g i) → total k f ≡ total k g
+total-same k h = ap (total k) (fun-ext h)
+
+length-bits : (k x : ℕ) → length (bits-of k x) ≡ k
+unfolding bits-of
+length-bits zero x = refl
+length-bits (suc k) x = ap suc (length-bits k (x / 2))
+
+-- what bit j of a symbol contradicts of a row's entries
+part : (x : ℕ) → List ℤ → (j : ℕ) → ℕ
+part x rs j = choose (x / 2 ^ j % 2) (costZero (getD rs j (pos 0))) (costOne (getD rs j (pos 0)))
+
+-- one symbol
+symbol : (k x : ℕ) (rs : List ℤ) (bs : List ℕ) → k ≤ length rs → discrepancy rs (bits-of k x ++ bs) ≡ total k (part x rs) + discrepancy (drop k rs) bs
+unfolding discrepancy bits-of total part
+symbol zero x rs bs h = omega arith
+symbol (suc k) x [] bs h = absurd (omega arith)
+symbol (suc k) x (r ∷ rs) bs h =
+    omega (
+      arith,
+      symbol k (x / 2) rs bs (omega arith),
+      ap (λ (b : ℕ). choose b (costZero r) (costOne r)) (first x),
+      total-same k {f = λ i. part x (r ∷ rs) (suc i)} {g = part (x / 2) rs} (λ i. ap (λ (b : ℕ). choose b (costZero (getD rs i (pos 0))) (costOne (getD rs i (pos 0)))) (next x i)),
+    )
+
+nothing : (rs : List ℤ) → discrepancy rs [] ≡ 0
+unfolding discrepancy
+nothing [] = refl
+nothing (r ∷ rs) = refl
+
+-- a layer that the width has not got costs nothing
+in-four : (m : ℕ) → width-good m ≡ true → (f : ℕ → ℕ) → total m f ≡ sum4 (λ j. cond (ltb j m) (f j) 0)
+unfolding total
+in-four m w = widths (λ (m : ℕ). (f : ℕ → ℕ) → total m f ≡ sum4 (λ j. cond (ltb j m) (f j) 0)) (λ f. omega arith) (λ f. omega arith) m w
+
+picked : (t : Bool) (b x y : ℕ) → pick b (cond t x 0) (cond t y 0) ≡ cond t (choose b x y) 0
+picked true zero x y = refl
+picked true (suc b) x y = refl
+picked false zero x y = refl
+picked false (suc b) x y = refl
+
+-- at least three entries of one symbol, from position i on
+module _ (m r : ℕ) (w : width-good m ≡ true) (rs : List ℤ) (hs zs os : List ℕ) (y : Spelt m r rs hs zs os) (l : length rs ≡ row-long m) where
+  lane-part : (i j x : ℕ) → i < long m → j < 4 → pick (x / 2 ^ j % 2) (R.entry zs i j) (R.entry os i j) ≡ cond (ltb j m) (part x (drop (i * m) rs) j) 0
+  unfolding part
+  lane-part i j x li lj =
+      ap₂ (pick (x / 2 ^ j % 2)) (y .zeros i j li lj) (y .ones i j li lj)
+      ∙ picked (ltb j m) (x / 2 ^ j % 2) (costZero (getD rs (i * m + j) (pos 0))) (costOne (getD rs (i * m + j) (pos 0)))
+      ∙ ap (λ (z : ℤ). cond (ltb j m) (choose (x / 2 ^ j % 2) (costZero z) (costOne z)) 0) (sym (getD-drop (i * m) rs j (pos 0)))
+
+  cost-from : (i : ℕ) (ws : List ℕ) → i + length ws ≤ long m → discrepancy (drop (i * m) rs) (all-bits m ws) ≡ sum4 (λ j. T.cost (R.layer hs zs os j) i (layer j ws))
+  unfolding all-bits T.cost layer row-long
+  cost-from i [] h = nothing (drop (i * m) rs)
+  cost-from i (x ∷ xs) h =
+      let li : i < long m = omega arith in
+      let fits : m ≤ length (drop (i * m) rs) = omega (arith, length-drop (i * m) rs, l, mul-le-mul-right m li, suc-mul i m) in
+      omega (
+        arith,
+        symbol m x (drop (i * m) rs) (all-bits m xs) fits,
+        in-four m w (part x (drop (i * m) rs)),
+        ap (λ (q : List ℤ). discrepancy q (all-bits m xs)) (drop-drop m (i * m) rs ∙ ap (λ (k : ℕ). drop k rs) (sym (suc-mul i m))),
+        cost-from (suc i) xs (omega arith),
+        lane-part i 0 x li (omega arith),
+        lane-part i 1 x li (omega arith),
+        lane-part i 2 x li (omega arith),
+        lane-part i 3 x li (omega arith),
+      )
+
+  -- THE COST IS THE LAYERS' COSTS
+  pub by-layers : (ws : List ℕ) → length ws ≡ long m → cost m rs ws ≡ sum4 (λ j. T.cost (R.layer hs zs os j) 0 (layer j ws))
+  unfolding cost
+  by-layers ws e = ap (λ (k : ℕ). discrepancy (drop k rs) (all-bits m ws)) (sym (zero-mul m)) ∙ cost-from 0 ws (omega arith)
+
+-- BITS
+at-bits : (k j x : ℕ) → j < k → getD (bits-of k x) j 0 ≡ x / 2 ^ j % 2
+unfolding bits-of
+at-bits zero j x h = absurd (not-suc-le-zero h)
+at-bits (suc k) zero x h = sym (first x)
+at-bits (suc k) (suc j) x h = at-bits k j (x / 2) (le-of-suc-le-suc h) ∙ sym (next x j)
+
+pub bit-layer : (m j i : ℕ) (ws : List ℕ) → j < m → bit-at m (i * m + j) ws ≡ getD (layer j ws) i 0
+unfolding bit-at all-bits layer
+bit-layer m j i [] h = refl
+bit-layer m j zero (x ∷ xs) h =
+    let e : 0 * m + j ≡ j = omega arith in
+    rw e (List·getD-append (bits-of m x) (all-bits m xs) 0 j (omega (arith, length-bits m x)) ∙ at-bits m j x h)
+bit-layer m j (suc i) (x ∷ xs) h =
+    let e : suc i * m + j ≡ length (bits-of m x) + (i * m + j) = omega (arith, length-bits m x) in
+    rw e (getD-append-add (bits-of m x) (all-bits m xs) (i * m + j) 0 ∙ bit-layer m j i xs h)

@@ -1,0 +1,3 @@
+pub mod Heads
+pub mod Costs
+pub mod Weave
