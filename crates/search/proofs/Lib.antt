@@ -1,3 +1,4 @@
 pub mod Heads
 pub mod Costs
 pub mod Weave
+pub mod Bridge

@@ -28,14 +28,6 @@ symbol-same p q r s = omega arith
 pub four-same : {a b c d a' b' c' d' : ℕ} → a ≡ a' → b ≡ b' → c ≡ c' → d ≡ d' → _≡_ {A = List ℕ} (a ∷ b ∷ c ∷ d ∷ []) (a' ∷ b' ∷ c' ∷ d' ∷ [])
 four-same p q r s = cc
 
-bit-lt : (b : Bool) → bit b < 2
-bit-lt true = omega arith
-bit-lt false = omega arith
-
-pub choice-lt : (c : Column) (v : ℕ → ℕ) (s : ℕ) → choice c v s < 2
-unfolding choice
-choice-lt c v s = bit-lt (leb (v s + c .c0) (v (xor s (c .h)) + c .c1))
-
 -- a choice looks at two entries
 choice-same : (h a b a' b' : ℕ) (v w : ℕ → ℕ) (s : ℕ) → a ≡ a' → b ≡ b' → v s ≡ w s → v (xor s h) ≡ w (xor s h) →
     choice (record { h = h; c0 = a; c1 = b }) v s ≡ choice (record { h = h; c0 = a'; c1 = b' }) w s

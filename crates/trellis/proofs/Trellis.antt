@@ -19,6 +19,14 @@ step-le either c v s zero m = rw (X.zero-r s) (omega arith)
 step-le either c v s (suc b) m = omega arith
 step-le (only x) c v s b m = rw m (omega arith)
 
+bit-lt : (b : Bool) → bit b < 2
+bit-lt true = omega arith
+bit-lt false = omega arith
+
+pub choice-lt : (c : Column) (v : ℕ → ℕ) (s : ℕ) → choice c v s < 2
+unfolding choice
+choice-lt c v s = bit-lt (leb (v s + c .c0) (v (xor s (c .h)) + c .c1))
+
 -- and one attains it
 choice-met : (c : Column) (v : ℕ → ℕ) (s : ℕ) → step either c v s ≡ v (xor s (pick (choice c v s) 0 (c .h))) + pick (choice c v s) (c .c0) (c .c1)
 unfolding step choice
@@ -30,7 +38,7 @@ choice-met c v s = go (leb (v s + c .c0) (v (xor s (c .h)) + c .c1)) refl
     go false e = omega (arith, leb-false (v s + c .c0) (v (xor s (c .h)) + c .c1) e)
 
 step-met : (a : Choice) (c : Column) (v : ℕ → ℕ) (s : ℕ) → (b : ℕ) × May a b × (step a c v s ≡ v (xor s (pick b 0 (c .h))) + pick b (c .c0) (c .c1))
-step-met either c v s = (choice c v s, tt, choice-met c v s)
+step-met either c v s = (choice c v s, choice-lt c v s, choice-met c v s)
 step-met (only x) c v s = (x, refl, unfold step in refl)
 
 module _ (col : Columns) (v : ℕ → ℕ) where
@@ -78,7 +86,7 @@ module _ (col : Columns) (v : ℕ → ℕ) where
   traced i zero s = none free i s
   traced i (suc k) s =
       let b : ℕ = choice (col i) (back free col v (suc i) k) s in
-      more free i k s b (trace col v (suc i) k (xor s (pick b 0 (col i .h)))) tt (choice-met (col i) (back free col v (suc i) k) s)
+      more free i k s b (trace col v (suc i) k (xor s (pick b 0 (col i .h)))) (choice-lt (col i) (back free col v (suc i) k) s) (choice-met (col i) (back free col v (suc i) k) s)
       (traced (suc i) k (xor s (pick b 0 (col i .h))))
 
 -- with nothing behind: below big, the bits add up to s

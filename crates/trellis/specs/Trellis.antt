@@ -3,7 +3,7 @@
 use mathlib.Core.Path.{_≡_}
 use mathlib.Core.Bool.{Bool, true, false, cond}
 use mathlib.Core.List.{List, [], _∷_}
-use Prim.Native.Nat.{ℕ, zero, suc, _+_, min}
+use Prim.Native.Nat.{ℕ, zero, suc, _+_, _<_, min}
 use lib.Dec.{leb, eqb}
 use Rattle.field.specs.Field.{xor}
 
@@ -28,7 +28,7 @@ pub data Choice : Type 0 where
   only : ℕ → Choice
 
 abbrev pub May : Choice → ℕ → Type 0
-May either b = Unit {0}
+May either b = b < 2
 May (only v) b = b ≡ v
 
 -- the least with one column more
