@@ -1,3 +1,4 @@
 pub mod Row
 pub mod Metric
+pub mod Cost
 pub mod Promise
