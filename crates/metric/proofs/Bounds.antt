@@ -1,17 +1,19 @@
--- What a row of reliabilities can weigh, and a word cost.
+-- What a row of reliabilities can weigh, a word cost, and a metric be.
 -- Assumes nothing.
 use mathlib.Core.Path.{_≡_}
-use mathlib.Core.Bool.{Bool, true, _&&_}
+use mathlib.Core.Bool.{Bool, true, _&&_, cond}
 use mathlib.Core.List.{List, [], _∷_}
 use Prim.Native.Nat.{ℕ, zero, suc, _+_, _*_, _≤_, _<_}
 use native.Mathlib.Omega.{arith}
-use lib.Dec.{T, leb→le}
+use lib.Dec.{T, eqb, leb→le, eqb·suc-zero}
 use lib.ListN.{length}
-use lib.IntN.{ℤ, pos, negsuc}
+use lib.IntN.{ℤ, pos, negsuc, _+ℤ_, _-ℤ_}
 use Rattle.field.proofs.Tests.{and-l, and-r, to-T}
 use Rattle.code.specs.Bits.{all-bits}
 use Rattle.metric.specs.Row.{bound, reliability-good, row-good}
+use Rattle.metric.specs.Metric.{metric-of}
 use Rattle.metric.specs.Cost.{costZero, costOne, choose, discrepancy, weight-of, cost}
+use Rattle.metric.proofs.Integers.{plus, minus}
 
 size-le : (r : ℤ) → T (reliability-good r) → costZero r + costOne r ≤ 127
 unfolding reliability-good bound
@@ -49,3 +51,22 @@ discrepancy-le (r ∷ rs) (b ∷ bs) = omega (arith, chosen b (costZero r) (cost
 pub cost-le : (m : ℕ) (rs : List ℤ) (ws : List ℕ) → cost m rs ws ≤ weight-of rs
 unfolding cost
 cost-le m rs ws = discrepancy-le rs (all-bits m ws)
+
+-- whatever the bits are: a metric lies within 127 for each of them
+pub record Within (n : ℕ) (z : ℤ) : Type 0 where
+  pub above : costOne z ≤ costZero z + n
+  pub below : costZero z ≤ costOne z + n
+
+pub metric-within : (rs : List ℤ) (bs : List ℕ) → T (row-good rs) → Within (length bs * 127) (metric-of rs bs)
+unfolding metric-of row-good
+metric-within [] bs t = record { above = omega arith; below = omega arith }
+metric-within (r ∷ rs) [] t = record { above = omega arith; below = omega arith }
+metric-within (r ∷ rs) (b ∷ bs) t =
+    go b (size-le r (and-l (reliability-good r) (row-good rs) t)) (metric-within rs bs (and-r (reliability-good r) (row-good rs) t))
+  where
+    x : ℤ
+    x = metric-of rs bs
+
+    go : (b : ℕ) → costZero r + costOne r ≤ 127 → Within (length bs * 127) x → Within (suc (length bs) * 127) (cond (eqb b 0) (x +ℤ r) (x -ℤ r))
+    go zero s w = record { above = omega (arith, plus x r); below = omega (arith, plus x r) }
+    go (suc b) s w = rw (eqb·suc-zero b) (record { above = omega (arith, minus x r); below = omega (arith, minus x r) })
