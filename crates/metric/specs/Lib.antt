@@ -1,4 +1,5 @@
 pub mod Row
 pub mod Metric
 pub mod Cost
+pub mod Right
 pub mod Promise

@@ -6,10 +6,10 @@ use Prim.Native.Nat.{ℕ, _≤_, _<_}
 use lib.ListN.{length, getD}
 use lib.IntN.{ℤ, pos, negsuc, _-ℤ_}
 use Rattle.field.specs.Field.{width-good}
-use Rattle.code.specs.Code.{long, is-codeword}
 use Rattle.code.specs.Bits.{row-long}
 use Rattle.metric.specs.Row.{row-good}
-use Rattle.metric.specs.Metric.{metric, at-most, Greatest, Greatest-with}
+use Rattle.metric.specs.Metric.{at-most, Greatest, Greatest-with, Soft, Decoded, Marked}
+use Rattle.metric.specs.Right.{Soft-right, Decoded-right, Marked-right}
 
 -- there is one greatest metric, and one of each value at a bit
 unfoldable pub Greatest-one : Type 0
@@ -29,3 +29,25 @@ unfoldable pub Best-of-two : Type 0
 Best-of-two =
     (m r b : ℕ) (rs : List ℤ) (e g h : ℤ) → Greatest m r rs e → Greatest-with m r rs b 0 g → Greatest-with m r rs b 1 h →
     e ≡ cond (at-most h g) g h
+
+-- two decodings of a row differ at most in the word
+unfoldable pub Decoded-one : Type 0
+Decoded-one =
+    (m r : ℕ) (rs : List ℤ) (vs ws : List ℕ) (e g : ℤ) (so to : List ℤ) → Decoded m r rs vs e so → Decoded m r rs ws g to → (e ≡ g) × (so ≡ to)
+
+-- a row and a word have one verdict, with one shortfall
+unfoldable pub Marked-one : Type 0
+Marked-one =
+    (m r : ℕ) (rs : List ℤ) (ws : List ℕ) (v w : ℕ) (d e : ℤ) → Marked v d m r rs ws → Marked w e m r rs ws → (v ≡ w) × (d ≡ e)
+
+-- what document 03 asks follows
+unfoldable pub Soft-enough : Type 0
+Soft-enough =
+    (m r : ℕ) (rs so : List ℤ) → length so ≡ row-long m → ((b : ℕ) → b < row-long m → Soft m r rs b (getD so b (pos 0))) → Soft-right m r rs so
+
+unfoldable pub Decoded-enough : Type 0
+Decoded-enough =
+    (m r : ℕ) (rs : List ℤ) (ws : List ℕ) (best : ℤ) (so : List ℤ) → Decoded m r rs ws best so → Decoded-right m r rs ws best so
+
+unfoldable pub Marked-enough : Type 0
+Marked-enough = (m r : ℕ) (rs : List ℤ) (ws : List ℕ) (v : ℕ) (d : ℤ) → Marked v d m r rs ws → Marked-right m r rs ws v d

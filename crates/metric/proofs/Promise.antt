@@ -1,0 +1,154 @@
+-- The statements of specs/Promise.antt.
+-- Assumes nothing.
+use mathlib.Core.Path.{_≡_, refl, sym, ap, ap₂, _∙_}
+use mathlib.Core.Bool.{Bool, true, false, cond, false≢true}
+use mathlib.Core.List.{List, [], _∷_, _++_}
+use Prim.Native.Nat.{ℕ, zero, suc, _+_, _*_, _/_, _≤_, _<_}
+use native.Mathlib.Omega.{arith}
+use lib.Dec.{T, lit≤, eqb·suc-zero}
+use lib.ListN.{length, getD}
+use lib.Seq.{ext-getD}
+use lib.IntN.{ℤ, pos, negsuc, _-ℤ_}
+use Rattle.field.specs.Field.{width-good}
+use Rattle.field.proofs.Tests.{and-l, and-r, to-T, widths}
+use Rattle.code.specs.Code.{long, is-codeword}
+use Rattle.code.specs.Bits.{bits-of, all-bits, bit-at, row-long}
+use Rattle.metric.specs.Row.{reliability-good, row-good}
+use Rattle.metric.specs.Metric.{metric-of, metric, at-most, Greatest, Greatest-with, Soft, Decoded, Marked}
+use Rattle.metric.specs.Cost.{costZero, costOne}
+use Rattle.metric.specs.Right.{Soft-right, Decoded-right, Marked-right}
+use Rattle.metric.specs.Promise.{Greatest-one, Greatest-with-one, Soft-width, Best-of-two, Decoded-one, Marked-one, Soft-enough, Decoded-enough, Marked-enough}
+use Rattle.metric.proofs.Integers.{plus, minus, same, le-at-most, at-most-true, at-most-false, at-most-refl, at-most-antisym}
+use Rattle.metric.proofs.Bounds.{Within, metric-within}
+use Rattle.metric.proofs.Costs.{codeword-bits}
+
+clash {ℓ} : {X : Type ℓ} {b : Bool} → b ≡ true → b ≡ false → X
+clash p q = absurd (false≢true (sym q ∙ p))
+
+-- ONE GREATEST: each bounds the word that meets the other
+pub greatest-one : Greatest-one
+unfolding Greatest-one
+greatest-one m r rs g h p q =
+    at-most-antisym g h (rw (p .met .2) at (q .all (p .met .0) (p .met .1))) (rw (q .met .2) at (p .all (q .met .0) (q .met .1)))
+
+pub greatest-with-one : Greatest-with-one
+unfolding Greatest-with-one
+greatest-with-one m r b v rs g h p q =
+    at-most-antisym g h (rw (p .met .3) at (q .all (p .met .0) (p .met .1) (p .met .2))) (rw (q .met .3) at (p .all (q .met .0) (q .met .1) (q .met .2)))
+
+-- THE WIDTH: a metric is at most 127 a bit, and there are at most 60 bits
+few-bits : (m : ℕ) → width-good m ≡ true → row-long m ≤ 60
+unfolding row-long long
+few-bits = widths (λ (m : ℕ). row-long m ≤ 60) (lit≤ tt) (lit≤ tt)
+
+pub soft-width : Soft-width
+unfolding Soft-width metric
+soft-width m r b rs g h w t p q =
+    let x : ℤ = metric-of rs (all-bits m (p .met .0)) in
+    let y : ℤ = metric-of rs (all-bits m (q .met .0)) in
+    let few : row-long m ≤ 60 = few-bits m w in
+    let lx : length (all-bits m (p .met .0)) ≡ row-long m = codeword-bits m r (p .met .0) (p .met .1) in
+    let ly : length (all-bits m (q .met .0)) ≡ row-long m = codeword-bits m r (q .met .0) (q .met .1) in
+    let wx : Within (length (all-bits m (p .met .0)) * 127) x = metric-within rs (all-bits m (p .met .0)) (to-T t) in
+    let wy : Within (length (all-bits m (q .met .0)) * 127) y = metric-within rs (all-bits m (q .met .0)) (to-T t) in
+    rw (← p .met .3, ← q .met .3)
+    (le-at-most (x -ℤ y) (pos 15240) (omega (arith, minus x y)), le-at-most (negsuc 15239) (x -ℤ y) (omega (arith, minus x y)))
+
+-- THE BEST OF TWO: the best word has a 0 or a 1 at the bit
+front : (k c : ℕ) (bs : List ℕ) (i : ℕ) → ((i : ℕ) → getD bs i 0 < 2) → getD (bits-of k c ++ bs) i 0 < 2
+unfolding bits-of
+front zero c bs i h = h i
+front (suc k) c bs zero h = omega arith
+front (suc k) c bs (suc i) h = front k (c / 2) bs i h
+
+pub bit-small : (m b : ℕ) (ws : List ℕ) → bit-at m b ws < 2
+unfolding bit-at all-bits
+bit-small m b [] = omega arith
+bit-small m b (c ∷ cs) = front m c (all-bits m cs) b (λ i. bit-small m i cs)
+
+pub best-of-two : Best-of-two
+unfolding Best-of-two
+best-of-two m r b rs e g h t p q = go (at-most h g) refl (bit-at m b ws) refl (bit-small m b ws)
+  where
+    ws : List ℕ
+    ws = t .met .0
+
+    g-most : costOne g + costZero e ≤ costOne e + costZero g
+    g-most = at-most-true g e (rw (p .met .3) at (t .all (p .met .0) (p .met .1)))
+
+    h-most : costOne h + costZero e ≤ costOne e + costZero h
+    h-most = at-most-true h e (rw (q .met .3) at (t .all (q .met .0) (q .met .1)))
+
+    go : (x : Bool) → at-most h g ≡ x → (v : ℕ) → bit-at m b ws ≡ v → v < 2 → e ≡ cond x g h
+    go true k zero y z = same e g (omega (arith, g-most, at-most-true e g (rw (t .met .2) at (p .all ws (t .met .1) y))))
+    go true k (suc zero) y z = same e g (omega (arith, g-most, at-most-true h g k, at-most-true e h (rw (t .met .2) at (q .all ws (t .met .1) y))))
+    go false k zero y z = same e h (omega (arith, h-most, at-most-false h g k, at-most-true e g (rw (t .met .2) at (p .all ws (t .met .1) y))))
+    go false k (suc zero) y z = same e h (omega (arith, h-most, at-most-true e h (rw (t .met .2) at (q .all ws (t .met .1) y))))
+    go x k (suc (suc v)) y z = absurd (omega arith)
+
+-- WHAT DOCUMENT 03 ASKS: a greatest metric that is given is the one that is named
+pub soft-enough : Soft-enough
+unfolding Soft-enough Soft-right Greatest-with-one
+soft-enough m r rs so n f = (
+  n,
+  λ b g h l p q. f b l .difference
+      ∙ ap₂ _-ℤ_ (greatest-with-one m r b 0 rs (f b l .of-zero) g (f b l .greatest-zero) p) (greatest-with-one m r b 1 rs (f b l .of-one) h (f b l .greatest-one) q),
+)
+
+pub decoded-enough : Decoded-enough
+unfolding Decoded-enough Soft-enough
+decoded-enough m r rs ws best so d = record {
+  word = d .word;
+  own = d .own;
+  most = d .most;
+  softly = soft-enough m r rs so (d .count) (d .softly);
+}
+
+pub marked-enough : Marked-enough
+unfolding Marked-enough Marked Greatest-one
+marked-enough m r rs ws zero d p = record {
+  none = (λ e. p .0, λ e. (refl, p .1));
+  best = (λ e. absurd (omega arith), λ c f. clash c (p .0));
+  short = λ g c k f. clash c (p .0);
+}
+marked-enough m r rs ws (suc zero) d p =
+    let g : ℤ = p .1 .0 in
+    let most : Greatest m r rs g = p .1 .1 in
+    record {
+      none = (λ e. absurd (omega arith), λ c. clash (p .0) c);
+      best = (λ e. absurd (omega arith), λ c f. clash (rw (most .met .2) at (f (most .met .0) (most .met .1))) (p .1 .2));
+      short = λ h c k f. (refl, p .1 .3 ∙ ap (λ (x : ℤ). x -ℤ metric m rs ws) (greatest-one m r rs g h most k));
+    }
+marked-enough m r rs ws (suc (suc zero)) d p = record {
+  none = (λ e. absurd (omega arith), λ c. clash (p .0) c);
+  best = (λ e. (p .0, p .1 .all), λ c f. (refl, p .2));
+  short = λ h c k f. clash (rw (greatest-one m r rs h (metric m rs ws) k (p .1)) (at-most-refl (metric m rs ws))) f;
+}
+marked-enough m r rs ws (suc (suc (suc v))) d p = absurd p
+
+-- ONE VERDICT: what document 03 asks of the first, at what the second says
+pub marked-one : Marked-one
+unfolding Marked-one Marked-enough Marked
+marked-one m r rs ws v w d e p = go w (marked-enough m r rs ws v d p)
+  where
+    go : (w : ℕ) → Marked-right m r rs ws v d → Marked w e m r rs ws → (v ≡ w) × (d ≡ e)
+    go zero k q = let a : (v ≡ 0) × (d ≡ pos 0) = k .none .1 (q .0) in (a .0, a .1 ∙ sym (q .1))
+    go (suc zero) k q =
+        let a : (v ≡ 1) × (d ≡ q .1 .0 -ℤ metric m rs ws) = k .short (q .1 .0) (q .0) (q .1 .1) (q .1 .2) in
+        (a .0, a .1 ∙ sym (q .1 .3))
+    go (suc (suc zero)) k q = let a : (v ≡ 2) × (d ≡ pos 0) = k .best .1 (q .0) (q .1 .all) in (a .0, a .1 ∙ sym (q .2))
+    go (suc (suc (suc w))) k q = absurd q
+
+-- ONE DECODING, up to the word
+pub decoded-one : Decoded-one
+unfolding Decoded-one Soft-enough Soft-right
+decoded-one m r rs vs ws e g so to p q =
+    let s : Soft-right m r rs so = soft-enough m r rs so (p .count) (p .softly) in (
+      at-most-antisym e g (rw (sym (p .own)) at (q .most vs (p .word))) (rw (sym (q .own)) at (p .most ws (q .word))),
+      ext-getD (pos 0) so to (p .count ∙ sym (q .count)) (λ b h. each s b (rw (p .count) at h)),
+    )
+  where
+    each : Soft-right m r rs so → (b : ℕ) → b < row-long m → getD so b (pos 0) ≡ getD to b (pos 0)
+    each s b h =
+        let t : Soft m r rs b (getD to b (pos 0)) = q .softly b h in
+        s .1 b (t .of-zero) (t .of-one) h (t .greatest-zero) (t .greatest-one) ∙ sym (t .difference)
