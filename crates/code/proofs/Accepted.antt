@@ -1,16 +1,15 @@
 -- What is known of a call's input where nothing is refused, and what a call says by its refusal.
 -- Assumes nothing.
-use mathlib.Core.Path.{_≡_, refl, sym, ap, _∙_}
+use mathlib.Core.Path.{_≡_, refl, sym, ap}
 use mathlib.Core.Bool.{Bool, true, false, not, cond}
 use mathlib.Core.List.{List}
-use Prim.Native.Nat.{ℕ, zero, suc, _<_, _≤_}
+use Prim.Native.Nat.{ℕ, zero, suc, _<_}
 use native.Mathlib.Omega.{arith}
 use lib.Dec.{eqb, lit<}
 use lib.ListN.{length}
 use borrow.Author.Tests.{eqb-true, eq-eqb}
 use Rattle.field.specs.Field.{width-good}
 use Rattle.field.proofs.Refusals.{passes, passes-last}
-use Rattle.code.specs.declared.Membership.{Membership}
 use Rattle.code.specs.declared.Membership.the-variants.{Codeword, NoCodeword, Refused}
 use Rattle.code.specs.Code.{code-good, width, roots, long, message-long, symbols-good, is-codeword}
 use Rattle.code.specs.Calls.{Outcome, encode-refusal, read-refusal, check-refusal, membership}

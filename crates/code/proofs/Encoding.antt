@@ -1,19 +1,18 @@
 -- Each message has one codeword: a word that vanishes at a root x is X + x by what synthetic division leaves.
 -- Assumes nothing.
-use mathlib.Core.Path.{_≡_, refl, sym, ap, ap₂, _∙_, subst}
-use mathlib.Core.Bool.{Bool, true, false, _&&_}
+use mathlib.Core.Path.{_≡_, refl, sym, ap, ap₂, _∙_}
+use mathlib.Core.Bool.{true}
 use mathlib.Core.List.{List, [], _∷_}
 use mathlib.Core.Logic.{_⊎_, inl, inr}
-use Prim.Native.Nat.{ℕ, zero, suc, _+_, _-_, _*_, _^_, _<_, _≤_}
+use Prim.Native.Nat.{ℕ, zero, suc, _+_, _-_, _^_, _<_, _≤_}
 use native.Mathlib.Nat.{not-suc-le-zero, le-of-suc-le-suc, eq-or-lt-of-le, zero-add, suc-add, add-zero, add-suc}
 use native.Mathlib.Omega.{arith}
-use lib.Dec.{T, eqb, eqb→eq, eqb-refl}
 use lib.Pow.{pow-pos}
 use lib.ListN.{length, drop}
 use Rattle.field.specs.Field.{xor, times, alpha, width-good}
 use Rattle.code.specs.Code.{long, message-long, symbols-good, is-codeword, message}
 use Rattle.code.specs.Division.{tails, product, spread, divided, multiplied}
-use Rattle.field.proofs.Tests.{and-l, and-r, to-T, from-T}
+use Rattle.field.proofs.Tests.{to-T}
 use Rattle.field.proofs.Xor as X
 use Rattle.field.proofs.Field as F
 use Rattle.field.proofs.Field.{field, times-lt}

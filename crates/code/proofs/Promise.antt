@@ -1,8 +1,7 @@
 -- The statements of specs/Promise.antt.
 -- Assumes nothing.
 use mathlib.Core.Path.{_≡_, refl, sym, ap, _∙_}
-use mathlib.Core.Bool.{Bool, true}
-use mathlib.Core.List.{List, [], _∷_}
+use mathlib.Core.Bool.{true}
 use Prim.Native.Nat.{ℕ, zero, suc, _-_, _^_, _≤_, _<_}
 use native.Mathlib.Omega.{arith}
 use native.Mathlib.Nat.{not-suc-le-zero}
@@ -12,7 +11,7 @@ use Rattle.field.specs.Field.{width-good}
 use Rattle.field.proofs.Tests.{and-l, and-r, to-T}
 use Rattle.code.specs.Code.{code-good, width, roots, long, message-long, symbols-good, is-codeword, message}
 use Rattle.code.specs.Promise.{Codes-inside, Encodes-once, Message-good, Encoded-read, Read-encoded}
-use Rattle.code.proofs.Words.{Below, good, drop-below, Codeword-parts, codeword-parts}
+use Rattle.code.proofs.Words.{good, drop-below, Codeword-parts, codeword-parts}
 use Rattle.code.specs.Calls.{Encode-says, Read-says, encode-refusal, read-refusal}
 use Rattle.code.specs.Within.{Message-within}
 use Rattle.code.proofs.Accepted.{

@@ -1,22 +1,22 @@
 -- Words as lists of symbols, and their values: Horner's form, with which the proofs work, is tied to the sum of c_i · α^(i·t).
 -- Assumes nothing.
 use mathlib.Core.Path.{_≡_, refl, sym, ap, ap₂, _∙_}
-use mathlib.Core.Bool.{Bool, true, false, _&&_}
+use mathlib.Core.Bool.{Bool, true, _&&_}
 use mathlib.Core.List.{List, [], _∷_}
 use mathlib.Core.Logic.{_⊎_, inl, inr}
 use Prim.Native.Nat.{ℕ, zero, suc, _+_, _*_, _^_, _<_, _≤_}
-use native.Mathlib.Nat.{lt-of-lt-of-le, eq-or-lt-of-le, suc-mul, zero-mul, mul-comm, add-comm}
+use native.Mathlib.Nat.{lt-of-lt-of-le, eq-or-lt-of-le, suc-mul, zero-mul}
 use native.Mathlib.Omega.{arith}
 use lib.Dec.{T, eqb, ltb, ltb→lt, lt→ltb, eqb→eq, eqb-refl}
 use lib.Pow.{pow-pos}
 use lib.ListN.{length, drop}
-use Rattle.field.specs.Field.{xor, times, alpha, width-good, square}
+use Rattle.field.specs.Field.{xor, times, alpha, width-good}
 use Rattle.code.specs.Code.{long, symbols-good, value-from, value-at, vanishes, is-codeword}
 unfoldable pub use Rattle.code.specs.Division.{horner}
 use Rattle.field.proofs.Tests.{and-l, and-r, to-T, from-T}
 use Rattle.field.proofs.Xor as X
 use Rattle.field.proofs.Field as F
-use Rattle.field.proofs.Field.{field, times-lt}
+use Rattle.field.proofs.Field.{times-lt}
 
 -- each symbol is below n
 abbrev pub Below : ℕ → List ℕ → Type 0

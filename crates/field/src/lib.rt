@@ -175,13 +175,13 @@ pub fn multiply(m: u32, a: u8, b: u8) -> u8
     power(m, log(m, a) + log(m, b))
 }
 
-// The inverse of an element: the rest of a turn from its exponent.
+// The inverse of an element: the rest of a turn from its exponent; that of 0 is itself.
 fn invert(m: u32, a: u8) -> u8
     requires { ⌜ Inside m a ⌝ }
     ensures { λ r. ⌜ r ≡ inverse m a ⌝ }
 {
     if a == 0 {
-        return 0;
+        return a;
     }
     let turn = size(m) as u32 - 1;
     power(m, turn - log(m, a))

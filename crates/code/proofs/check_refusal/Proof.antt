@@ -1,15 +1,14 @@
 -- `code::check_refusal` meets its contract.
 -- Assumes nothing.
-use mathlib.Core.Path.{_≡_, refl, sym, ap, _∙_}
+use mathlib.Core.Path.{_≡_, refl, sym, _∙_}
 use mathlib.Core.Bool.{true}
 use lib.Dec.{eqb}
 use lib.ListN.{length}
 use borrow.Author.Tests.{not-true, not-false, eq-eqb, ne-eqb}
-use Rattle.field.specs.Field.{width-good}
-use Rattle.code.specs.Code.{code-good, width, roots, long, message-long}
-use Rattle.code.specs.Calls.{check-refusal}
-use Rattle.code.proofs.Accepted.{width-fine, roots-few}
 use borrow.Author.Needs.{needs}
+use Rattle.code.specs.Code.{code-good, width, long}
+use Rattle.code.specs.Calls.{check-refusal}
+use Rattle.code.proofs.Accepted.{width-fine}
 use Rattle.code.proofs.check_refusal.Statement.{statement}
 use Rattle.code.proofs.check_refusal.Tie as tie
 

@@ -1,9 +1,9 @@
 -- `code::check_word` meets its contract.
 -- Assumes nothing.
-use mathlib.Core.Path.{_≡_, refl, sym, ap, _∙_}
+use mathlib.Core.Path.{sym, _∙_}
+use borrow.Author.Needs.{needs}
 use Rattle.code.specs.Calls.{checked}
 use Rattle.code.proofs.Accepted.{refused, member, no-member, check-accepts}
-use borrow.Author.Needs.{needs}
 use Rattle.code.proofs.check_word.Statement.{statement}
 use Rattle.code.proofs.check_word.Tie as tie
 

@@ -1,16 +1,11 @@
 -- `code::copy` meets its contract.
 -- Assumes nothing.
-use mathlib.Core.List.{List}
-use Prim.Native.Nat.{ℕ}
-use lib.ListN.{getD, set, length-set}
-use mathlib.Core.Path.{ap}
-use Rattle.code.proofs.Loops.{copy-step, copy-done}
-use mathlib.Core.Path.{_≡_, refl, sym, _∙_}
-use mathlib.Core.List.{_++_}
-use Prim.Native.Nat.{_≤_, _-_}
-use native.Mathlib.Omega.{arith}
+use mathlib.Core.List.{List, _++_}
+use mathlib.Core.Path.{ap, _≡_, refl, _∙_}
+use Prim.Native.Nat.{ℕ, _≤_, _-_}
+use lib.ListN.{getD, set, length-set, length, take, drop}
 use borrow.Author.Needs.{needs}
-use lib.ListN.{length, take, drop}
+use Rattle.code.proofs.Loops.{copy-step, copy-done}
 use Rattle.code.proofs.copy.Statement.{statement}
 use Rattle.code.proofs.copy.Tie as tie
 

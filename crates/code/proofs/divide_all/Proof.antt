@@ -1,8 +1,6 @@
 -- `code::divide_all` meets its contract: the message divided by t of them.
 -- Assumes nothing.
-use mathlib.Core.Path.{_≡_, ap, _∙_}
-use Prim.Native.Nat.{ℕ, _-_, _+_}
-use native.Mathlib.Omega.{arith}
+use Prim.Native.Nat.{_-_}
 use borrow.Author.Needs.{needs}
 use Rattle.field.proofs.Field as F
 use Rattle.code.proofs.Roots.{Dividing, dividing-start, dividing-end, dividing-turn}

@@ -1,13 +1,12 @@
 -- `code::divide_out` meets its contract.
 -- Assumes nothing.
+use mathlib.Core.Path.{ap, _∙_}
 use Prim.Native.Nat.{_-_}
-use mathlib.Core.Path.{ap}
+use native.Mathlib.Omega.{arith}
 use lib.ListN.{getD}
+use borrow.Author.Needs.{needs}
 use Rattle.field.specs.Field.{xor}
 use Rattle.code.specs.Division.{tails, horner}
-use mathlib.Core.Path.{_≡_, refl, sym, _∙_}
-use native.Mathlib.Omega.{arith}
-use borrow.Author.Needs.{needs}
 use Rattle.code.proofs.Sweeps.{Divided, divide-start, divide-turn, divide-inside, finish}
 use Rattle.code.proofs.divide_out.Statement.{statement}
 use Rattle.code.proofs.divide_out.Tie as tie

@@ -1,9 +1,9 @@
 -- `code::encode` meets its contract.
 -- Assumes nothing.
-use mathlib.Core.Path.{_≡_, refl, sym, ap, _∙_}
+use mathlib.Core.Path.{refl, sym, _∙_}
+use borrow.Author.Needs.{needs}
 use Rattle.code.specs.Calls.{Encode-says}
 use Rattle.code.proofs.Accepted.{outcome-refused, outcome-done, encode-accepts}
-use borrow.Author.Needs.{needs}
 use Rattle.code.proofs.encode.Statement.{statement}
 use Rattle.code.proofs.encode.Tie as tie
 

@@ -2,8 +2,8 @@
 -- Assumes nothing.
 use mathlib.Core.Path.{ap}
 use Prim.Native.Nat.{ℕ, _-_}
-use Rattle.code.specs.Code.{message-long}
 use borrow.Author.Needs.{needs}
+use Rattle.code.specs.Code.{message-long}
 use Rattle.code.proofs.message_long_of.Statement.{statement}
 use Rattle.code.proofs.message_long_of.Tie as tie
 

@@ -1,20 +1,17 @@
 -- `code::multiply_at` meets its contract.
 -- Assumes nothing.
-use mathlib.Core.Path.{ap₂}
+use mathlib.Core.Path.{ap₂, ap, _∙_}
 use mathlib.Core.Bool.{Bool, _&&_}
-use Prim.Native.Nat.{_-_, _^_}
-use lib.ListN.{length, set}
+use mathlib.Core.List.{List, _++_}
+use Prim.Native.Nat.{_-_, _^_, ℕ}
+use lib.ListN.{length, set, take, length-set}
 use lib.Pow.{pow-pos}
 use borrow.Author.Tests.{lt-ltb}
 use borrow.Rule.Slice.PartMut.{same-len-mid}
-use mathlib.Core.Path.{_≡_, refl, sym, ap, _∙_}
-use mathlib.Core.List.{List, _++_}
-use Prim.Native.Nat.{ℕ}
-use lib.ListN.{take, length-set}
+use borrow.Author.Needs.{needs}
 use Rattle.code.specs.Code.{symbols-good}
 use Rattle.code.specs.Division.{spread}
 use Rattle.code.proofs.Parts.{cleared, put-cleared}
-use borrow.Author.Needs.{needs}
 use Rattle.code.proofs.multiply_at.Statement.{statement}
 use Rattle.code.proofs.multiply_at.Tie as tie
 

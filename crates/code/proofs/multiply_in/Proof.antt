@@ -1,13 +1,12 @@
 -- `code::multiply_in` meets its contract.
 -- Assumes nothing.
+use mathlib.Core.Path.{ap, refl, _∙_}
 use Prim.Native.Nat.{_-_}
-use mathlib.Core.Path.{ap}
+use native.Mathlib.Omega.{arith}
 use lib.ListN.{getD}
+use borrow.Author.Needs.{needs}
 use Rattle.field.specs.Field.{xor}
 use Rattle.code.specs.Division.{spread}
-use mathlib.Core.Path.{_≡_, refl, sym, _∙_}
-use native.Mathlib.Omega.{arith}
-use borrow.Author.Needs.{needs}
 use Rattle.code.proofs.Sweeps.{Spread, spread-start, spread-turn, spread-inside, finish, first}
 use Rattle.code.proofs.multiply_in.Statement.{statement}
 use Rattle.code.proofs.multiply_in.Tie as tie

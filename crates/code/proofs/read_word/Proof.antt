@@ -1,14 +1,14 @@
 -- `code::read_word` meets its contract.
 -- Assumes nothing.
+use mathlib.Core.Path.{_≡_, refl, sym, ap, _∙_}
 use Prim.Native.Nat.{ℕ, _-_, _≤_}
 use native.Mathlib.Omega.{arith}
 use lib.ListN.{length, drop}
-use Rattle.code.specs.Code.{long, message-long, message, width, roots}
-use Rattle.code.proofs.Parts.{tail-is, tail-long}
-use mathlib.Core.Path.{_≡_, refl, sym, ap, _∙_}
-use Rattle.code.specs.Calls.{Read-says}
-use Rattle.code.proofs.Accepted.{outcome-refused, outcome-done, roots-few, Readable, read-accepts}
 use borrow.Author.Needs.{needs}
+use Rattle.code.specs.Code.{message-long, message}
+use Rattle.code.specs.Calls.{Read-says}
+use Rattle.code.proofs.Parts.{tail-is, tail-long}
+use Rattle.code.proofs.Accepted.{outcome-refused, outcome-done, roots-few, Readable, read-accepts}
 use Rattle.code.proofs.read_word.Statement.{statement}
 use Rattle.code.proofs.read_word.Tie as tie
 

@@ -1,7 +1,7 @@
 -- `code::write_codeword` meets its contract.
 -- Assumes nothing.
-use Rattle.code.proofs.Roots.{quotient-fits, quotient-ready, codeword-written}
 use borrow.Author.Needs.{needs}
+use Rattle.code.proofs.Roots.{quotient-fits, quotient-ready, codeword-written}
 use Rattle.code.proofs.write_codeword.Statement.{statement}
 use Rattle.code.proofs.write_codeword.Tie as tie
 

@@ -1,9 +1,9 @@
 -- `code::write_quotient` meets its contract.
 -- Assumes nothing.
-use mathlib.Core.Path.{_≡_, ap, _∙_}
+use mathlib.Core.Path.{ap, _∙_}
+use borrow.Author.Needs.{needs}
 use Rattle.code.specs.Code.{symbols-good}
 use Rattle.code.specs.Division.{divided}
-use borrow.Author.Needs.{needs}
 use Rattle.code.proofs.write_quotient.Statement.{statement}
 use Rattle.code.proofs.write_quotient.Tie as tie
 

@@ -1,9 +1,9 @@
 -- `field::invert` meets its contract: the rest of a turn away from its exponent.
 -- Assumes nothing.
-use mathlib.Core.Path.{_≡_, sym, ap, _∙_}
+use mathlib.Core.Path.{sym, _∙_}
+use borrow.Author.Needs.{needs}
 use Rattle.field.proofs.Field as F
 use Rattle.field.proofs.Tables.{inverse-log}
-use borrow.Author.Needs.{needs}
 use Rattle.field.proofs.invert.Statement.{statement}
 use Rattle.field.proofs.invert.Tie as tie
 

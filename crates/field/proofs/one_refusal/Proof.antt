@@ -2,10 +2,10 @@
 -- Assumes nothing.
 use mathlib.Core.Path.{_≡_, refl, sym, _∙_}
 use mathlib.Core.Bool.{true}
-use Rattle.field.specs.Field.{width-good}
-use Rattle.field.specs.Answers.{one-refusal}
 use borrow.Author.Tests.{not-true, not-false, lt-ltb, le-ltb}
 use borrow.Author.Needs.{needs}
+use Rattle.field.specs.Field.{width-good}
+use Rattle.field.specs.Answers.{one-refusal}
 use Rattle.field.proofs.one_refusal.Statement.{statement}
 use Rattle.field.proofs.one_refusal.Tie as tie
 

@@ -3,10 +3,10 @@
 use mathlib.Core.Path.{_≡_, refl, sym, ap₂, _∙_}
 use mathlib.Core.Bool.{Bool, true, _&&_}
 use lib.Dec.{eqb}
-use Rattle.field.specs.Field.{width-good}
-use Rattle.field.specs.Answers.{two-refusal}
 use borrow.Author.Tests.{not-true, not-false, lt-ltb, le-ltb, eq-eqb, ne-eqb}
 use borrow.Author.Needs.{needs}
+use Rattle.field.specs.Field.{width-good}
+use Rattle.field.specs.Answers.{two-refusal}
 use Rattle.field.proofs.two_refusal.Statement.{statement}
 use Rattle.field.proofs.two_refusal.Tie as tie
 

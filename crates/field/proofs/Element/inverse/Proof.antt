@@ -1,9 +1,9 @@
 -- `field::inverse` meets its contract.
 -- Assumes nothing.
-use mathlib.Core.Path.{refl, sym, _∙_}
+use mathlib.Core.Path.{sym, _∙_}
+use borrow.Author.Needs.{needs}
 use Rattle.field.specs.Answers.{inverse-of}
 use Rattle.field.proofs.Refusals.{refused, found, one-good}
-use borrow.Author.Needs.{needs}
 use Rattle.field.proofs.Element.inverse.Statement.{statement}
 use Rattle.field.proofs.Element.inverse.Tie as tie
 

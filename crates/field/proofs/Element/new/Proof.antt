@@ -1,9 +1,9 @@
 -- `field::new` meets its contract.
 -- Assumes nothing.
-use mathlib.Core.Path.{refl, sym, _∙_}
+use mathlib.Core.Path.{refl}
+use borrow.Author.Needs.{needs}
 use Rattle.field.specs.Answers.{made}
 use Rattle.field.proofs.Refusals.{refused, found}
-use borrow.Author.Needs.{needs}
 use Rattle.field.proofs.Element.new.Statement.{statement}
 use Rattle.field.proofs.Element.new.Tie as tie
 

@@ -1,9 +1,9 @@
 -- `field::product` meets its contract.
 -- Assumes nothing.
-use mathlib.Core.Path.{refl, sym, _∙_}
+use mathlib.Core.Path.{sym, _∙_}
+use borrow.Author.Needs.{needs}
 use Rattle.field.specs.Answers.{product-of}
 use Rattle.field.proofs.Refusals.{refused, found, two-good}
-use borrow.Author.Needs.{needs}
 use Rattle.field.proofs.Element.product.Statement.{statement}
 use Rattle.field.proofs.Element.product.Tie as tie
 

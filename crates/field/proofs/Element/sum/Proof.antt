@@ -1,9 +1,8 @@
 -- `field::sum` meets its contract.
 -- Assumes nothing.
-use mathlib.Core.Path.{refl, sym, _∙_}
+use borrow.Author.Needs.{needs}
 use Rattle.field.specs.Answers.{sum-of}
 use Rattle.field.proofs.Refusals.{refused, found}
-use borrow.Author.Needs.{needs}
 use Rattle.field.proofs.Element.sum.Statement.{statement}
 use Rattle.field.proofs.Element.sum.Tie as tie
 

@@ -12,39 +12,30 @@ Inv-loop m listed t₀ i₀ t i = i ≤ length listed
 abbrev μ-loop : tie.MeasureT-loop
 μ-loop m listed t₀ i₀ t i = length listed - i
 
--- src/fields.rt:35:9
 none-requires : tie.Need-none-requires Inv-loop μ-loop
 none-requires c κs = search needs
 
--- src/fields.rt:37:5
 loop-holds : tie.Need-loop-holds Inv-loop μ-loop
 loop-holds c = search needs
 
--- src/fields.rt:38:50
 shared-slice-read-t8 : tie.Need-shared-slice-read-t8 Inv-loop μ-loop
 shared-slice-read-t8 c = search needs
 
--- src/fields.rt:38:20
 is-undone-requires : tie.Need-is-undone-requires Inv-loop μ-loop
 is-undone-requires c κs = search needs
 
--- src/fields.rt:38:9
 with-requires : tie.Need-with-requires Inv-loop μ-loop
 with-requires c κs = search needs
 
--- src/fields.rt:39:9
 add-i : tie.Need-add-i Inv-loop μ-loop
 add-i c = search needs
 
--- src/fields.rt:37:5
 loop-less : tie.Need-loop-less Inv-loop μ-loop
 loop-less c = search needs
 
--- src/fields.rt:37:5
 loop-again : tie.Need-loop-again Inv-loop μ-loop
 loop-again c = search needs
 
--- src/fields.rt:34:1
 returns : tie.Need-returns Inv-loop μ-loop
 returns c = search needs
 
