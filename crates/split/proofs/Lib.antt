@@ -6,3 +6,4 @@ pub mod Refusals
 pub mod Syndromes
 pub mod Steps
 pub mod Whole
+pub mod Worked

@@ -15,31 +15,37 @@ use Rattle.field.proofs.Tests.{widths}
 use lib.Dec.{lit≤}
 use Rattle.code.specs.Bits.{bits-of, row-long}
 use Rattle.code.specs.Promise.{Codes-inside}
-use Rattle.split.specs.Split.{layer, syndrome, syndromes, cosets, padded, Leader, sum}
+use Rattle.split.specs.Split.{layer, syndrome, syndromes, cosets, padded, Binary, Leader, sum}
 use Rattle.split.specs.Within.{Coset}
 use Rattle.split.specs.Calls.{remainders, Split-right}
-use Rattle.split.specs.Promise.{Syndrome-inside}
+use Rattle.split.specs.Promise.{Syndrome-inside, Sum-is-bch, Parts-are-bch}
 use Rattle.code.proofs.Promise.{codes-inside}
 use Rattle.split.proofs.Layers as L
-use Rattle.split.proofs.Cosets.{syndrome-inside}
+use Rattle.split.proofs.Cosets.{syndrome-inside, sum-is-bch}
 use Rattle.split.proofs.Leaders.{the-leader, the-leader-leads, the-only-leader}
 use Rattle.split.proofs.Syndromes.{place-at, places}
 
 -- pieces of the same length
-module _ (ls : ℕ → List ℕ) (ws : List ℕ) (each : (j : ℕ) → length (sum (layer j ws) (ls j)) ≡ length ws) where
-  from-length : (k i : ℕ) → length (remainders k i ls ws) ≡ k * length ws
+module _ (m : ℕ) (ls : ℕ → List ℕ) (ws : List ℕ) (each : (j : ℕ) → j < m → length (sum (layer j ws) (ls j)) ≡ length ws) where
+  from-length : (k i : ℕ) → i + k ≤ m → length (remainders k i ls ws) ≡ k * length ws
   unfolding remainders
-  from-length zero i = sym (zero-mul (length ws))
-  from-length (suc k) i = rw (length-append, each i, from-length k (suc i), suc-mul) (omega arith)
+  from-length zero i h = sym (zero-mul (length ws))
+  from-length (suc k) i h = rw (length-append, each i (omega arith), from-length k (suc i) (omega arith), suc-mul) (omega arith)
 
-  piece-from : (k i j : ℕ) → j < k → take (length ws) (drop (j * length ws) (remainders k i ls ws)) ≡ sum (layer (i + j) ws) (ls (i + j))
+  piece-from : (k i j : ℕ) → i + k ≤ m → j < k → take (length ws) (drop (j * length ws) (remainders k i ls ws)) ≡ sum (layer (i + j) ws) (ls (i + j))
   unfolding remainders
-  piece-from zero i j h = absurd (not-suc-le-zero h)
-  piece-from (suc k) i zero h = rw (zero-mul, add-zero) (take-at (sum (layer i ws) (ls i)) (remainders k (suc i) ls ws) (length ws) (each i))
-  piece-from (suc k) i (suc j) h =
+  piece-from zero i j o h = absurd (not-suc-le-zero h)
+  piece-from (suc k) i zero o h = rw (zero-mul, add-zero) (take-at (sum (layer i ws) (ls i)) (remainders k (suc i) ls ws) (length ws) (each i (omega arith)))
+  piece-from (suc k) i (suc j) o h =
       let p : List ℕ = sum (layer i ws) (ls i) in
-      let e : suc j * length ws ≡ length p + j * length ws = omega (arith, suc-mul j (length ws), each i) in
-      rw (e, drop-append-add p (remainders k (suc i) ls ws) (j * length ws), add-suc, ← suc-add) (piece-from k (suc i) j (le-of-suc-le-suc h))
+      let e : suc j * length ws ≡ length p + j * length ws = omega (arith, suc-mul j (length ws), each i (omega arith)) in
+      rw (e, drop-append-add p (remainders k (suc i) ls ws) (j * length ws), add-suc, ← suc-add) (piece-from k (suc i) j (omega arith) (le-of-suc-le-suc h))
+
+  all-length : length (remainders m 0 ls ws) ≡ m * length ws
+  all-length = from-length m 0 (omega arith)
+
+  piece-at : (j : ℕ) → j < m → take (length ws) (drop (j * length ws) (remainders m 0 ls ws)) ≡ sum (layer j ws) (ls j)
+  piece-at j h = piece-from m 0 j (omega arith) h ∙ ap (λ (i : ℕ). sum (layer i ws) (ls i)) (zero-add j)
 
 -- a part of a list is written over: what was copied so far grows by it
 pub one-part : (to d p : List ℕ) (a n : ℕ) → a ≤ length to → take n (drop a to) ≡ p →
@@ -89,14 +95,14 @@ module _ (c : ℕ) (ws tuple : List ℕ) (g : code-good c ≡ true) (n : length 
   unfolding leads
   leads-right j = the-leader-leads c (syndrome (width c) (roots c) (layer j ws)) g (inside j)
 
-  each : (j : ℕ) → length (sum (layer j ws) (leads c ws j)) ≡ length ws
-  each j =
+  each : (j : ℕ) → j < width c → length (sum (layer j ws) (leads c ws j)) ≡ length ws
+  each j h =
       let k : length (leads c ws j) ≡ length ws = leads-right j .binary .count ∙ sym n in
       L.sum-length (layer j ws) (leads c ws j) (L.layer-length j ws ∙ sym k) ∙ k
 
   pub whole-length : length (whole c ws) ≡ width c * length ws
   unfolding whole
-  whole-length = from-length (leads c ws) ws each (width c) 0
+  whole-length = all-length (width c) (leads c ws) ws each
 
   -- THE PIECE OF LAYER j is the layer with the leader that the program finds
   pub piece : (j l : ℕ) → j < width c → Leader (width c) (roots c) (getD tuple j 0) (bits-of (long (width c)) l) →
@@ -105,7 +111,7 @@ module _ (c : ℕ) (ws tuple : List ℕ) (g : code-good c ≡ true) (n : length 
   piece j l h p =
       let e : bits-of (length ws) l ≡ the-leader c (syndrome (width c) (roots c) (layer j ws)) =
       ap (λ (k : ℕ). bits-of k l) n ∙ the-only-leader c (getD tuple j 0) (bits-of (long (width c)) l) g p ∙ ap (the-leader c) (its-place j h) in
-      piece-from (leads c ws) ws each (width c) 0 j h ∙ ap (λ (i : ℕ). sum (layer i ws) (leads c ws i)) (zero-add j) ∙ ap (sum (layer j ws)) (sym e)
+      piece-at (width c) (leads c ws) ws each j h ∙ ap (sum (layer j ws)) (sym e)
 
   pub whole-right : (out : List ℕ) → out ≡ whole c ws → Split-right (width c) (roots c) ws tuple out
   unfolding whole
@@ -129,3 +135,29 @@ all-written k c n m j at e f h g = rw (e, ← f, g) (mul-le-mul-right n h)
 pub row-small : (m : ℕ) → width-good m ≡ true → row-long m ≤ 60
 unfolding row-long long
 row-small = widths (λ (m : ℕ). row-long m ≤ 60) (lit≤ tt) (lit≤ tt)
+
+-- each part is a layer plus a leader
+module _ (m r : ℕ) (ws tuple out : List ℕ) (n : length ws ≡ long m) (p : Split-right m r ws tuple out) where
+  part-length : (j : ℕ) → j < m → length (sum (layer j ws) (p .leaders j)) ≡ length ws
+  part-length j h =
+      let k : length (p .leaders j) ≡ length ws = p .lead j h .binary .count ∙ sym n in
+      L.sum-length (layer j ws) (p .leaders j) (L.layer-length j ws ∙ sym k) ∙ k
+
+  part : (j : ℕ) → j < m → take (long m) (drop (j * long m) out) ≡ sum (layer j ws) (p .leaders j)
+  part j h = rw (← n, p .left) (piece-at m (p .leaders) ws part-length j h)
+
+  part-binary : (j : ℕ) → j < m → Binary m (sum (layer j ws) (p .leaders j))
+  part-binary j h = record {
+    count = part-length j h ∙ n;
+    bits = L.all-of 2 (sum (layer j ws) (p .leaders j)) (L.sum-below (layer j ws) (p .leaders j) (L.layer-below j ws) (L.bits m (p .leaders j) (p .lead j h .binary)));
+  }
+
+pub parts-are-bch : Parts-are-bch
+unfolding Parts-are-bch Sum-is-bch row-long
+parts-are-bch m r ws tuple out w n p = (
+  ap length (p .left) ∙ all-length m (p .leaders) ws (part-length m r ws tuple out n p) ∙ ap (λ (k : ℕ). m * k) n ∙ mul-comm m (long m),
+  (λ j h. (
+    rw (part m r ws tuple out n p j h) (part-binary m r ws tuple out n p j h),
+    rw (part m r ws tuple out n p j h) (sum-is-bch m r (layer j ws) (p .leaders j) w (L.layer-binary m j ws n) (p .lead j h .binary) (p .lead j h .of-coset)),
+  )),
+)
