@@ -11,7 +11,8 @@ use lib.ListN.{length, getD, length-append, List·getD-append}
 use lib.Seq.{getD-append-add}
 use Rattle.code.specs.Code.{code-good}
 use Rattle.code.proofs.Promise.{codes}
-use Rattle.configurations.specs.Configurations.{configuration, configurations, of-code-1, of-code-2, of-code-3, padded, listed-from, listed}
+use Rattle.configurations.specs.Configurations.{configuration, configurations, of-code-1, of-code-2, of-code-3, listed-from, listed}
+use Rattle.split.specs.Split.{padded}
 
 pub four-places : (c k : ℕ) → length (padded (configuration c k)) ≡ 4
 unfolding configuration

@@ -5,10 +5,10 @@ use mathlib.Core.Bool.{true, cond}
 use mathlib.Core.List.{List, [], _∷_, _++_}
 use Prim.Native.Nat.{ℕ, zero, suc, _+_, _*_, _-_, _/_, _%_, _^_, _<_}
 use lib.Dec.{eqb}
-use lib.ListN.{length, replicate}
+use lib.ListN.{length}
 use Rattle.field.specs.Field.{xor, times, alpha}
 use Rattle.code.specs.Code.{width, roots}
-use Rattle.split.specs.Split.{cosets, valid, all-below}
+use Rattle.split.specs.Split.{cosets, valid, all-below, padded}
 
 -- a tuple of m syndromes that is valid
 pub record Configuration (m r : ℕ) (ss : List ℕ) : Type 0 where
@@ -40,10 +40,6 @@ of-code-3 k =
 
 unfoldable pub configuration : (code k : ℕ) → List ℕ
 configuration c k = cond (eqb c 1) (of-code-1 k) (cond (eqb c 2) (of-code-2 k) (of-code-3 k))
-
--- with m = 3 any fourth place is 0
-unfoldable pub padded : (configuration : List ℕ) → List ℕ
-padded ss = ss ++ replicate (4 - length ss) 0
 
 -- all of a code, end to end, four places each
 unfoldable pub listed-from : (left k : ℕ) → (code : ℕ) → List ℕ

@@ -2,7 +2,8 @@
 ghost use mathlib.Core.Path.{_≡_};
 ghost use Prim.Native.Nat.{_<_};
 ghost use Rattle.field.specs.Field.{times, alpha};
-ghost use Rattle.configurations.specs.Configurations.{configurations, configuration, of-code-1, of-code-2, of-code-3, padded, listed};
+ghost use Rattle.configurations.specs.Configurations.{configurations, configuration, of-code-1, of-code-2, of-code-3, listed};
+ghost use Rattle.split.specs.Split.{padded};
 ghost use Rattle.configurations.specs.Within.{Numbered};
 
 // The valid configurations of code 3, four places each, ascending with the first place as the leading digit.

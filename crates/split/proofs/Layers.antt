@@ -4,16 +4,16 @@ use mathlib.Core.Path.{_≡_, refl, sym, ap, ap₂, _∙_, fun-ext}
 use mathlib.Core.Bool.{Bool, true, _&&_}
 use mathlib.Core.List.{List, [], _∷_}
 use Prim.Native.Nat.{ℕ, zero, suc, _+_, _*_, _/_, _%_, _^_, _<_, _≤_}
-use native.Mathlib.Nat.{mod-lt, zero-lt-suc}
+use native.Mathlib.Nat.{mod-lt, zero-lt-suc, not-suc-le-zero, le-of-suc-le-suc}
 use native.Mathlib.Omega.{arith}
-use lib.Dec.{T, ltb, ltb→lt, lt→ltb}
+use lib.Dec.{T, lit≤, ltb, ltb→lt, lt→ltb}
 use lib.Pow.{pow-pos}
-use lib.ListN.{length}
+use lib.ListN.{length, getD}
 use Rattle.field.specs.Field.{xor, times, alpha, width-good, square}
 use Rattle.code.specs.Code.{long, value-at}
 use Rattle.split.specs.Split.{layer, all-below, Binary}
 use Rattle.split.specs.Split as S
-use Rattle.field.proofs.Tests.{and-l, and-r, to-T, from-T}
+use Rattle.field.proofs.Tests.{widths, and-l, and-r, to-T, from-T}
 use Rattle.field.proofs.Xor as X
 use Rattle.field.proofs.Field as F
 use Rattle.field.proofs.Field.{sum, field, times-lt}
@@ -43,6 +43,12 @@ unfolding layer
 layer-length j [] = refl
 layer-length j (c ∷ cs) = ap suc (layer-length j cs)
 
+pub layer-at : (j : ℕ) (ws : List ℕ) (i : ℕ) → i < length ws → getD (layer j ws) i 0 ≡ getD ws i 0 / 2 ^ j % 2
+unfolding layer
+layer-at j [] i h = absurd (not-suc-le-zero h)
+layer-at j (c ∷ cs) zero h = refl
+layer-at j (c ∷ cs) (suc i) h = layer-at j cs i (le-of-suc-le-suc h)
+
 pub layer-binary : (m j : ℕ) (ws : List ℕ) → length ws ≡ long m → Binary m (layer j ws)
 layer-binary m j ws n = record { count = layer-length j ws ∙ n; bits = all-of 2 (layer j ws) (layer-below j ws) }
 
@@ -57,6 +63,9 @@ unfolding S.sum
 sum-below [] ds b e = tt
 sum-below (b ∷ bs) [] p q = tt
 sum-below (b ∷ bs) (d ∷ ds) p q = (X.below 1 b d (p .0) (q .0), sum-below bs ds (p .1) (q .1))
+
+pub width-small : (m : ℕ) → width-good m ≡ true → m ≤ 4
+width-small = widths (λ (m : ℕ). m ≤ 4) (lit≤ tt) (lit≤ tt)
 
 -- sums over layers
 sum-add : (k j : ℕ) (f g : ℕ → ℕ) → xor (sum k j f) (sum k j g) ≡ sum k j (λ i. xor (f i) (g i))

@@ -144,16 +144,25 @@ all-perfect : (c : ℕ) → code-good c ≡ true → T (perfect (width c) (roots
 unfolding width roots long cosets number syndrome value-from value-at xor times times-from doubled alpha weight mask bits-of words heaviest
 all-perfect = codes (λ c. T (perfect (width c) (roots c) (heaviest c) (table c))) tt tt tt
 
+-- THE leader of a coset
+unfoldable pub the-leader : (c s : ℕ) → List ℕ
+the-leader c s = led (width c) (table c) s
+
+pub the-leader-leads : (c s : ℕ) → code-good c ≡ true → s < cosets (width c) (roots c) → Leader (width c) (roots c) s (the-leader c s)
+unfolding the-leader
+the-leader-leads c s g h = leader-at (width c) (roots c) (heaviest c) (table c) (all-perfect c g) s h
+
+pub the-only-leader : (c s : ℕ) (bs : List ℕ) → code-good c ≡ true → Leader (width c) (roots c) s bs → bs ≡ the-leader c s
+unfolding the-leader Codes-inside
+the-only-leader c s bs g = only-leader (width c) (roots c) (heaviest c) (table c) (all-perfect c g) (codes-inside c g .0) s bs
+
 pub leader-there : Leader-there
 unfolding Leader-there
-leader-there c s g h = (led (width c) (table c) s, leader-at (width c) (roots c) (heaviest c) (table c) (all-perfect c g) s h)
+leader-there c s g h = (the-leader c s, the-leader-leads c s g h)
 
 pub one-leader : One-leader
-unfolding One-leader Codes-inside
-one-leader c s bs ds g p q =
-    let only : (ds : List ℕ) → Leader (width c) (roots c) s ds → ds ≡ led (width c) (table c) s =
-    only-leader (width c) (roots c) (heaviest c) (table c) (all-perfect c g) (codes-inside c g .0) s in
-    only bs p ∙ sym (only ds q)
+unfolding One-leader
+one-leader c s bs ds g p q = the-only-leader c s bs g p ∙ sym (the-only-leader c s ds g q)
 
 -- for the function that looks a leader up
 pub look-up : (c d : ℕ) → code-good c ≡ true → c ≡ d → (s : ℕ) → s < cosets (width c) (roots c) → Leader (width c) (roots c) s (led (width c) (table d) s)

@@ -1,3 +1,4 @@
 pub mod Split
 pub mod Within
+pub mod Calls
 pub mod Promise

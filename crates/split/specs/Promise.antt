@@ -3,11 +3,13 @@
 use mathlib.Core.Path.{_≡_}
 use mathlib.Core.Bool.{true}
 use mathlib.Core.List.{List}
-use Prim.Native.Nat.{ℕ, _≤_, _<_}
-use lib.ListN.{length}
+use Prim.Native.Nat.{ℕ, _*_, _≤_, _<_}
+use lib.ListN.{length, take, drop}
 use Rattle.field.specs.Field.{width-good}
 use Rattle.code.specs.Code.{code-good, width, roots, long, symbols-good, is-codeword}
+use Rattle.code.specs.Bits.{row-long}
 use Rattle.split.specs.Split.{layer, syndrome, syndromes, cosets, valid, Binary, Leader, sum}
+use Rattle.split.specs.Calls.{Split-right}
 
 -- (Glue) a word is a codeword exactly when its layers' syndromes are a valid configuration
 unfoldable pub Glued-right : Type 0
@@ -31,3 +33,10 @@ One-leader =
 unfoldable pub Sum-is-bch : Type 0
 Sum-is-bch =
     (m r : ℕ) (bs ds : List ℕ) → width-good m ≡ true → Binary m bs → Binary m ds → syndrome m r ds ≡ syndrome m r bs → syndrome m r (sum bs ds) ≡ 0
+
+-- (Whole) where a split is right, the output is n·m long and each of its layers is a BCH word: binary, with syndrome 0
+unfoldable pub Parts-are-bch : Type 0
+Parts-are-bch =
+    (m r : ℕ) (ws configuration output : List ℕ) → width-good m ≡ true → length ws ≡ long m → Split-right m r ws configuration output →
+    (length output ≡ row-long m)
+    × ((j : ℕ) → j < m → Binary m (take (long m) (drop (j * long m) output)) × (syndrome m r (take (long m) (drop (j * long m) output)) ≡ 0))

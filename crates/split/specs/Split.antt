@@ -3,10 +3,10 @@
 -- Assumes nothing: these are definitions.
 use mathlib.Core.Path.{_≡_}
 use mathlib.Core.Bool.{Bool, true, _&&_, cond}
-use mathlib.Core.List.{List, [], _∷_}
-use Prim.Native.Nat.{ℕ, zero, suc, _+_, _*_, _/_, _%_, _^_, _≤_}
+use mathlib.Core.List.{List, [], _∷_, _++_}
+use Prim.Native.Nat.{ℕ, zero, suc, _+_, _*_, _-_, _/_, _%_, _^_, _≤_}
 use lib.Dec.{leb, ltb, eqb}
-use lib.ListN.{length}
+use lib.ListN.{length, replicate}
 use Rattle.field.specs.Field.{xor, times, alpha, square}
 use Rattle.code.specs.Code.{long, value-at}
 
@@ -40,6 +40,10 @@ syndromes-from (suc k) j m r ws = syndrome m r (layer j ws) ∷ syndromes-from k
 
 unfoldable pub syndromes : (m r : ℕ) → (word : List ℕ) → List ℕ
 syndromes m r ws = syndromes-from m 0 m r ws
+
+-- with m = 3 any fourth place is 0
+unfoldable pub padded : (tuple : List ℕ) → List ℕ
+padded ss = ss ++ replicate (4 - length ss) 0
 
 -- a layer's value at α^t from its syndrome: at α^2 and α^4 the square and the fourth power of that at α; at α^6 the square
 -- of that at α^3; at α^5, for m = 3, the fourth power of that at α^3, since α^12 = α^5

@@ -1,11 +1,20 @@
-// Splitting a codeword into binary layers: configuration, coset leaders and BCH words.
+// Splitting a codeword into its binary layers.
 ghost use mathlib.Core.Path.{_≡_};
 ghost use mathlib.Core.Bool.{true};
-ghost use Prim.Native.Nat.{_<_};
-ghost use Rattle.code.specs.Code.{code-good, width, roots, long};
+ghost use Prim.Native.Nat.{_/_, _%_, _^_, _≤_, _<_};
+ghost use lib.ListN.{length};
+ghost use Rattle.field.specs.Field.{width-good};
+ghost use Rattle.code.specs.Code.{width, roots, long, value-at};
 ghost use Rattle.code.specs.Bits.{bits-of};
-ghost use Rattle.split.specs.Split.{Leader};
-ghost use Rattle.split.specs.Within.{Coset};
+ghost use Rattle.split.specs.Split.{layer, syndrome, syndromes, padded, Leader, sum};
+ghost use Rattle.split.specs.Within.{Coset, Layer-of, Layers-of, Layered};
+ghost use Rattle.split.specs.Calls.{split-refusal, Split-right, Split-says};
+
+// The number of a refusal, or 0 with the configuration of the word.
+pub struct Splitting {
+    pub number: u32,
+    pub configuration: [u16; 4],
+}
 
 // The leaders of each code by syndrome: bit i is the bit at position i.
 const LEADERS_1: [u16; 8] = [0, 1, 2, 8, 4, 64, 16, 32];
@@ -109,4 +118,144 @@ pub fn leader(code: u32, s: u16) -> u16
         return LEADERS_2[i];
     }
     LEADERS_3[i]
+}
+
+// The bit of a symbol in layer j.
+fn bit(c: u8, j: u32) -> u8
+    requires { ⌜ j < 4 ⌝ }
+    ensures { λ r. ⌜ r ≡ c / 2 ^ j % 2 ⌝ }
+{
+    (c >> j) % 2
+}
+
+// The value at α^t of layer j of a word.
+fn layer_value(m: u32, t: u32, j: u32, word: &[u8]) -> u8
+    requires { ⌜ (t < 4) × Layer-of m j (now word) ⌝ }
+    ensures { λ x. ⌜ x ≡ value-at m t (layer j (now (word .entry))) ⌝ }
+{
+    let mut sum: u8 = 0;
+    let mut e: u32 = 0;
+    let mut i: usize = 0;
+    while i < word.len() {
+        sum = field::add(sum, field::multiply(m, bit(word[i], j), field::power(m, e)));
+        e += t;
+        i += 1;
+    }
+    sum
+}
+
+fn wide(x: u8) -> u16
+    ensures { λ r. ⌜ r ≡ x ⌝ }
+{
+    x as u16
+}
+
+// The number of elements of a field: 2^m.
+fn size(m: u32) -> u16
+    requires { ⌜ width-good m ≡ true ⌝ }
+    ensures { λ r. ⌜ r ≡ 2 ^ m ⌝ }
+{
+    if m == 3 { 8 } else { 16 }
+}
+
+// The syndrome of layer j of a word.
+fn syndrome_of(m: u32, r: u32, j: u32, word: &[u8]) -> u16
+    requires { ⌜ (r ≤ 4) × Layer-of m j (now word) ⌝ }
+    ensures { λ x. ⌜ x ≡ syndrome m r (layer j (now (word .entry))) ⌝ }
+{
+    let first = wide(layer_value(m, 1, j, word));
+    if r < 3 {
+        return first;
+    }
+    first + size(m) * wide(layer_value(m, 3, j, word))
+}
+
+// The configuration of a word: the syndromes of its layers; with m = 3 the fourth place is 0.
+pub fn syndromes_of(m: u32, r: u32, word: &[u8]) -> [u16; 4]
+    requires { ⌜ Layers-of m r (now word) ⌝ }
+    ensures { λ x. ⌜ x ≡ padded (syndromes m r (now (word .entry))) ⌝ }
+{
+    let mut to = [0u16; 4];
+    let mut j: u32 = 0;
+    while j < m {
+        to[j as usize] = syndrome_of(m, r, j, word);
+        j += 1;
+    }
+    to
+}
+
+// What is left of layer j when a leader is added.
+fn write_layer(j: u32, leader: u16, word: &[u8], out: &mut [u8])
+    requires { ⌜ (j < 4) × (length (now out) ≡ length (now word)) ⌝ }
+    ensures { λ u. ⌜ now (out .exit) ≡ sum (layer j (now (word .entry))) (bits-of (length (now (word .entry))) leader) ⌝ }
+{
+    let mut rest = leader;
+    let mut i: usize = 0;
+    while i < word.len() {
+        out[i] = field::add(bit(word[i], j), (rest % 2) as u8);
+        rest = rest / 2;
+        i += 1;
+    }
+}
+
+// What is left of each layer when its leader is added, layer 1 first.
+fn write_layers(code: u32, word: &[u8], tuple: [u16; 4], bch: &mut [u8])
+    requires { ⌜ Layered code (now word) tuple (now bch) ⌝ }
+    ensures { λ u. ⌜ Split-right (width code) (roots code) (now (word .entry)) tuple (now (bch .exit)) ⌝ }
+{
+    let m = code::width_of(code);
+    let n = word.len();
+    let mut at: usize = 0;
+    let mut j: u32 = 0;
+    while j < m {
+        let lead = leader(code, tuple[j as usize]);
+        write_layer(j, lead, word, &mut bch[at..at + n]);
+        at += n;
+        j += 1;
+    }
+}
+
+// What a call is refused by, 0 for nothing.
+fn split_refusal(code: u32, word: &[u8], output: usize) -> u32
+    ensures { λ r. ⌜ r ≡ split-refusal code (now (word .entry)) output ⌝ }
+{
+    if !code::is_code(code) {
+        return 1;
+    }
+    let m = code::width_of(code);
+    if word.len() != code::long_of(m) {
+        return 3;
+    }
+    if output != code::row_long_of(m) {
+        return 4;
+    }
+    if !code::symbols_good(m, word) {
+        return 6;
+    }
+    if code::is_codeword(m, code::roots_of(code), word) {
+        0
+    } else {
+        8
+    }
+}
+
+// Splits a codeword: its configuration, and into the lent output of n·m places, layer 1 first, the BCH word that is left
+// of each layer when its leader is added. A refused call answers the refusal's number and a configuration of zeros, and
+// keeps the output.
+pub fn split(code: u32, word: &[u8], bch: &mut [u8]) -> Splitting
+    ensures { λ a. ⌜ Split-says code (now (word .entry)) a (now (bch .entry)) (now (bch .exit)) ⌝ }
+{
+    let refusal = split_refusal(code, word, bch.len());
+    if refusal != 0 {
+        return Splitting {
+            number: refusal,
+            configuration: [0u16; 4],
+        };
+    }
+    let tuple = syndromes_of(code::width_of(code), code::roots_of(code), word);
+    write_layers(code, word, tuple, bch);
+    Splitting {
+        number: 0,
+        configuration: tuple,
+    }
 }

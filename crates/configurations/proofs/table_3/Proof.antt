@@ -2,7 +2,8 @@
 -- Assumes nothing.
 use mathlib.Core.Path.{refl}
 use Rattle.field.specs.Field.{xor, times, times-from, doubled, alpha}
-use Rattle.configurations.specs.Configurations.{configurations, configuration, of-code-3, padded, listed-from, listed}
+use Rattle.configurations.specs.Configurations.{configurations, configuration, of-code-3, listed-from, listed}
+use Rattle.split.specs.Split.{padded}
 use Rattle.configurations.proofs.table_3.Statement.{statement}
 use Rattle.configurations.proofs.table_3.Tie as tie
 

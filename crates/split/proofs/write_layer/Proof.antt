@@ -1,0 +1,90 @@
+-- `split::write_layer` meets its contract: so many positions are written, and the rest of the leader's number has the bits of the others.
+-- Assumes nothing.
+use mathlib.Core.Path.{_≡_, refl, sym, ap, _∙_}
+use mathlib.Core.List.{_++_}
+use Prim.Native.Nat.{_+_, _-_, _*_, _<_, _≤_}
+use native.Mathlib.Omega.{arith}
+use borrow.Author.Needs.{needs}
+use lib.ListN.{length, take, drop, length-set}
+use Rattle.code.specs.Bits.{bits-of}
+use Rattle.split.specs.Split.{layer, sum}
+use Rattle.split.proofs.Steps.{with-leader, with-length, one-position, next, copy-more, copied}
+use Rattle.split.proofs.write_layer.Statement.{statement}
+use Rattle.split.proofs.write_layer.Tie as tie
+
+abbrev Inv-loop : tie.InvT-loop
+Inv-loop j leader word out₀ rest₀ i₀ out rest i =
+    (i ≤ length word) × (length out ≡ length word) × (out ≡ take i (with-leader j word leader) ++ drop i out₀)
+    × (drop i (with-leader j word leader) ≡ sum (layer j (drop i word)) (bits-of (length word - i) rest))
+
+abbrev μ-loop : tie.MeasureT-loop
+μ-loop j leader word out₀ rest₀ i₀ out rest i = length word - i
+
+loop-holds : tie.Need-loop-holds Inv-loop μ-loop
+unfolding with-leader
+loop-holds c = let a = c .before .before .args in
+    let n : length (a .word .now) - 0 ≡ length (a .word .now) = omega arith in
+    (search needs, search needs, refl, rw n refl)
+
+shared-slice-read-bit : tie.Need-shared-slice-read-bit Inv-loop μ-loop
+shared-slice-read-bit c = search needs
+
+bit-requires : tie.Need-bit-requires Inv-loop μ-loop
+bit-requires c κs = search needs
+
+cast-add : tie.Need-cast-add Inv-loop μ-loop
+cast-add c = search needs
+
+add-requires : tie.Need-add-requires Inv-loop μ-loop
+add-requires c κs = search needs
+
+slice-write-out : tie.Need-slice-write-out Inv-loop μ-loop
+slice-write-out c = search needs
+
+add-i : tie.Need-add-i Inv-loop μ-loop
+add-i c = search needs
+
+loop-less : tie.Need-loop-less Inv-loop μ-loop
+loop-less c = search needs
+
+loop-again : tie.Need-loop-again Inv-loop μ-loop
+loop-again c = let l = c .before .before .before .before .loop in
+    let s = c .before .before .before .before .before .before .before in
+    let a = s .args in
+    let h = c .before .before .before .loop-test .taken in
+    let to = with-leader (a .j) (a .word .now) (a .leader) in
+    let n = next to (l .i) _ _ (l .inv .3 ∙ one-position (a .j) (a .word .now) (l .rest) (l .i) h) in
+    let w = with-length (a .j) (a .word .now) (a .leader) in (
+      search needs,
+      simp (length-set) (l .inv .1),
+      rw (l .inv .2, c .add .ensures, c .before .bit .ensures, ← n .here) (copy-more to (a .out .now) (l .i) (omega (arith, s .pre .1)) (omega arith)),
+      n .more,
+    )
+
+same-length : tie.Need-same-length Inv-loop μ-loop
+same-length c = let s = c .before .before .before .before in c .before .loop .inv .1 ∙ sym (s .pre .1)
+
+returns : tie.Need-returns Inv-loop μ-loop
+unfolding with-leader
+returns c = let l = c .before .loop in
+    let s = c .before .before .before .before in
+    let w = with-length (s .args .j) (s .args .word .now) (s .args .leader) in
+    l .inv .2 ∙ copied (with-leader (s .args .j) (s .args .word .now) (s .args .leader)) (s .args .out .now) (l .i) (w ∙ sym (s .pre .1)) (omega arith)
+
+pub write-layer-spec : {M : Type 1} → statement M
+write-layer-spec =
+    tie.close
+    (tie.spec
+    Inv-loop
+    μ-loop
+    loop-holds
+    shared-slice-read-bit
+    bit-requires
+    cast-add
+    add-requires
+    slice-write-out
+    add-i
+    loop-less
+    loop-again
+    same-length
+    returns)
