@@ -21,9 +21,9 @@ use Rattle.code.specs.Bits.{bit-at, row-long}
 use Rattle.code.specs.Promise.{Codes-inside}
 use Rattle.code.proofs.Promise.{codes, codes-inside}
 use Rattle.code.proofs.Words.{Below, good, Codeword-parts, codeword-parts}
-use Rattle.split.specs.Split.{layer, syndrome, syndromes, syndromes-from, cosets}
+use Rattle.split.specs.Split.{layer, syndrome, syndromes, syndromes-from, cosets, padded}
 use Rattle.split.proofs.Layers.{layer-below, layer-length}
-use Rattle.configurations.specs.Configurations.{configurations, configuration, padded, Configuration}
+use Rattle.configurations.specs.Configurations.{configurations, configuration, Configuration}
 use Rattle.configurations.specs.Promise.{Codewords-configured, Configurations}
 use Rattle.configurations.proofs.Valid.{codewords-configured, configurations-right, syndromes-length}
 use Rattle.metric.specs.Cost.{costZero, cost}
@@ -85,11 +85,11 @@ syn-zeros col i [] b = refl
 syn-zeros col i (zero ∷ bs) b = X.zero-l (syn col (suc i) bs) ∙ syn-zeros col (suc i) bs (b .1)
 syn-zeros col i (suc x ∷ bs) b = absurd (omega (arith, b .0))
 
-free-two : (i : ℕ) (bs : List ℕ) → Held free i bs → Below 2 bs
+pub free-two : (i : ℕ) (bs : List ℕ) → Held free i bs → Below 2 bs
 free-two i [] h = tt
 free-two i (b ∷ bs) h = (h .0, free-two (suc i) bs (h .1))
 
-two-free : (i : ℕ) (bs : List ℕ) → Below 2 bs → Held free i bs
+pub two-free : (i : ℕ) (bs : List ℕ) → Below 2 bs → Held free i bs
 two-free i [] h = tt
 two-free i (b ∷ bs) h = (h .0, two-free (suc i) bs (h .1))
 
