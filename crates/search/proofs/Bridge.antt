@@ -36,7 +36,7 @@ use Rattle.glue.specs.Walk.{sum4}
 use Rattle.glue.proofs.Engine.{over}
 use Rattle.search.specs.Search.{Spelt}
 use Rattle.search.proofs.Heads.{adds}
-use Rattle.search.proofs.Costs.{by-layers}
+use Rattle.search.proofs.Layering.{by-layers}
 use Rattle.search.proofs.Weave.{weave, weave-long, weave-layer, weave-below}
 
 -- at most four roots
@@ -120,7 +120,7 @@ module _ (c : ℕ) (g : code-good c ≡ true) (rs : List ℤ) (l : length rs ≡
         arith,
         lane-free j u lj (suc i) bs (b .1) (omega arith),
         y .zeros i j (omega arith) lj,
-        ap (λ (t : Bool). cond t (costZero (getD rs (i * width c + j) (pos 0))) 0) (le-ltb j (width c) u),
+        ap (λ (t : Bool). costZero (cond t (getD rs (i * width c + j) (pos 0)) (pos 0))) (le-ltb j (width c) u),
       )
   lane-free j u lj i (suc x ∷ bs) b e = absurd (omega (arith, b .0))
 

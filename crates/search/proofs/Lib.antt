@@ -1,5 +1,6 @@
 pub mod Heads
-pub mod Costs
+pub mod Layering
 pub mod Weave
 pub mod Bridge
 pub mod Found
+pub mod Prepared

@@ -9,7 +9,7 @@ use lib.ListN.{length}
 use Rattle.code.proofs.Words.{Below}
 use Rattle.split.specs.Split.{layer}
 use Rattle.trellis.proofs.Rows.{four}
-use Rattle.search.proofs.Costs.{first, next}
+use Rattle.search.proofs.Layering.{first, next}
 
 -- the word whose lowest layer is bs and whose others are those of cs
 unfoldable pub merge : (lowest : List ℕ) → (others : List ℕ) → List ℕ

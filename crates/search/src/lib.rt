@@ -1,1 +1,117 @@
-// Search.
+// The trellis and the walk at a code and a row: the columns of the code, the costs of a row, the tuples that are its valid configurations, and
+// what a word costs by itself. proofs/Found.antt shows that what trellis and glue then find are the least costs of codewords.
+// Its functions are for the decoder.
+ghost use mathlib.Core.Path.{_≡_};
+ghost use mathlib.Core.Bool.{true};
+ghost use Prim.Native.Nat.{ℕ, _+_, _*_, _<_, _≤_};
+ghost use lib.ListN.{length, getD};
+ghost use Rattle.field.specs.Field.{width-good};
+ghost use Rattle.code.specs.Code.{code-good, long, width, roots};
+ghost use Rattle.code.specs.Bits.{row-long};
+ghost use Rattle.configurations.specs.Configurations.{configurations, listed};
+ghost use Rattle.metric.specs.Row.{row-good};
+ghost use Rattle.metric.specs.Cost.{costZero, costOne, weight-of, cost};
+ghost use Rattle.trellis.specs.Rows.{lanes};
+ghost use Rattle.search.specs.Search.{head, reliability, zero-cost, one-cost, Head, Headed, CostRows, Costed};
+
+// The syndrome that a 1 at position i adds.
+fn head_of(m: u32, r: u32, i: u32) -> u16
+    requires { ⌜ Head m r i ⌝ }
+    ensures { λ x. ⌜ x ≡ head m r i ⌝ }
+{
+    let a = wide(field::power(m, i));
+    if r < 3 {
+        return a;
+    }
+    let b = wide(field::power(m, 3 * i));
+    if m == 3 { a + 8 * b } else { a + 16 * b }
+}
+
+fn wide(x: u8) -> u16
+    ensures { λ r. ⌜ r ≡ x ⌝ }
+{
+    x as u16
+}
+
+// The columns of a code.
+pub fn columns(m: u32, r: u32, hs: &mut [u16])
+    requires { ⌜ (width-good m ≡ true) × (r ≤ 4) × (length (now hs) ≡ long m) ⌝ }
+    ensures { λ _. ⌜ Headed m r (long m) (now (hs .exit)) ⌝ }
+{
+    let mut i = 0;
+    while i < hs.len() {
+        hs[i] = head_of(m, r, i as u32);
+        i += 1;
+    }
+}
+
+// What a 0 and a 1 contradicts of a reliability.
+fn cost_of_zero(r: i16) -> u32
+    ensures { λ x. ⌜ x ≡ costZero r ⌝ }
+{
+    if r < 0 { (0 - (r as i32)) as u32 } else { 0 }
+}
+
+fn cost_of_one(r: i16) -> u32
+    ensures { λ x. ⌜ x ≡ costOne r ⌝ }
+{
+    if r > 0 { r as u32 } else { 0 }
+}
+
+// The reliability at position i of layer j; the fourth layer of m = 3 has none.
+fn reliability_at(m: u32, row: &[i16], i: usize, j: usize) -> i16
+    requires { ⌜ (width-good m ≡ true) × (i * m + m ≤ length (now row)) ⌝ }
+    ensures { λ r. ⌜ r ≡ reliability m (now (row .entry)) i j ⌝ }
+{
+    let w = m as usize;
+    if j < w {
+        let b = i * w + j;
+        return row[b];
+    }
+    0
+}
+
+// What a 0 and a 1 cost in each layer of a position.
+pub struct Costs {
+    pub zero: [u32; 4],
+    pub one: [u32; 4],
+}
+
+fn costs_at(m: u32, row: &[i16], i: usize) -> Costs
+    requires { ⌜ (width-good m ≡ true) × (i * m + m ≤ length (now row)) ⌝ }
+    ensures { λ r. ⌜ (r .zero ≡ lanes (zero-cost m (now (row .entry)) i)) × (r .one ≡ lanes (one-cost m (now (row .entry)) i)) ⌝ }
+{
+    let r0 = reliability_at(m, row, i, 0);
+    let r1 = reliability_at(m, row, i, 1);
+    let r2 = reliability_at(m, row, i, 2);
+    let r3 = reliability_at(m, row, i, 3);
+    let z = [
+        cost_of_zero(r0),
+        cost_of_zero(r1),
+        cost_of_zero(r2),
+        cost_of_zero(r3),
+    ];
+    let o = [
+        cost_of_one(r0),
+        cost_of_one(r1),
+        cost_of_one(r2),
+        cost_of_one(r3),
+    ];
+    Costs { zero: z, one: o }
+}
+
+// The costs of a row, four layers to a position.
+pub fn cost_rows(m: u32, n: usize, row: &[i16], zs: &mut [u32], os: &mut [u32])
+    requires { ⌜ CostRows m n (now row) (now zs) (now os) ⌝ }
+    ensures { λ _. ⌜ Costed m n (now (row .entry)) (now (zs .exit)) (now (os .exit)) ⌝ }
+{
+    let mut i = 0;
+    while i < n {
+        let c = costs_at(m, row, i);
+        let z = c.zero;
+        let o = c.one;
+        trellis::store(zs, i, z);
+        trellis::store(os, i, o);
+        i += 1;
+    }
+}

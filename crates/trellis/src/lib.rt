@@ -17,7 +17,7 @@ fn min_of(a: u32, b: u32) -> u32
 }
 
 // Row s of a slice of rows.
-fn load(t: &[u32], s: usize) -> [u32; 4]
+pub fn load(t: &[u32], s: usize) -> [u32; 4]
     requires { ⌜ s * 4 + 4 ≤ length (now t) ⌝ }
     ensures { λ r. ⌜ r ≡ row (now (t .entry)) s ⌝ }
 {
@@ -26,7 +26,7 @@ fn load(t: &[u32], s: usize) -> [u32; 4]
 }
 
 // Row s written anew.
-fn store(t: &mut [u32], s: usize, r: [u32; 4])
+pub fn store(t: &mut [u32], s: usize, r: [u32; 4])
     requires { ⌜ s * 4 + 4 ≤ length (now t) ⌝ }
     ensures { λ _. ⌜ now (t .exit) ≡ put (now (t .entry)) s r ⌝ }
 {

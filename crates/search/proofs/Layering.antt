@@ -68,19 +68,18 @@ in-four : (m : ℕ) → width-good m ≡ true → (f : ℕ → ℕ) → total m 
 unfolding total
 in-four m w = widths (λ (m : ℕ). (f : ℕ → ℕ) → total m f ≡ sum4 (λ j. cond (ltb j m) (f j) 0)) (λ f. omega arith) (λ f. omega arith) m w
 
-picked : (t : Bool) (b x y : ℕ) → pick b (cond t x 0) (cond t y 0) ≡ cond t (choose b x y) 0
-picked true zero x y = refl
-picked true (suc b) x y = refl
-picked false zero x y = refl
-picked false (suc b) x y = refl
+picked : (t : Bool) (b : ℕ) (z : ℤ) → pick b (costZero (cond t z (pos 0))) (costOne (cond t z (pos 0))) ≡ cond t (choose b (costZero z) (costOne z)) 0
+picked true zero z = refl
+picked true (suc b) z = refl
+picked false zero z = refl
+picked false (suc b) z = refl
 
--- at least three entries of one symbol, from position i on
 module _ (m r : ℕ) (w : width-good m ≡ true) (rs : List ℤ) (hs zs os : List ℕ) (y : Spelt m r rs hs zs os) (l : length rs ≡ row-long m) where
   lane-part : (i j x : ℕ) → i < long m → j < 4 → pick (x / 2 ^ j % 2) (R.entry zs i j) (R.entry os i j) ≡ cond (ltb j m) (part x (drop (i * m) rs) j) 0
   unfolding part
   lane-part i j x li lj =
       ap₂ (pick (x / 2 ^ j % 2)) (y .zeros i j li lj) (y .ones i j li lj)
-      ∙ picked (ltb j m) (x / 2 ^ j % 2) (costZero (getD rs (i * m + j) (pos 0))) (costOne (getD rs (i * m + j) (pos 0)))
+      ∙ picked (ltb j m) (x / 2 ^ j % 2) (getD rs (i * m + j) (pos 0))
       ∙ ap (λ (z : ℤ). cond (ltb j m) (choose (x / 2 ^ j % 2) (costZero z) (costOne z)) 0) (sym (getD-drop (i * m) rs j (pos 0)))
 
   cost-from : (i : ℕ) (ws : List ℕ) → i + length ws ≤ long m → discrepancy (drop (i * m) rs) (all-bits m ws) ≡ sum4 (λ j. T.cost (R.layer hs zs os j) i (layer j ws))
