@@ -30,7 +30,7 @@ module _ (m r : ℕ) (rs : List ℤ) (l : length rs ≡ row-long m) (ws : List �
           g,
           greatest m r rs l d s,
           gt-at-most g o (omega (arith, top-parts rs d, top-parts rs (cost m rs ws))),
-          same (pos (2 * (cost m rs ws - d))) (g -ℤ o) (omega (arith, top-parts rs d, top-parts rs (cost m rs ws), minus g o)),
+          same _ _ (omega (arith, top-parts rs d, top-parts rs (cost m rs ws), minus g o)),
         ),
       )
 
