@@ -14,9 +14,9 @@ use Rattle.field.proofs.Tests.{widths}
 use Rattle.code.specs.Code.{long, is-codeword}
 use Rattle.code.specs.Bits.{bits-of, all-bits, bit-at, row-long}
 use Rattle.metric.specs.Row.{row-good}
-use Rattle.metric.specs.Metric.{metric-of, metric, at-most, Greatest, Greatest-with, Soft, Decoded, Marked}
+use Rattle.metric.specs.Metric.{metric-of, metric, at-most, Greatest, Soft, Marked}
 use Rattle.metric.specs.Cost.{costZero, costOne}
-use Rattle.metric.specs.Right.{Soft-right, Decoded-right, Marked-right}
+use Rattle.metric.specs.Right.{Soft-right, Marked-right}
 use Rattle.metric.specs.Promise.{Greatest-one, Greatest-with-one, Soft-width, Best-of-two, Decoded-one, Marked-one, Soft-enough, Decoded-enough, Marked-enough}
 use Rattle.metric.proofs.Integers.{plus, minus, same, le-at-most, at-most-true, at-most-false, at-most-refl, at-most-antisym}
 use Rattle.metric.proofs.Bounds.{row-first, row-rest, costs-le}
