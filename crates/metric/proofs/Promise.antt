@@ -1,9 +1,11 @@
 -- The statements of specs/Promise.antt.
 -- Assumes nothing.
 use mathlib.Core.Path.{_≡_, refl, sym, ap, ap₂, _∙_}
+use mathlib.Core.Logic.{_⊎_, inl, inr}
 use mathlib.Core.Bool.{Bool, true, false, cond, false≢true}
 use mathlib.Core.List.{List, [], _∷_, _++_}
-use Prim.Native.Nat.{ℕ, zero, suc, _+_, _*_, _/_, _≤_, _<_}
+use Prim.Native.Nat.{ℕ, zero, suc, _+_, _*_, _-_, _/_, _≤_, _<_}
+use native.Mathlib.Nat.{eq-or-lt-of-le}
 use native.Mathlib.Omega.{arith}
 use lib.Dec.{eqb, lit≤, eqb·suc-zero}
 use lib.ListN.{length, getD}
@@ -15,15 +17,27 @@ use Rattle.code.specs.Code.{long, is-codeword}
 use Rattle.code.specs.Bits.{bits-of, all-bits, bit-at, row-long}
 use Rattle.metric.specs.Row.{row-good}
 use Rattle.metric.specs.Metric.{metric-of, metric, at-most, Greatest, Soft, Marked}
-use Rattle.metric.specs.Cost.{costZero, costOne}
+use Rattle.metric.specs.Cost.{costZero, costOne, cost, top, Least}
 use Rattle.metric.specs.Right.{Soft-right, Marked-right}
-use Rattle.metric.specs.Promise.{Greatest-one, Greatest-with-one, Soft-width, Best-of-two, Decoded-one, Marked-one, Soft-enough, Decoded-enough, Marked-enough}
+use Rattle.metric.specs.Promise.{Greatest-there, Greatest-with-there, Marked-there, Greatest-one, Greatest-with-one, Soft-width, Best-of-two, Decoded-one, Marked-one, Soft-enough, Decoded-enough, Marked-enough}
 use Rattle.metric.proofs.Integers.{plus, minus, same, le-at-most, at-most-true, at-most-false, at-most-refl, at-most-antisym}
 use Rattle.metric.proofs.Bounds.{row-first, row-rest, costs-le}
-use Rattle.metric.proofs.Costs.{codeword-bits}
+use Rattle.metric.proofs.Costs.{codeword-bits, greatest, greatest-with}
+use Rattle.metric.proofs.Marks.{marked-none, marked-short, marked-best}
+use Rattle.metric.proofs.Finite.{least-there, least-with-there}
 
 clash {ℓ} : {X : Type ℓ} {b : Bool} → b ≡ true → b ≡ false → X
 clash p q = absurd (false≢true (sym q ∙ p))
+
+-- THERE IS A GREATEST, at the least cost
+pub greatest-there : Greatest-there
+unfolding Greatest-there
+greatest-there m r rs w few l = let s = least-there m r w few rs in (top rs (s .0), greatest m r rs l (s .0) (s .1))
+
+pub greatest-with-there : Greatest-with-there
+unfolding Greatest-with-there
+greatest-with-there m r b v rs w few l hb hv =
+    let s = least-with-there m r w few rs b v hb hv in (top rs (s .0), greatest-with m r rs l b v (s .0) (s .1))
 
 -- ONE GREATEST: each bounds the word that meets the other
 pub greatest-one : Greatest-one
@@ -143,6 +157,19 @@ marked-enough m r rs ws (suc (suc zero)) d p = record {
   short = λ h c k f. clash (rw (greatest-one m r rs h (metric m rs ws) k (p .1)) (at-most-refl (metric m rs ws))) f;
 }
 marked-enough m r rs ws (suc (suc (suc v))) d p = absurd p
+
+-- A VERDICT: by membership, and by the cost against the least
+pub marked-there : Marked-there
+unfolding Marked-there
+marked-there m r rs ws w few l = go (is-codeword m r ws) refl
+  where
+    by-cost : is-codeword m r ws ≡ true → (d : ℕ) → Least m r rs d → (d ≡ cost m rs ws) ⊎ (d < cost m rs ws) → (v : ℕ) × (e : ℤ) × Marked v e m r rs ws
+    by-cost c d s (inl e) = (2, pos 0, marked-best m r rs l ws d c s (sym e))
+    by-cost c d s (inr h) = (1, pos (2 * (cost m rs ws - d)), marked-short m r rs l ws d c s h)
+
+    go : (x : Bool) → is-codeword m r ws ≡ x → (v : ℕ) × (d : ℤ) × Marked v d m r rs ws
+    go true c = let s = least-there m r w few rs in by-cost c (s .0) (s .1) (eq-or-lt-of-le (s .1 .all ws c))
+    go false c = (0, pos 0, marked-none m r rs ws c)
 
 -- ONE VERDICT: what document 03 asks of the first, at what the second says
 pub marked-one : Marked-one
