@@ -12,8 +12,9 @@ use Rattle.field.specs.Field.{width-good}
 use Rattle.field.proofs.Refusals.{passes, passes-last}
 use Rattle.code.specs.declared.Membership.the-variants.{Codeword, NoCodeword, Refused}
 use Rattle.code.specs.Code.{code-good, width, roots, long, message-long, symbols-good, is-codeword}
-use Rattle.code.specs.Calls.{Outcome, encode-refusal, read-refusal, check-refusal, membership}
+use Rattle.code.specs.Calls.{encode-refusal, read-refusal, check-refusal, membership}
 use Rattle.code.specs.Within.{Word-within, Message-within}
+pub use Rattle.code.proofs.Outcomes.{outcome-done, outcome-refused, outcome-zero, outcome-taken}
 
 -- m and r of any number are those of a code
 pub width-fine : (c : ℕ) → width-good (width c) ≡ true
@@ -105,26 +106,6 @@ module _ (c : ℕ) where
   pub read-taken : (ws : List ℕ) (o : ℕ) → code-good c ≡ true → Readable ws o → symbols-good (width c) ws ≡ true → read-refusal c ws o ≡ 0
   unfolding read-refusal
   read-taken ws o g w s = rw (g, eq-eqb _ _ (w .count), eq-eqb _ _ (w .room), s, w .codeword) refl
-
-pub outcome-refused : (n r : ℕ) (Done Kept : Type 0) → r ≡ n → (r ≡ 0 → ⊥) → Kept → Outcome n r Done Kept
-unfolding Outcome
-outcome-refused zero r Done Kept e f k = absurd (f e)
-outcome-refused (suc n) r Done Kept e f k = (e, k)
-
-pub outcome-done : (n : ℕ) (Done Kept : Type 0) → n ≡ 0 → Done → Outcome n 0 Done Kept
-unfolding Outcome
-outcome-done zero Done Kept e d = (refl, d)
-outcome-done (suc n) Done Kept e d = absurd (omega arith)
-
-pub outcome-zero : (n : ℕ) (Done Kept : Type 0) → Outcome n 0 Done Kept → (n ≡ 0) × Done
-unfolding Outcome
-outcome-zero zero Done Kept o = (refl, o .1)
-outcome-zero (suc n) Done Kept o = absurd (omega (arith, o .0))
-
-pub outcome-taken : (n r : ℕ) (Done Kept : Type 0) → n ≡ 0 → Outcome n r Done Kept → (r ≡ 0) × Done
-unfolding Outcome
-outcome-taken zero r Done Kept e o = o
-outcome-taken (suc n) r Done Kept e o = absurd (omega arith)
 
 pub refused : (n r : ℕ) (b : Bool) → r ≡ n → (r ≡ 0 → ⊥) → Refused r ≡ membership n b
 unfolding membership

@@ -10,8 +10,8 @@ use native.Mathlib.Omega.{arith}
 use lib.Dec.{eqb·suc-zero}
 use lib.ListN.{length, getD, length-append}
 use lib.IntN.{ℤ, pos, _-ℤ_}
-use Rattle.code.specs.Code.{long, is-codeword}
-use Rattle.code.specs.Bits.{bits-of, all-bits, bit-at, row-long}
+use Rattle.code.specs.Code.{is-codeword}
+use Rattle.code.specs.Bits.{bits-of, all-bits, row-long}
 use Rattle.code.proofs.Words.{codeword-parts}
 use Rattle.metric.specs.Metric.{metric-of, metric, at-most, Greatest, Greatest-with, Soft, Decoded}
 use Rattle.metric.specs.Cost.{costZero, costOne, discrepancy, weight-of, cost, top, Least, Least-with}

@@ -1,29 +1,43 @@
 -- The statements of specs/Promise.antt.
 -- Assumes nothing.
 use mathlib.Core.Path.{_≡_, refl, sym, ap, ap₂, _∙_}
+use mathlib.Core.Logic.{_⊎_, inl, inr}
 use mathlib.Core.Bool.{Bool, true, false, cond, false≢true}
 use mathlib.Core.List.{List, [], _∷_, _++_}
-use Prim.Native.Nat.{ℕ, zero, suc, _+_, _*_, _/_, _≤_, _<_}
+use Prim.Native.Nat.{ℕ, zero, suc, _+_, _*_, _-_, _/_, _≤_, _<_}
+use native.Mathlib.Nat.{eq-or-lt-of-le}
 use native.Mathlib.Omega.{arith}
-use lib.Dec.{T, lit≤, eqb·suc-zero}
+use lib.Dec.{eqb, lit≤, eqb·suc-zero}
 use lib.ListN.{length, getD}
 use lib.Seq.{ext-getD}
-use lib.IntN.{ℤ, pos, negsuc, _-ℤ_}
+use lib.IntN.{ℤ, pos, negsuc, _+ℤ_, _-ℤ_}
 use Rattle.field.specs.Field.{width-good}
-use Rattle.field.proofs.Tests.{and-l, and-r, to-T, widths}
+use Rattle.field.proofs.Tests.{widths}
 use Rattle.code.specs.Code.{long, is-codeword}
 use Rattle.code.specs.Bits.{bits-of, all-bits, bit-at, row-long}
-use Rattle.metric.specs.Row.{reliability-good, row-good}
-use Rattle.metric.specs.Metric.{metric-of, metric, at-most, Greatest, Greatest-with, Soft, Decoded, Marked}
-use Rattle.metric.specs.Cost.{costZero, costOne}
-use Rattle.metric.specs.Right.{Soft-right, Decoded-right, Marked-right}
-use Rattle.metric.specs.Promise.{Greatest-one, Greatest-with-one, Soft-width, Best-of-two, Decoded-one, Marked-one, Soft-enough, Decoded-enough, Marked-enough}
+use Rattle.metric.specs.Row.{row-good}
+use Rattle.metric.specs.Metric.{metric-of, metric, at-most, Greatest, Soft, Marked}
+use Rattle.metric.specs.Cost.{costZero, costOne, cost, top, Least}
+use Rattle.metric.specs.Right.{Soft-right, Marked-right}
+use Rattle.metric.specs.Promise.{Greatest-there, Greatest-with-there, Marked-there, Greatest-one, Greatest-with-one, Soft-width, Best-of-two, Decoded-one, Marked-one, Soft-enough, Decoded-enough, Marked-enough}
 use Rattle.metric.proofs.Integers.{plus, minus, same, le-at-most, at-most-true, at-most-false, at-most-refl, at-most-antisym}
-use Rattle.metric.proofs.Bounds.{Within, metric-within}
-use Rattle.metric.proofs.Costs.{codeword-bits}
+use Rattle.metric.proofs.Bounds.{row-first, row-rest, costs-le}
+use Rattle.metric.proofs.Costs.{codeword-bits, greatest, greatest-with}
+use Rattle.metric.proofs.Marks.{marked-none, marked-short, marked-best}
+use Rattle.metric.proofs.Finite.{least-there, least-with-there}
 
 clash {ℓ} : {X : Type ℓ} {b : Bool} → b ≡ true → b ≡ false → X
 clash p q = absurd (false≢true (sym q ∙ p))
+
+-- THERE IS A GREATEST, at the least cost
+pub greatest-there : Greatest-there
+unfolding Greatest-there
+greatest-there m r rs w few l = let s = least-there m r w few rs in (top rs (s .0), greatest m r rs l (s .0) (s .1))
+
+pub greatest-with-there : Greatest-with-there
+unfolding Greatest-with-there
+greatest-with-there m r b v rs w few l hb hv =
+    let s = least-with-there m r w few rs b v hb hv in (top rs (s .0), greatest-with m r rs l b v (s .0) (s .1))
 
 -- ONE GREATEST: each bounds the word that meets the other
 pub greatest-one : Greatest-one
@@ -37,22 +51,40 @@ greatest-with-one m r b v rs g h p q =
     at-most-antisym g h (rw (p .met .3) at (q .all (p .met .0) (p .met .1) (p .met .2))) (rw (q .met .3) at (p .all (q .met .0) (q .met .1) (q .met .2)))
 
 -- THE WIDTH: a metric is at most 127 a bit, and there are at most 60 bits
+record Within (n : ℕ) (z : ℤ) : Type 0 where
+  above : costOne z ≤ costZero z + n
+  below : costZero z ≤ costOne z + n
+
+metric-within : (rs : List ℤ) (bs : List ℕ) → row-good rs ≡ true → Within (length bs * 127) (metric-of rs bs)
+unfolding metric-of
+metric-within [] bs f = record { above = omega arith; below = omega arith }
+metric-within (r ∷ rs) [] f = record { above = omega arith; below = omega arith }
+metric-within (r ∷ rs) (b ∷ bs) f = go b (costs-le r (row-first r rs f)) (metric-within rs bs (row-rest r rs f))
+  where
+    x : ℤ
+    x = metric-of rs bs
+
+    go : (b : ℕ) → costZero r + costOne r ≤ 127 → Within (length bs * 127) x → Within (suc (length bs) * 127) (cond (eqb b 0) (x +ℤ r) (x -ℤ r))
+    go zero s w = record { above = omega (arith, plus x r); below = omega (arith, plus x r) }
+    go (suc b) s w = rw (eqb·suc-zero b) (record { above = omega (arith, minus x r); below = omega (arith, minus x r) })
+
 few-bits : (m : ℕ) → width-good m ≡ true → row-long m ≤ 60
 unfolding row-long long
 few-bits = widths (λ (m : ℕ). row-long m ≤ 60) (lit≤ tt) (lit≤ tt)
 
+codeword-within : (m r : ℕ) (rs : List ℤ) (ws : List ℕ) → width-good m ≡ true → row-good rs ≡ true → is-codeword m r ws ≡ true → Within 7620 (metric m rs ws)
+unfolding metric
+codeword-within m r rs ws w f c =
+    let n : length (all-bits m ws) ≤ 60 = omega (arith, few-bits m w, codeword-bits m r ws c) in
+    let x : Within (length (all-bits m ws) * 127) (metric-of rs (all-bits m ws)) = metric-within rs (all-bits m ws) f in
+    record { above = omega arith; below = omega arith }
+
 pub soft-width : Soft-width
-unfolding Soft-width metric
-soft-width m r b rs g h w t p q =
-    let x : ℤ = metric-of rs (all-bits m (p .met .0)) in
-    let y : ℤ = metric-of rs (all-bits m (q .met .0)) in
-    let few : row-long m ≤ 60 = few-bits m w in
-    let lx : length (all-bits m (p .met .0)) ≡ row-long m = codeword-bits m r (p .met .0) (p .met .1) in
-    let ly : length (all-bits m (q .met .0)) ≡ row-long m = codeword-bits m r (q .met .0) (q .met .1) in
-    let wx : Within (length (all-bits m (p .met .0)) * 127) x = metric-within rs (all-bits m (p .met .0)) (to-T t) in
-    let wy : Within (length (all-bits m (q .met .0)) * 127) y = metric-within rs (all-bits m (q .met .0)) (to-T t) in
-    rw (← p .met .3, ← q .met .3)
-    (le-at-most (x -ℤ y) (pos 15240) (omega (arith, minus x y)), le-at-most (negsuc 15239) (x -ℤ y) (omega (arith, minus x y)))
+unfolding Soft-width
+soft-width m r b rs g h w f p q =
+    let x : Within 7620 g = rw (p .met .3) at (codeword-within m r rs (p .met .0) w f (p .met .1)) in
+    let y : Within 7620 h = rw (q .met .3) at (codeword-within m r rs (q .met .0) w f (q .met .1)) in
+    (le-at-most (g -ℤ h) (pos 15240) (omega (arith, minus g h)), le-at-most (negsuc 15239) (g -ℤ h) (omega (arith, minus g h)))
 
 -- THE BEST OF TWO: the best word has a 0 or a 1 at the bit
 front : (k c : ℕ) (bs : List ℕ) (i : ℕ) → ((i : ℕ) → getD bs i 0 < 2) → getD (bits-of k c ++ bs) i 0 < 2
@@ -125,6 +157,19 @@ marked-enough m r rs ws (suc (suc zero)) d p = record {
   short = λ h c k f. clash (rw (greatest-one m r rs h (metric m rs ws) k (p .1)) (at-most-refl (metric m rs ws))) f;
 }
 marked-enough m r rs ws (suc (suc (suc v))) d p = absurd p
+
+-- A VERDICT: by membership, and by the cost against the least
+pub marked-there : Marked-there
+unfolding Marked-there
+marked-there m r rs ws w few l = go (is-codeword m r ws) refl
+  where
+    by-cost : is-codeword m r ws ≡ true → (d : ℕ) → Least m r rs d → (d ≡ cost m rs ws) ⊎ (d < cost m rs ws) → (v : ℕ) × (e : ℤ) × Marked v e m r rs ws
+    by-cost c d s (inl e) = (2, pos 0, marked-best m r rs l ws d c s (sym e))
+    by-cost c d s (inr h) = (1, pos (2 * (cost m rs ws - d)), marked-short m r rs l ws d c s h)
+
+    go : (x : Bool) → is-codeword m r ws ≡ x → (v : ℕ) × (d : ℤ) × Marked v d m r rs ws
+    go true c = let s = least-there m r w few rs in by-cost c (s .0) (s .1) (eq-or-lt-of-le (s .1 .all ws c))
+    go false c = (0, pos 0, marked-none m r rs ws c)
 
 -- ONE VERDICT: what document 03 asks of the first, at what the second says
 pub marked-one : Marked-one

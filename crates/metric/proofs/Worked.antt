@@ -32,10 +32,10 @@ pub beside :
 unfolding width long row-long metric metric-of all-bits bits-of
 beside = (refl, refl, refl)
 
--- bit number of layer j at position i is i·m + (j-1): of the word 1 2 4 0 .. bits 0, 4 and 8 are 1
+-- bit number of layer j at position i is i·m + (j-1): of the symbols 3 4 0 bits 0, 1 and 5 are 1
 pub in-bit-order :
-    (all-bits 3 (1 ∷ 2 ∷ 4 ∷ []) ≡ 1 ∷ 0 ∷ 0 ∷ 0 ∷ 1 ∷ 0 ∷ 0 ∷ 0 ∷ 1 ∷ [])
-    × (metric 3 (pos 1 ∷ pos 2 ∷ pos 4 ∷ pos 8 ∷ pos 16 ∷ pos 32 ∷ pos 64 ∷ pos 0 ∷ negsuc 126 ∷ []) (1 ∷ 2 ∷ 4 ∷ []) ≡ pos 220)
+    (all-bits 3 (3 ∷ 4 ∷ 0 ∷ []) ≡ 1 ∷ 1 ∷ 0 ∷ 0 ∷ 0 ∷ 1 ∷ 0 ∷ 0 ∷ 0 ∷ [])
+    × (metric 3 (pos 1 ∷ pos 2 ∷ pos 4 ∷ pos 8 ∷ pos 16 ∷ pos 32 ∷ pos 64 ∷ pos 0 ∷ negsuc 126 ∷ []) (3 ∷ 4 ∷ 0 ∷ []) ≡ negsuc 69)
     × (bit-at 4 7 (0 ∷ 8 ∷ []) ≡ 1)
 unfolding metric metric-of all-bits bits-of bit-at
 in-bit-order = (refl, refl, refl)

@@ -1,17 +1,28 @@
 -- What is promised of metrics, over (m, r). A statement is a type; proofs/Promise.antt names the proof of each. Assumes nothing.
 use mathlib.Core.Path.{_≡_}
-use mathlib.Core.Bool.{Bool, true, false, cond}
+use mathlib.Core.Bool.{true, cond}
 use mathlib.Core.List.{List}
-use Prim.Native.Nat.{ℕ, _≤_, _<_}
+use Prim.Native.Nat.{ℕ, _<_}
 use lib.ListN.{length, getD}
 use lib.IntN.{ℤ, pos, negsuc, _-ℤ_}
 use Rattle.field.specs.Field.{width-good}
+use Rattle.code.specs.Code.{long}
 use Rattle.code.specs.Bits.{row-long}
 use Rattle.metric.specs.Row.{row-good}
 use Rattle.metric.specs.Metric.{at-most, Greatest, Greatest-with, Soft, Decoded, Marked}
 use Rattle.metric.specs.Right.{Soft-right, Decoded-right, Marked-right}
 
--- there is one greatest metric, and one of each value at a bit
+-- a row has a greatest metric, and one of each value at a bit
+unfoldable pub Greatest-there : Type 0
+Greatest-there =
+    (m r : ℕ) (rs : List ℤ) → width-good m ≡ true → r < long m → length rs ≡ row-long m → (g : ℤ) × Greatest m r rs g
+
+unfoldable pub Greatest-with-there : Type 0
+Greatest-with-there =
+    (m r b v : ℕ) (rs : List ℤ) → width-good m ≡ true → r < long m → length rs ≡ row-long m → b < row-long m → v < 2 →
+    (g : ℤ) × Greatest-with m r rs b v g
+
+-- and only one
 unfoldable pub Greatest-one : Type 0
 Greatest-one = (m r : ℕ) (rs : List ℤ) (g h : ℤ) → Greatest m r rs g → Greatest m r rs h → g ≡ h
 
@@ -35,7 +46,12 @@ unfoldable pub Decoded-one : Type 0
 Decoded-one =
     (m r : ℕ) (rs : List ℤ) (vs ws : List ℕ) (e g : ℤ) (so to : List ℤ) → Decoded m r rs vs e so → Decoded m r rs ws g to → (e ≡ g) × (so ≡ to)
 
--- a row and a word have one verdict, with one shortfall
+-- a row and a word have a verdict, and only one, with one shortfall
+unfoldable pub Marked-there : Type 0
+Marked-there =
+    (m r : ℕ) (rs : List ℤ) (ws : List ℕ) → width-good m ≡ true → r < long m → length rs ≡ row-long m →
+    (v : ℕ) × (d : ℤ) × Marked v d m r rs ws
+
 unfoldable pub Marked-one : Type 0
 Marked-one =
     (m r : ℕ) (rs : List ℤ) (ws : List ℕ) (v w : ℕ) (d e : ℤ) → Marked v d m r rs ws → Marked w e m r rs ws → (v ≡ w) × (d ≡ e)

@@ -1,5 +1,5 @@
-// Reliabilities and metrics: the definitions that the decoder, the marker and the sheets share, and the test of a row.
-// Its function is for the crates above.
+// Reliabilities and metrics: the definitions that the decoder, the marker and the sheets share, with their laws, and the test of a reliability.
+// The search for a best word is left to the crates above. Its function is for them, and promises `reliability-good` of specs/Row.antt.
 ghost use mathlib.Core.Path.{_≡_};
 ghost use Rattle.metric.specs.Row.{reliability-good};
 

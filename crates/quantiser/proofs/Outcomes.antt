@@ -3,7 +3,7 @@
 use mathlib.Core.Path.{_≡_, refl, sym, _∙_}
 use mathlib.Core.Bool.{Bool, true, false, not, cond}
 use mathlib.Core.List.{List, map}
-use Prim.Native.Nat.{ℕ, zero, suc}
+use Prim.Native.Nat.{ℕ}
 use native.Mathlib.Omega.{arith}
 use borrow.Author.Tests.{eq-eqb, ne-eqb, eqb-true}
 use lib.Dec.{eqb}
@@ -12,7 +12,7 @@ use lib.ListN.{length}
 use lib.Ieee.{Float}
 use Rattle.code.specs.Code.{code-good, width}
 use Rattle.code.specs.Bits.{row-long}
-use Rattle.code.specs.Calls.{Outcome}
+use Rattle.code.proofs.Outcomes.{outcome-done, outcome-refused}
 use Rattle.quantiser.specs.Calls.{has-nan, quantise-refusal, Quantise-says}
 use Rattle.quantiser.specs.Quantise.{quantised}
 
@@ -51,17 +51,9 @@ module _ (c : ℕ) (xs : List Float) (o : ℕ) where
 -- the call did its work, or kept its row
 module _ (c : ℕ) (xs : List Float) (r : ℕ) (o p : List ℤ) (e : r ≡ quantise-refusal c xs (length o)) where
   pub worked : r ≡ 0 → p ≡ map quantised xs → Quantise-says c xs r o p
-  unfolding Quantise-says Outcome
-  worked z d = go (quantise-refusal c xs (length o)) e
-    where
-      go : (n : ℕ) → r ≡ n → Outcome n r (p ≡ map quantised xs) (p ≡ o)
-      go zero e = (z, d)
-      go (suc n) e = absurd (omega arith)
+  unfolding Quantise-says
+  worked z d = outcome-done _ r _ _ (sym e ∙ z) z d
 
   pub kept : (r ≡ 0 → ⊥) → p ≡ o → Quantise-says c xs r o p
-  unfolding Quantise-says Outcome
-  kept z k = go (quantise-refusal c xs (length o)) e
-    where
-      go : (n : ℕ) → r ≡ n → Outcome n r (p ≡ map quantised xs) (p ≡ o)
-      go zero e = absurd (z e)
-      go (suc n) e = (e, k)
+  unfolding Quantise-says
+  kept z k = outcome-refused _ r _ _ e z k

@@ -31,7 +31,7 @@ returns-2 : tie.Need-returns-2
 unfolding Encode-says
 returns-2 c = let p = c .before .before in let r = p .before .before in let w = r .before in let e = w .before in
     let d = rw (w .width-of .ensures, r .roots-of .ensures) at (p .write-codeword .ensures) in
-    outcome-done _ _ _ (sym (e .before .encode-refusal .ensures) ∙ e .if1 .left) (d .codeword, d .carried)
+    outcome-done _ _ _ _ (sym (e .before .encode-refusal .ensures) ∙ e .if1 .left) refl (d .codeword, d .carried)
 
 pub encode-spec : {M : Type 1} → statement M
 encode-spec =

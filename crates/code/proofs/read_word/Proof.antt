@@ -55,7 +55,7 @@ same-length c = search needs
 returns-2 : tie.Need-returns-2
 unfolding Read-says message
 returns-2 c = let r = c .before .before .before .before .before in let e = r .before in let a = e .before .before .before .before .args in
-    outcome-done _ _ _ (sym (e .before .read-refusal .ensures) ∙ e .if1 .left)
+    outcome-done _ _ _ _ (sym (e .before .read-refusal .ensures) ∙ e .if1 .left) refl
     (c .before .before .copy .ensures ∙ tail-is (a .word .now) (r .roots-of .result) ∙ ap (λ (k : ℕ). drop k (a .word .now)) (r .roots-of .ensures))
 
 pub read-word-spec : {M : Type 1} → statement M
