@@ -1,6 +1,7 @@
 // Reed-Solomon codes of 2^m - 1 symbols with roots α to α^r: encoder, message reader and codeword test.
 // `encode`, `read_word` and `check_word` are offered to callers: they take any input and promise what specs/Calls.antt says.
-// The others are for the crates above.
+// For the crates above: a code's numbers (`is_code`, `width_of`, `roots_of`, `long_of`, `row_long_of`, `message_long_of`), and
+// `symbols_good` and `is_codeword` on words that have the right length. Layers and syndromes are left to the crate `split`.
 ghost use mathlib.Core.Path.{_≡_};
 ghost use mathlib.Core.Bool.{true};
 ghost use mathlib.Core.List.{_++_};
@@ -23,9 +24,9 @@ pub enum Membership {
 pub fn encode(code: u32, message: &[u8], output: &mut [u8]) -> u32
     ensures { λ r. ⌜ Encode-says code (now (message .entry)) r (now (output .entry)) (now (output .exit)) ⌝ }
 {
-    let refusal = encode_refusal(code, message, output.len());
-    if refusal != 0 {
-        return refusal;
+    let number = encode_refusal(code, message, output.len());
+    if number != 0 {
+        return number;
     }
     write_codeword(width_of(code), roots_of(code), message, output);
     0
@@ -67,11 +68,13 @@ fn encode_refusal(code: u32, message: &[u8], output: usize) -> u32
         return 1;
     }
     let m = width_of(code);
-    if message.len() != message_long_of(m, roots_of(code)) {
-        return 3;
+    let k = message_long_of(m, roots_of(code));
+    let n = long_of(m);
+    if message.len() != k {
+        return 3; // message not k long
     }
-    if output != long_of(m) {
-        return 4;
+    if output != n {
+        return 4; // output not n long
     }
     if symbols_good(m, message) { 0 } else { 6 }
 }

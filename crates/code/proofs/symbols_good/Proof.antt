@@ -3,6 +3,7 @@
 use mathlib.Core.Path.{_≡_, refl, sym, _∙_}
 use Prim.Native.Nat.{_≤_, _-_}
 use lib.ListN.{length, drop}
+use native.Mathlib.Omega.{arith}
 use borrow.Author.Needs.{needs}
 use Rattle.code.specs.Code.{symbols-good}
 use Rattle.code.proofs.Loops.{symbol-good, symbol-bad, symbols-none}
@@ -26,7 +27,7 @@ shared-slice-read-if1 c = search needs
 
 returns : tie.Need-returns Inv-loop μ-loop
 returns c = let s = c .before .before .before in let g = s .before in let a = g .before .before .args in
-    sym (s .loop .inv .1 ∙ symbol-bad (a .m) (a .word .now) (s .loop .i) (c .before .before .loop-test .taken) (rw (g .size .ensures) at (c .if1 .taken)))
+    sym (s .loop .inv .1 ∙ symbol-bad (a .m) (a .word .now) (s .loop .i) (c .before .before .loop-test .taken) (omega (arith, g .size .ensures)))
 
 add-i : tie.Need-add-i Inv-loop μ-loop
 add-i c = search needs

@@ -1,4 +1,4 @@
--- `field::inverse` meets its contract.
+-- `field::Element::inverse` meets its contract.
 -- Assumes nothing.
 use mathlib.Core.Path.{sym, _∙_}
 use borrow.Author.Needs.{needs}

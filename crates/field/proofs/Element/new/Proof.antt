@@ -1,4 +1,4 @@
--- `field::new` meets its contract.
+-- `field::Element::new` meets its contract.
 -- Assumes nothing.
 use mathlib.Core.Path.{refl}
 use borrow.Author.Needs.{needs}

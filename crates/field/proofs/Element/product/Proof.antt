@@ -1,4 +1,4 @@
--- `field::product` meets its contract.
+-- `field::Element::product` meets its contract.
 -- Assumes nothing.
 use mathlib.Core.Path.{sym, _∙_}
 use borrow.Author.Needs.{needs}

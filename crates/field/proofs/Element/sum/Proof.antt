@@ -1,4 +1,4 @@
--- `field::sum` meets its contract.
+-- `field::Element::sum` meets its contract.
 -- Assumes nothing.
 use borrow.Author.Needs.{needs}
 use Rattle.field.specs.Answers.{sum-of}

@@ -1,4 +1,4 @@
--- `records::encode_gives` meets its contract.
+-- `records::codes::encode_gives` is safe and ends.
 -- Assumes nothing.
 use mathlib.Core.Path.{sym}
 use lib.ListN.{length}

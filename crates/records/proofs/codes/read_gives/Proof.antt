@@ -1,4 +1,4 @@
--- `records::read_gives` meets its contract.
+-- `records::codes::read_gives` is safe and ends.
 -- Assumes nothing.
 use mathlib.Core.Path.{sym}
 use lib.ListN.{length}

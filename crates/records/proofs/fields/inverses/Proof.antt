@@ -1,4 +1,4 @@
--- `records::inverses` meets its contract.
+-- `records::fields::inverses` is safe and ends.
 -- Assumes nothing.
 use Prim.Native.Nat.{_≤_, _-_}
 use lib.ListN.{length}

@@ -1,4 +1,4 @@
--- `records::powers` meets its contract.
+-- `records::fields::powers` is safe and ends.
 -- Assumes nothing.
 use Prim.Native.Nat.{_≤_, _-_}
 use lib.ListN.{length}
