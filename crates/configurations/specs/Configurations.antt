@@ -5,7 +5,7 @@ use mathlib.Core.Bool.{true, cond}
 use mathlib.Core.List.{List, [], _∷_, _++_}
 use Prim.Native.Nat.{ℕ, zero, suc, _+_, _*_, _-_, _/_, _%_, _^_, _<_}
 use lib.Dec.{eqb}
-use lib.ListN.{length}
+use lib.ListN.{length, replicate}
 use Rattle.field.specs.Field.{xor, times, alpha}
 use Rattle.code.specs.Code.{width, roots}
 use Rattle.split.specs.Split.{cosets, valid, all-below, padded}
@@ -48,6 +48,10 @@ listed-from (suc n) k c = padded (configuration c k) ++ listed-from n (suc k) c
 
 unfoldable pub listed : (code : ℕ) → List ℕ
 listed c = listed-from (configurations c) 0 c
+
+-- the same, with zeros behind them to 1,024 places
+unfoldable pub filled : (code : ℕ) → List ℕ
+filled c = listed c ++ replicate (1024 - 4 * configurations c) 0
 
 -- a tuple read as a number, its first place the leading digit
 unfoldable pub leading : (base : ℕ) → (tuple : List ℕ) → ℕ
