@@ -4,3 +4,4 @@ pub mod Weave
 pub mod Bridge
 pub mod Found
 pub mod Prepared
+pub mod Traced
