@@ -1,1 +1,2 @@
 pub mod Tabling
+pub mod Searching

@@ -5,13 +5,14 @@ use mathlib.Core.List.{List}
 use Prim.Native.Nat.{ℕ, _+_, _*_, _^_, _<_, _≤_}
 use lib.ListN.{length, getD}
 use lib.IntN.{ℤ}
-use Rattle.code.specs.Code.{code-good, width, roots, long}
+use Rattle.code.specs.Code.{code-good, width, roots, long, is-codeword}
 use Rattle.code.specs.Bits.{row-long}
 use Rattle.split.specs.Split.{cosets}
 use Rattle.configurations.specs.Configurations.{configurations, listed}
 use Rattle.metric.specs.Row.{bound, row-good}
 use Rattle.trellis.specs.Rows.{entry, Layers, Made}
-use Rattle.glue.specs.Walk.{Walked, Marginals}
+use Rattle.glue.specs.Walk.{Marginals}
+use Rattle.metric.specs.Cost.{cost, Least, Least-with}
 use Rattle.search.specs.Search.{Spelt}
 
 -- a reliability's greatest size, a number above every cost of a word, and one above twice that and a layer's cost
@@ -50,3 +51,21 @@ pub record Tabled (code q size : ℕ) (row : List ℤ) (hs zs os t : List ℕ) :
   pub spelt : Spelt (width code) (roots code) row hs zs os
   pub layers : Layers q size top hs zs os
   pub made : Made size big hs zs os 0 t
+
+-- what the walk and the trace leave: the least cost, a codeword that has it, and the least total with each syndrome in each layer
+pub record Best (code size count : ℕ) (row : List ℤ) (t cs g word : List ℕ) (least : ℕ) : Type 0 where
+  pub codeword : is-codeword (width code) (roots code) word ≡ true
+  pub costs : cost (width code) row word ≡ least
+  pub is-least : Least (width code) (roots code) row least
+  pub marginals : Marginals size count cap t cs g
+
+-- the least costs with a 0 and with a 1 at each bit
+abbrev pub Softs : (code m n : ℕ) → (row : List ℤ) → (zero one : List ℕ) → Type 0
+Softs code m n row zs os =
+    (i j : ℕ) → i < n → j < m →
+    Least-with (width code) (roots code) row (i * m + j) 0 (entry zs i j) × Least-with (width code) (roots code) row (i * m + j) 1 (entry os i j)
+    × (entry zs i j < big) × (entry os i j < big)
+
+-- all entries are n
+abbrev pub All : (n : ℕ) → List ℕ → Type 0
+All n xs = (i : ℕ) → i < length xs → getD xs i 0 ≡ n

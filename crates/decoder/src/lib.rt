@@ -4,7 +4,8 @@ ghost use mathlib.Core.Path.{_≡_};
 ghost use Prim.Native.Nat.{_+_, _*_, _<_, _≤_};
 ghost use lib.ListN.{length};
 ghost use Rattle.decoder.specs.Calls.{decode-refusal, Decode-says, mark-refusal, Mark-says};
-ghost use Rattle.decoder.specs.Within.{Input, Buffers, Tabled};
+ghost use Rattle.decoder.specs.Within.{cap, Input, Buffers, Tabled, Best, Softs, All};
+ghost use Rattle.glue.specs.Walk.{Marginals};
 
 // 0 and the best metric, or the number of a refusal and 0.
 pub struct Decoding {
@@ -49,4 +50,74 @@ fn tables(
     search::columns(m, r, hs);
     search::cost_rows(m, n, row, zs, os);
     trellis::make_tables(t, q, size, hs, zs, os, TOP, BIG);
+}
+
+// Every entry is CAP.
+fn clear(g: &mut [u32])
+    ensures { λ _. ⌜ (length (now (g .exit)) ≡ length (now (g .entry))) × All cap (now (g .exit)) ⌝ }
+{
+    let mut i = 0;
+    while i < g.len() {
+        g[i] = CAP;
+        i += 1;
+    }
+}
+
+// The least cost of a codeword, and a codeword that has it, from the tables.
+fn best_word(
+    code: u32,
+    m: u32,
+    r: u32,
+    q: u32,
+    n: usize,
+    size: usize,
+    count: usize,
+    row: &[i16],
+    cs: &[u16],
+    hs: &[u16],
+    zs: &[u32],
+    os: &[u32],
+    t: &[u32],
+    g: &mut [u32],
+    word: &mut [u8],
+) -> u32
+    requires { ⌜ Input code m r q n size count (now row) (now cs) ⌝ }
+    requires { ⌜ Tabled code q size (now row) (now hs) (now zs) (now os) (now t) ⌝ }
+    requires { ⌜ (length (now g) ≡ size * 4) × (length (now word) ≡ n) ⌝ }
+    ensures { λ x. ⌜ Best code size count (now (row .entry)) (now (t .entry)) (now (cs .entry)) (now (g .exit)) (now (word .exit)) x ⌝ }
+{
+    clear(g);
+    let least = glue::walk(t, size, cs, count, g, CAP);
+    let at = least.at;
+    trellis::trace_word(t, q, size, hs, zs, os, TOP, BIG, at, word);
+    least.total
+}
+
+// The least costs with a 0 and with a 1 at each bit. The tables are used up.
+fn soft_costs(
+    code: u32,
+    m: u32,
+    r: u32,
+    q: u32,
+    n: usize,
+    size: usize,
+    count: usize,
+    row: &[i16],
+    cs: &[u16],
+    hs: &[u16],
+    zs: &[u32],
+    os: &[u32],
+    t: &mut [u32],
+    g: &[u32],
+    zero: &mut [u32],
+    one: &mut [u32],
+)
+    requires { ⌜ Input code m r q n size count (now row) (now cs) ⌝ }
+    requires { ⌜ Tabled code q size (now row) (now hs) (now zs) (now os) (now t) ⌝ }
+    requires { ⌜ (length (now g) ≡ size * 4) × Marginals size count cap (now t) (now cs) (now g) ⌝ }
+    requires { ⌜ (length (now zero) ≡ n * 4) × (length (now one) ≡ n * 4) ⌝ }
+    ensures { λ _. ⌜ Softs code m n (now (row .entry)) (now (zero .exit)) (now (one .exit)) ⌝ }
+{
+    glue::subtract(g, t);
+    trellis::soft_pass(t, q, size, hs, zs, os, TOP, BIG, CAP, zero, one);
 }

@@ -63,7 +63,7 @@ zeros-at zero i = refl
 zeros-at (suc k) zero = refl
 zeros-at (suc k) (suc i) = zeros-at k i
 
-padded-in : (ss : List ℕ) (j : ℕ) → j < length ss → getD (padded ss) j 0 ≡ getD ss j 0
+pub padded-in : (ss : List ℕ) (j : ℕ) → j < length ss → getD (padded ss) j 0 ≡ getD ss j 0
 unfolding padded
 padded-in ss j h = List·getD-append ss (replicate (4 - length ss) 0) 0 j h
 
