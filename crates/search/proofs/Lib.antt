@@ -5,3 +5,4 @@ pub mod Bridge
 pub mod Found
 pub mod Prepared
 pub mod Traced
+pub mod Sums
