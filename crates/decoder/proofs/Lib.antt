@@ -1,2 +1,3 @@
 pub mod Tabling
 pub mod Searching
+pub mod Writing

@@ -4,13 +4,14 @@ use mathlib.Core.Bool.{true}
 use mathlib.Core.List.{List}
 use Prim.Native.Nat.{ℕ, _+_, _*_, _^_, _<_, _≤_}
 use lib.ListN.{length, getD}
-use lib.IntN.{ℤ}
+use lib.IntN.{ℤ, pos, _-ℤ_}
+use Rattle.field.specs.Field.{width-good}
 use Rattle.code.specs.Code.{code-good, width, roots, long, is-codeword}
 use Rattle.code.specs.Bits.{row-long}
 use Rattle.split.specs.Split.{cosets}
 use Rattle.configurations.specs.Configurations.{configurations, listed}
 use Rattle.metric.specs.Row.{bound, row-good}
-use Rattle.trellis.specs.Rows.{entry, Layers, Made}
+use Rattle.trellis.specs.Rows.{entry, lane, Layers, Made}
 use Rattle.glue.specs.Walk.{Marginals}
 use Rattle.metric.specs.Cost.{cost, Least, Least-with}
 use Rattle.search.specs.Search.{Spelt}
@@ -69,3 +70,31 @@ Softs code m n row zs os =
 -- all entries are n
 abbrev pub All : (n : ℕ) → List ℕ → Type 0
 All n xs = (i : ℕ) → i < length xs → getD xs i 0 ≡ n
+
+-- soft output i * m + j from the least costs
+abbrev pub soft-of : (zero one : List ℕ) → (i j : ℕ) → ℤ
+soft-of zs os i j = pos (2 * entry os i j) -ℤ pos (2 * entry zs i j)
+
+-- what `soft_rows` asks
+pub record SoftRows (m n : ℕ) (zero one : List ℕ) (soft : List ℤ) : Type 0 where
+  pub width : width-good m ≡ true
+  pub length-zero : length zero ≡ n * 4
+  pub length-one : length one ≡ n * 4
+  pub length-soft : length soft ≡ n * m
+  pub small : (i j : ℕ) → i < n → j < m → (entry zero i j < big) × (entry one i j < big)
+
+-- the soft outputs of the first n positions are written
+pub record Softened (m : ℕ) (zero one : List ℕ) (n : ℕ) (before soft : List ℤ) : Type 0 where
+  pub long : length soft ≡ length before
+  pub done : (i j : ℕ) → i < n → j < m → getD soft (i * m + j) (pos 0) ≡ soft-of zero one i j
+
+-- one position's soft outputs, from two rows, at a place
+pub record SoftRow (m at : ℕ) (z o : List ℕ) (soft : List ℤ) : Type 0 where
+  pub width : width-good m ≡ true
+  pub fits : at + m ≤ length soft
+  pub small : (j : ℕ) → j < m → (lane z j < big) × (lane o j < big)
+
+pub record Written (m at : ℕ) (z o : List ℕ) (before soft : List ℤ) : Type 0 where
+  pub long : length soft ≡ length before
+  pub done : (j : ℕ) → j < m → getD soft (at + j) (pos 0) ≡ pos (2 * lane o j) -ℤ pos (2 * lane z j)
+  pub kept : (i : ℕ) → i < at → getD soft i (pos 0) ≡ getD before i (pos 0)

@@ -1,10 +1,11 @@
 // The decoder with its soft outputs, and the marker. `decode` and `judge_word` are offered to callers: they take any input and promise what
 // specs/Calls.antt says, in the words of the crate metric; how the search goes is no part of the promise.
 ghost use mathlib.Core.Path.{_≡_};
-ghost use Prim.Native.Nat.{_+_, _*_, _<_, _≤_};
+ghost use Prim.Native.Nat.{_+_, _*_, _^_, _<_, _≤_};
 ghost use lib.ListN.{length};
 ghost use Rattle.decoder.specs.Calls.{decode-refusal, Decode-says, mark-refusal, Mark-says};
-ghost use Rattle.decoder.specs.Within.{cap, Input, Buffers, Tabled, Best, Softs, All};
+ghost use Rattle.decoder.specs.Within.{cap, Input, Buffers, Tabled, Best, Softs, All, big, SoftRow, Written, SoftRows, Softened};
+ghost use lib.IntN.{pos, _-ℤ_};
 ghost use Rattle.glue.specs.Walk.{Marginals};
 
 // 0 and the best metric, or the number of a refusal and 0.
@@ -120,4 +121,48 @@ fn soft_costs(
 {
     glue::subtract(g, t);
     trellis::soft_pass(t, q, size, hs, zs, os, TOP, BIG, CAP, zero, one);
+}
+
+// a less b.
+fn minus(a: u32, b: u32) -> i32
+    requires { ⌜ (a < 2 ^ 31) × (b < 2 ^ 31) ⌝ }
+    ensures { λ r. ⌜ r ≡ pos a -ℤ pos b ⌝ }
+{
+    (a as i32) - (b as i32)
+}
+
+// A soft output: twice the least cost with a 1 less twice that with a 0.
+fn soft_from(zero: u32, one: u32) -> i16
+    requires { ⌜ (zero < big) × (one < big) ⌝ }
+    ensures { λ r. ⌜ r ≡ pos (2 * one) -ℤ pos (2 * zero) ⌝ }
+{
+    minus(2 * one, 2 * zero) as i16
+}
+
+// One position's soft outputs.
+fn soft_row(m: u32, z: [u32; 4], o: [u32; 4], at: usize, soft: &mut [i16])
+    requires { ⌜ SoftRow m at z o (now soft) ⌝ }
+    ensures { λ _. ⌜ Written m at z o (now (soft .entry)) (now (soft .exit)) ⌝ }
+{
+    soft[at + 0] = soft_from(z[0], o[0]);
+    soft[at + 1] = soft_from(z[1], o[1]);
+    soft[at + 2] = soft_from(z[2], o[2]);
+    if m == 4 {
+        soft[at + 3] = soft_from(z[3], o[3]);
+    }
+}
+
+// All soft outputs.
+fn soft_rows(m: u32, n: usize, zero: &[u32], one: &[u32], soft: &mut [i16])
+    requires { ⌜ SoftRows m n (now zero) (now one) (now soft) ⌝ }
+    ensures { λ _. ⌜ Softened m (now (zero .entry)) (now (one .entry)) n (now (soft .entry)) (now (soft .exit)) ⌝ }
+{
+    let w = m as usize;
+    let mut i = 0;
+    let mut at = 0;
+    while i < n {
+        soft_row(m, trellis::load(zero, i), trellis::load(one, i), at, soft);
+        at += w;
+        i += 1;
+    }
 }
