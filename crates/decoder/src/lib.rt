@@ -270,3 +270,154 @@ fn decode_refusal(code: u32, row: &[i16], word: usize, soft: usize) -> u32
     }
     if is_row(row) { 0 } else { 5 }
 }
+
+// Buffers.
+fn zeros_256() -> [u32; 256]
+    ensures { λ r. ⌜ length r ≡ 256 ⌝ }
+{
+    [0u32; 256]
+}
+
+fn zeros_1024() -> [u32; 1024]
+    ensures { λ r. ⌜ length r ≡ 1024 ⌝ }
+{
+    [0u32; 1024]
+}
+
+fn zeros_2048() -> [u32; 2048]
+    ensures { λ r. ⌜ length r ≡ 2048 ⌝ }
+{
+    [0u32; 2048]
+}
+
+// Each code with buffers of its own sizes: n + 1 tables of four layers, 2^q rows each.
+fn decode_1(row: &[i16], word: &mut [u8], soft: &mut [i16]) -> i32
+    requires { ⌜ Accepted 1 (now row) (length (now word)) (length (now soft)) ⌝ }
+    ensures { λ x. ⌜ Decoded (width 1) (roots 1) (now (row .entry)) (now (word .exit)) x (now (soft .exit)) ⌝ }
+{
+    let all = configurations::all_of(1);
+    let mut hs = [0u16; 7];
+    let mut zs = [0u32; 28];
+    let mut os = [0u32; 28];
+    let mut zero = [0u32; 28];
+    let mut one = [0u32; 28];
+    let mut t = zeros_256();
+    let mut g = [0u32; 32];
+    decode_with(
+        1,
+        3,
+        2,
+        3,
+        7,
+        8,
+        8,
+        row,
+        &all[..32],
+        &mut hs,
+        &mut zs,
+        &mut os,
+        &mut t,
+        &mut g,
+        &mut zero,
+        &mut one,
+        word,
+        soft,
+    )
+}
+
+fn decode_2(row: &[i16], word: &mut [u8], soft: &mut [i16]) -> i32
+    requires { ⌜ Accepted 2 (now row) (length (now word)) (length (now soft)) ⌝ }
+    ensures { λ x. ⌜ Decoded (width 2) (roots 2) (now (row .entry)) (now (word .exit)) x (now (soft .exit)) ⌝ }
+{
+    let all = configurations::all_of(2);
+    let mut hs = [0u16; 7];
+    let mut zs = [0u32; 28];
+    let mut os = [0u32; 28];
+    let mut zero = [0u32; 28];
+    let mut one = [0u32; 28];
+    let mut t = zeros_2048();
+    let mut g = zeros_256();
+    decode_with(
+        2,
+        3,
+        4,
+        6,
+        7,
+        64,
+        64,
+        row,
+        &all[..256],
+        &mut hs,
+        &mut zs,
+        &mut os,
+        &mut t,
+        &mut g,
+        &mut zero,
+        &mut one,
+        word,
+        soft,
+    )
+}
+
+fn decode_3(row: &[i16], word: &mut [u8], soft: &mut [i16]) -> i32
+    requires { ⌜ Accepted 3 (now row) (length (now word)) (length (now soft)) ⌝ }
+    ensures { λ x. ⌜ Decoded (width 3) (roots 3) (now (row .entry)) (now (word .exit)) x (now (soft .exit)) ⌝ }
+{
+    let all = configurations::all_of(3);
+    let mut hs = [0u16; 15];
+    let mut zs = [0u32; 60];
+    let mut os = [0u32; 60];
+    let mut zero = [0u32; 60];
+    let mut one = [0u32; 60];
+    let mut t = zeros_1024();
+    let mut g = [0u32; 64];
+    decode_with(
+        3,
+        4,
+        2,
+        4,
+        15,
+        16,
+        256,
+        row,
+        &all[..1024],
+        &mut hs,
+        &mut zs,
+        &mut os,
+        &mut t,
+        &mut g,
+        &mut zero,
+        &mut one,
+        word,
+        soft,
+    )
+}
+
+// The decoder: a best word, its metric and the soft outputs of a row.
+pub fn decode(code: u32, row: &[i16], word: &mut [u8], soft: &mut [i16]) -> Decoding
+    ensures { λ r. ⌜ Decode-says code (now (row .entry)) r (now (word .entry)) (now (word .exit)) (now (soft .entry)) (now (soft .exit)) ⌝ }
+{
+    let number = decode_refusal(code, row, word.len(), soft.len());
+    if number != 0 {
+        return Decoding { number, metric: 0 };
+    }
+    if code == 1 {
+        let x = decode_1(row, word, soft);
+        return Decoding {
+            number: 0,
+            metric: x,
+        };
+    }
+    if code == 2 {
+        let x = decode_2(row, word, soft);
+        return Decoding {
+            number: 0,
+            metric: x,
+        };
+    }
+    let x = decode_3(row, word, soft);
+    Decoding {
+        number: 0,
+        metric: x,
+    }
+}
