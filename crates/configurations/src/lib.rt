@@ -1,4 +1,7 @@
-// The valid configurations of the three codes, by number, ascending with the first place as the leading digit.
+// The valid configurations of the three codes: how many, one by its number, and all of a code in order. A configuration is an
+// array of four syndromes by value; with m = 3 the fourth is 0. The promises cite specs/Configurations.antt, whose
+// `Configurations-right` says that each is valid, none is missing, and that they ascend with the first place as the leading
+// digit. All functions are for the crates above; a walk over all takes `all_of`.
 mod table;
 
 use table::CONFIGURATIONS_3;

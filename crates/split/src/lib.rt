@@ -1,4 +1,7 @@
-// Splitting a codeword into its binary layers.
+// A word as m binary layers: their syndromes, the leaders of their cosets, and the split of a codeword.
+// `split` is offered to callers: it takes any input and promises what specs/Calls.antt says, by the definitions of
+// specs/Split.antt. `leader` and `syndromes_of` are for the crates above. Which configurations are valid, and all of them by
+// number, is left to the crate `configurations`; words and codes are the crate `code`'s.
 ghost use mathlib.Core.Path.{_≡_};
 ghost use mathlib.Core.Bool.{true};
 ghost use Prim.Native.Nat.{_/_, _%_, _^_, _≤_, _<_};
