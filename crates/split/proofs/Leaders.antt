@@ -39,13 +39,8 @@ unfolding bits-of
 bits-below zero k = tt
 bits-below (suc n) k = (omega arith, bits-below n (k / 2))
 
-pub bits-length : (n k : ℕ) → length (bits-of n k) ≡ n
-unfolding bits-of
-bits-length zero k = refl
-bits-length (suc n) k = ap suc (bits-length n (k / 2))
-
 bits-binary : (m k : ℕ) → Binary m (bits-of (long m) k)
-bits-binary m k = record { count = bits-length (long m) k; bits = L.all-of 2 (bits-of (long m) k) (bits-below (long m) k) }
+bits-binary m k = record { count = L.bits-length (long m) k; bits = L.all-of 2 (bits-of (long m) k) (bits-below (long m) k) }
 
 -- a test at every binary word of length n and weight t or less
 unfoldable pub words : (n t : ℕ) → (List ℕ → Bool) → Bool
