@@ -2,20 +2,20 @@
 -- free come first.
 -- Assumes nothing.
 use mathlib.Core.Path.{_≡_, refl, sym, ap, ap₂, _∙_, subst}
-use mathlib.Core.Bool.{Bool, true, false, _&&_, _||_, not, cond}
+use mathlib.Core.Bool.{Bool, true, false, _&&_, _||_, not}
 use mathlib.Core.List.{List, [], _∷_}
-use Prim.Native.Nat.{ℕ, zero, suc, _+_, _*_, _/_, _%_, _^_, _<_, _≤_}
+use Prim.Native.Nat.{ℕ, zero, suc, _+_, _*_, _/_, _%_, _<_, _≤_}
 use mathlib.Core.Logic.{_⊎_, inl, inr}
 use native.Mathlib.Nat.{eq-or-lt-of-le}
 use native.Mathlib.Omega.{arith}
-use lib.Dec.{T, eqb, leb, ltb, eqb→eq, ltb→lt, lit≤}
+use lib.Dec.{T, eqb, eqb→eq, lit≤}
 use lib.ListN.{length}
 use borrow.Author.Tests.{eq-eqb}
 use Rattle.field.specs.Field.{width-good, xor, times, times-from, doubled, alpha, square}
-use Rattle.code.specs.Code.{code-good, width, roots, long, symbols-good, is-codeword}
+use Rattle.code.specs.Code.{code-good, width, roots, long, is-codeword}
 use Rattle.code.specs.Promise.{Codes-inside}
 use Rattle.split.specs.Split.{layer, number, numbered, cosets, syndromes, syndromes-from, layer-value, glued, valid, valid-at, all-below}
-use Rattle.configurations.specs.Configurations.{Configuration, configurations, configuration, of-code-1, of-code-2, of-code-3, leading, Configurations-right}
+use Rattle.configurations.specs.Configurations.{Configuration, configurations, configuration, of-code-1, of-code-2, of-code-3, leading}
 use Rattle.split.specs.Promise.{Glued-right, Syndrome-inside}
 use Rattle.configurations.specs.Promise.{Configurations, Codewords-configured}
 use Rattle.field.proofs.Tests.{all, at, eq-below, and-l, and-r, to-T, from-T}

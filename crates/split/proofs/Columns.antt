@@ -3,7 +3,7 @@
 use mathlib.Core.Path.{_≡_, refl, sym, ap, ap₂, _∙_}
 use mathlib.Core.Bool.{Bool, true, false, _&&_, cond}
 use mathlib.Core.List.{List, [], _∷_}
-use Prim.Native.Nat.{ℕ, zero, suc, _+_, _*_, _/_, _%_, _^_, _≤_, _<_}
+use Prim.Native.Nat.{ℕ, zero, suc, _+_, _*_, _^_, _≤_, _<_}
 use native.Mathlib.Nat.{mul-comm, mul-zero, add-comm}
 use native.Mathlib.Omega.{arith}
 use lib.Bits as B
@@ -11,7 +11,7 @@ use lib.Dec.{leb, eqb}
 use lib.Pow.{pow-pos}
 use Rattle.field.specs.Field.{xor, times, alpha, width-good}
 use Rattle.code.specs.Code.{value-from, value-at}
-use Rattle.split.specs.Split.{number, syndrome, column, columns-from, Binary}
+use Rattle.split.specs.Split.{number, syndrome, column, columns-from}
 use Rattle.split.specs.Promise.{Syndrome-columns}
 use Rattle.field.proofs.Tests.{eq-below}
 use Rattle.field.proofs.Xor as X

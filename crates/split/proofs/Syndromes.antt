@@ -1,18 +1,18 @@
 -- The syndromes of a word as the program computes them, for up to four roots.
 -- Assumes nothing.
 use mathlib.Core.Path.{_≡_, refl, sym, ap, _∙_}
-use mathlib.Core.Bool.{Bool, true, false, _&&_, cond}
-use mathlib.Core.List.{List, [], _∷_, _++_}
+use mathlib.Core.Bool.{true, false}
+use mathlib.Core.List.{List, _++_}
 use Prim.Native.Nat.{ℕ, zero, suc, _+_, _*_, _-_, _^_, _≤_, _<_}
 use native.Mathlib.Nat.{mul-zero, mul-one, add-zero, zero-add, add-suc, suc-add, mul-le-mul-right, not-suc-le-zero, le-of-suc-le-suc}
 use native.Mathlib.Omega.{arith}
-use lib.Dec.{leb, eqb, lit≤}
+use lib.Dec.{leb, lit≤}
 use lib.ListN.{length, getD, take, drop, replicate}
 use lib.Seq.{take-all}
 use borrow.Author.Tests.{le-leb, lt-leb}
 use Rattle.field.specs.Field.{width-good, alpha}
 use Rattle.code.specs.Code.{value-at}
-use Rattle.split.specs.Split.{layer, number, syndrome, column, syndromes, syndromes-from, padded}
+use Rattle.split.specs.Split.{layer, syndrome, column, syndromes, syndromes-from, padded}
 use Rattle.field.proofs.Tests.{widths}
 
 pub one-value : (m r : ℕ) (bs : List ℕ) → r < 3 → value-at m 1 bs ≡ syndrome m r bs

@@ -1,7 +1,7 @@
 -- `split::column_of` meets its contract: a power of α, or two as digits.
 -- Assumes nothing.
 use borrow.Author.Needs.{needs}
-use Prim.Native.Nat.{_+_, _*_, _<_, _≤_, _^_}
+use Prim.Native.Nat.{_*_}
 use native.Mathlib.Omega.{arith}
 use Rattle.field.proofs.Field as F
 use Rattle.code.proofs.Loops.{long-small}
