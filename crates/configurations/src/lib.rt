@@ -58,7 +58,7 @@ fn of_code_2(k: u8) -> [u16; 4]
 }
 
 // Code 3: the whole table.
-pub fn table_3() -> [u16; 1024]
+fn table_3() -> [u16; 1024]
     ensures { λ r. ⌜ r ≡ listed 3 ⌝ }
 {
     CONFIGURATIONS_3
