@@ -1,5 +1,9 @@
 pub mod Words
 pub mod Loops
-pub mod Encode
+pub mod Encoding
+pub mod Sweeps
+pub mod Parts
+pub mod Roots
+pub mod Accepted
 pub mod Both
 pub mod Promise

@@ -1,15 +1,15 @@
 -- One turn of each loop over a word, and what is left of it.
 -- Assumes nothing.
-use mathlib.Core.Path.{_≡_, refl, sym, ap, _∙_}
-use mathlib.Core.Bool.{Bool, true, false, _&&_}
-use mathlib.Core.List.{List, [], _∷_}
+use mathlib.Core.Path.{_≡_, refl, sym, ap, ap₂, _∙_}
+use mathlib.Core.Bool.{true, false}
+use mathlib.Core.List.{List, [], _∷_, _++_, append-nil}
 use Prim.Native.Nat.{ℕ, zero, suc, _+_, _-_, _*_, _^_, _<_, _≤_}
 use native.Mathlib.Nat.{not-suc-le-zero, le-of-suc-le-suc, suc-mul}
 use native.Mathlib.Numerals.{add-one}
 use native.Mathlib.Omega.{arith}
-use lib.Dec.{T, eqb, ltb, lit≤}
-use lib.ListN.{length, getD, drop, drop-of-length-le}
-use lib.Seq.{drop-cons}
+use lib.Dec.{lit≤}
+use lib.ListN.{length, getD, set, take, drop, drop-of-length-le}
+use lib.Seq.{take-suc, take-all, drop-cons, append-snoc, set-at, length-take-le}
 use borrow.Author.Tests.{lt-ltb, le-ltb, eq-eqb, ne-eqb}
 use Rattle.field.specs.Field.{xor, times, alpha, width-good}
 use Rattle.field.proofs.Tests.{to-T, widths}
@@ -74,3 +74,17 @@ roots-none m r t ws h = let n : r + 1 - t ≡ 0 = omega arith in rw n refl
 pub roots-decide : (m r : ℕ) (ws : List ℕ) → length ws ≡ long m → symbols-good m ws ≡ true → is-codeword m r ws ≡ vanishes r 1 m ws
 unfolding is-codeword
 roots-decide m r ws n g = rw (eq-eqb _ _ n, g) refl
+
+-- a copy
+pub copy-step : (from to : List ℕ) (i : ℕ) → i < length from → i < length to →
+    set (take i from ++ drop i to) i (getD from i 0) ≡ take (i + 1) from ++ drop (i + 1) to
+copy-step from to i h l =
+    let c : ℕ = getD from i 0 in
+    ap (λ (r : List ℕ). set (take i from ++ r) i c) (drop-cons to i 0 l)
+    ∙ set-at (take i from) (getD to i 0) (drop (suc i) to) c i (length-take-le i from (omega arith))
+    ∙ sym (append-snoc (take i from) c (drop (suc i) to))
+    ∙ ap (λ (r : List ℕ). r ++ drop (suc i) to) (sym (take-suc from i 0 h))
+    ∙ ap (λ (k : ℕ). take k from ++ drop k to) (sym (add-one i))
+
+pub copy-done : (from to : List ℕ) (i : ℕ) → length from ≤ i → length to ≤ i → take i from ++ drop i to ≡ from
+copy-done from to i h l = ap₂ (λ (a b : List ℕ). a ++ b) (take-all i from h) (drop-of-length-le to l) ∙ append-nil from

@@ -1,21 +1,22 @@
 -- Words as lists of symbols, and their values: Horner's form, with which the proofs work, is tied to the sum of c_i · α^(i·t).
 -- Assumes nothing.
 use mathlib.Core.Path.{_≡_, refl, sym, ap, ap₂, _∙_}
-use mathlib.Core.Bool.{Bool, true, false, _&&_}
+use mathlib.Core.Bool.{Bool, true, _&&_}
 use mathlib.Core.List.{List, [], _∷_}
 use mathlib.Core.Logic.{_⊎_, inl, inr}
 use Prim.Native.Nat.{ℕ, zero, suc, _+_, _*_, _^_, _<_, _≤_}
-use native.Mathlib.Nat.{lt-of-lt-of-le, eq-or-lt-of-le, suc-mul, zero-mul, mul-comm, add-comm}
+use native.Mathlib.Nat.{lt-of-lt-of-le, eq-or-lt-of-le, suc-mul, zero-mul}
 use native.Mathlib.Omega.{arith}
 use lib.Dec.{T, eqb, ltb, ltb→lt, lt→ltb, eqb→eq, eqb-refl}
 use lib.Pow.{pow-pos}
-use lib.ListN.{length}
-use Rattle.field.specs.Field.{xor, times, alpha, width-good, square}
+use lib.ListN.{length, drop}
+use Rattle.field.specs.Field.{xor, times, alpha, width-good}
 use Rattle.code.specs.Code.{long, symbols-good, value-from, value-at, vanishes, is-codeword}
+unfoldable pub use Rattle.code.specs.Division.{horner}
 use Rattle.field.proofs.Tests.{and-l, and-r, to-T, from-T}
 use Rattle.field.proofs.Xor as X
 use Rattle.field.proofs.Field as F
-use Rattle.field.proofs.Field.{field, times-lt}
+use Rattle.field.proofs.Field.{times-lt}
 
 -- each symbol is below n
 abbrev pub Below : ℕ → List ℕ → Type 0
@@ -36,10 +37,10 @@ pub widen : {n p : ℕ} → n ≤ p → (ws : List ℕ) → Below n ws → Below
 widen l [] b = tt
 widen l (x ∷ xs) b = (lt-of-lt-of-le (b .0) l, widen l xs (b .1))
 
--- the value at x by Horner's rule, the first symbol the constant one
-unfoldable pub horner : (m x : ℕ) → List ℕ → ℕ
-horner m x [] = 0
-horner m x (c ∷ cs) = xor c (times m x (horner m x cs))
+pub drop-below : (n k : ℕ) (ws : List ℕ) → Below n ws → Below n (drop k ws)
+drop-below n zero ws b = b
+drop-below n (suc k) [] b = tt
+drop-below n (suc k) (c ∷ cs) b = drop-below n k cs (b .1)
 
 module _ (m : ℕ) (w : width-good m ≡ true) where
   pub horner-lt : (x : ℕ) (ws : List ℕ) → x < 2 ^ m → Below (2 ^ m) ws → horner m x ws < 2 ^ m

@@ -1,7 +1,7 @@
 -- What the calls on words answer and leave behind, for every input. Refusals in document 01's order: code 1; lengths 3, 4; symbols 6; membership 8.
 -- Assumes nothing: these are definitions.
 use mathlib.Core.Path.{_≡_}
-use mathlib.Core.Bool.{Bool, true, _&&_, not, cond}
+use mathlib.Core.Bool.{Bool, true, not, cond}
 use mathlib.Core.List.{List}
 use Prim.Native.Nat.{ℕ, zero, suc}
 use lib.Dec.{eqb}

@@ -1,5 +1,6 @@
 pub mod Code
 pub mod Bits
 pub mod Calls
+pub mod Division
 pub mod Within
 pub mod Promise

@@ -1,18 +1,117 @@
 // Reed-Solomon codes of 2^m - 1 symbols with roots α to α^r: encoder, message reader and codeword test.
 // `encode`, `read_word` and `check_word` are offered to callers: they take any input and promise what specs/Calls.antt says.
-// The others are for the crates above.
+// For the crates above: a code's numbers (`is_code`, `width_of`, `roots_of`, `long_of`, `row_long_of`, `message_long_of`), and
+// `symbols_good` and `is_codeword` on words that have the right length. Layers and syndromes are left to the crate `split`.
 ghost use mathlib.Core.Path.{_≡_};
 ghost use mathlib.Core.Bool.{true};
-ghost use Prim.Native.Nat.{_^_};
+ghost use mathlib.Core.List.{_++_};
+ghost use Prim.Native.Nat.{_+_, _<_};
+ghost use lib.ListN.{length, take, drop};
 ghost use Rattle.field.specs.Field.{width-good};
-ghost use Rattle.code.specs.Code.{code-good, width, roots, long, value-at, symbols-good, is-codeword};
-ghost use Rattle.code.specs.Within.{Word-within};
+ghost use Rattle.code.specs.Code.{code-good, width, roots, long, message-long, value-at, symbols-good, is-codeword};
+ghost use Rattle.code.specs.Division.{tails, product, spread, divided, multiplied};
+ghost use Rattle.code.specs.Calls.{encode-refusal, Encode-says, read-refusal, Read-says, check-refusal, checked};
+ghost use Rattle.code.specs.Within.{Word-within, Part-within, Place-within, Quotient-within, Message-within, Carries};
 ghost use Rattle.code.specs.Bits.{row-long};
 
 pub enum Membership {
     Codeword,
     NoCodeword,
     Refused(u32),
+}
+
+// Writes the codeword of a message into `output` and answers 0, or answers the number of a refusal and writes nothing.
+pub fn encode(code: u32, message: &[u8], output: &mut [u8]) -> u32
+    ensures { λ r. ⌜ Encode-says code (now (message .entry)) r (now (output .entry)) (now (output .exit)) ⌝ }
+{
+    let number = encode_refusal(code, message, output.len());
+    if number != 0 {
+        return number;
+    }
+    write_codeword(width_of(code), roots_of(code), message, output);
+    0
+}
+
+// Writes the message of a codeword into `output` and answers 0, or answers the number of a refusal and writes nothing.
+pub fn read_word(code: u32, word: &[u8], output: &mut [u8]) -> u32
+    ensures { λ r. ⌜ Read-says code (now (word .entry)) r (now (output .entry)) (now (output .exit)) ⌝ }
+{
+    let refusal = read_refusal(code, word, output.len());
+    if refusal != 0 {
+        return refusal;
+    }
+    let r = roots_of(code) as usize;
+    copy(&word[r..], output);
+    0
+}
+
+// Whether a word is a codeword, or the number of a refusal.
+pub fn check_word(code: u32, word: &[u8]) -> Membership
+    ensures { λ r. ⌜ r ≡ checked code (now (word .entry)) ⌝ }
+{
+    let refusal = check_refusal(code, word);
+    if refusal != 0 {
+        return Membership::Refused(refusal);
+    }
+    if is_codeword(width_of(code), roots_of(code), word) {
+        Membership::Codeword
+    } else {
+        Membership::NoCodeword
+    }
+}
+
+// What encoding is refused by, 0 for nothing.
+fn encode_refusal(code: u32, message: &[u8], output: usize) -> u32
+    ensures { λ r. ⌜ r ≡ encode-refusal code (now (message .entry)) output ⌝ }
+{
+    if !is_code(code) {
+        return 1;
+    }
+    let m = width_of(code);
+    let k = message_long_of(m, roots_of(code));
+    let n = long_of(m);
+    if message.len() != k {
+        return 3; // message not k long
+    }
+    if output != n {
+        return 4; // output not n long
+    }
+    if symbols_good(m, message) { 0 } else { 6 }
+}
+
+// What reading is refused by, 0 for nothing.
+fn read_refusal(code: u32, word: &[u8], output: usize) -> u32
+    ensures { λ r. ⌜ r ≡ read-refusal code (now (word .entry)) output ⌝ }
+{
+    if !is_code(code) {
+        return 1;
+    }
+    let m = width_of(code);
+    let r = roots_of(code);
+    if word.len() != long_of(m) {
+        return 3;
+    }
+    if output != message_long_of(m, r) {
+        return 4;
+    }
+    if !symbols_good(m, word) {
+        return 6;
+    }
+    if is_codeword(m, r, word) { 0 } else { 8 }
+}
+
+// What the codeword test is refused by, 0 for nothing.
+fn check_refusal(code: u32, word: &[u8]) -> u32
+    ensures { λ r. ⌜ r ≡ check-refusal code (now (word .entry)) ⌝ }
+{
+    if !is_code(code) {
+        return 1;
+    }
+    let m = width_of(code);
+    if word.len() != long_of(m) {
+        return 3;
+    }
+    if symbols_good(m, word) { 0 } else { 6 }
 }
 
 // Whether a number is that of a code.
@@ -55,12 +154,12 @@ pub fn row_long_of(m: u32) -> usize
     if m == 3 { 21 } else { 60 }
 }
 
-// The number of symbols of a field: 2^m.
-fn below_of(m: u32) -> u8
-    requires { ⌜ width-good m ≡ true ⌝ }
-    ensures { λ r. ⌜ r ≡ 2 ^ m ⌝ }
+// How many symbols a message has: k.
+pub fn message_long_of(m: u32, r: u32) -> usize
+    requires { ⌜ (width-good m ≡ true) × (r < long m) ⌝ }
+    ensures { λ x. ⌜ x ≡ message-long m r ⌝ }
 {
-    if m == 3 { 8 } else { 16 }
+    long_of(m) - r as usize
 }
 
 // Whether every symbol is below 2^m.
@@ -68,7 +167,7 @@ pub fn symbols_good(m: u32, word: &[u8]) -> bool
     requires { ⌜ width-good m ≡ true ⌝ }
     ensures { λ x. ⌜ x ≡ symbols-good m (now (word .entry)) ⌝ }
 {
-    let top = below_of(m);
+    let top = field::size(m);
     let mut i: usize = 0;
     while i < word.len() {
         if top <= word[i] {
@@ -108,4 +207,100 @@ pub fn is_codeword(m: u32, r: u32, word: &[u8]) -> bool
         t += 1;
     }
     true
+}
+
+// A copy.
+fn copy(from: &[u8], to: &mut [u8])
+    requires { ⌜ length (now from) ≡ length (now to) ⌝ }
+    ensures { λ x. ⌜ now (to .exit) ≡ now (from .entry) ⌝ }
+{
+    let mut i: usize = 0;
+    while i < from.len() {
+        to[i] = from[i];
+        i += 1;
+    }
+}
+
+// Division by X + x: each symbol becomes the value at x of the part from it on.
+fn divide_out(m: u32, x: u8, part: &mut [u8])
+    requires { ⌜ Part-within m x (now part) ⌝ }
+    ensures { λ u. ⌜ now (part .exit) ≡ tails m x (now (part .entry)) ⌝ }
+{
+    let mut v: u8 = 0;
+    let mut i = part.len();
+    while 0 < i {
+        i -= 1;
+        v = field::add(part[i], field::multiply(m, x, v));
+        part[i] = v;
+    }
+}
+
+// The product by X + x of what follows the first symbol, with that symbol added: to each is added x times the next.
+fn multiply_in(m: u32, x: u8, part: &mut [u8])
+    requires { ⌜ Part-within m x (now part) ⌝ }
+    ensures { λ u. ⌜ now (part .exit) ≡ spread m x (now (part .entry)) ⌝ }
+{
+    let mut next: u8 = 0;
+    let mut i = part.len();
+    while 0 < i {
+        i -= 1;
+        let c = part[i];
+        part[i] = field::add(c, field::multiply(m, x, next));
+        next = c;
+    }
+}
+
+// A message divided by X + α, then by X + α^2, and so on to α^r.
+fn divide_all(m: u32, r: u32, part: &mut [u8])
+    requires { ⌜ Part-within m r (now part) ⌝ }
+    ensures { λ u. ⌜ now (part .exit) ≡ divided m r (now (part .entry)) ⌝ }
+{
+    let mut t: u32 = 0;
+    while t < r {
+        t += 1;
+        divide_out(m, field::power(m, t), part);
+    }
+}
+
+// What stands after a place, multiplied by X + x, from that place on.
+fn multiply_at(m: u32, x: u8, at: usize, out: &mut [u8])
+    requires { ⌜ Place-within m x at (now out) ⌝ }
+    ensures { λ u. ⌜ now (out .exit) ≡ take at (now (out .entry)) ++ product m x 0 (drop (at + 1) (now (out .entry))) ⌝ }
+{
+    out[at] = 0;
+    multiply_in(m, x, &mut out[at..]);
+}
+
+// What stands from place r on, multiplied by X + α^r, then by X + α^(r-1), and so on to α, each from one place further down.
+fn multiply_all(m: u32, r: u32, out: &mut [u8])
+    requires { ⌜ Quotient-within m r (now out) ⌝ }
+    ensures { λ u. ⌜ now (out .exit) ≡ multiplied m r (drop r (now (out .entry))) ⌝ }
+{
+    let mut t = r;
+    while 0 < t {
+        let x = field::power(m, t);
+        t -= 1;
+        multiply_at(m, x, t as usize, out);
+    }
+}
+
+// A message divided by every X + α^t, in a part of its length.
+fn write_quotient(m: u32, r: u32, message: &[u8], part: &mut [u8])
+    requires { ⌜ Part-within m r (now message) ⌝ }
+    requires { ⌜ length (now message) ≡ length (now part) ⌝ }
+    ensures { λ u. ⌜ now (part .exit) ≡ divided m r (now (message .entry)) ⌝ }
+{
+    copy(message, part);
+    divide_all(m, r, part);
+}
+
+// The codeword of a message that is not refused: divided by X + α^t for t from 1 to r, and multiplied by them again with a zero
+// put before it each time, the message stays where it is and the word has those roots.
+fn write_codeword(m: u32, r: u32, message: &[u8], output: &mut [u8])
+    requires { ⌜ Message-within m r (now message) (length (now output)) ⌝ }
+    ensures { λ u. ⌜ Carries m r (now (message .entry)) (now (output .exit)) ⌝ }
+{
+    let k = r as usize;
+    write_quotient(m, r, message, &mut output[k..]);
+    multiply_all(m, r, output);
 }

@@ -2,13 +2,12 @@
 -- Assumes nothing.
 use mathlib.Core.Path.{_≡_, refl, sym, ap, _∙_, subst}
 use mathlib.Core.Bool.{Bool, true, false, cond, not, _||_}
-use Prim.Native.Nat.{ℕ, _-_, _^_, _<_, _≤_}
-use native.Mathlib.Omega.{arith}
-use lib.Dec.{T, eqb, leb, ltb}
+use Prim.Native.Nat.{ℕ, _-_, _^_, _<_}
+use lib.Dec.{T, eqb, leb}
 use lib.Arith.{lt→nleb}
-use Rattle.field.specs.Field.{width-good, xor, doubled, alpha, times}
-use Rattle.field.specs.Laws.{Field-laws, Fields, Power-laws, Powers}
-use Rattle.field.proofs.Tests.{all, at, to-T, from-T, widths}
+use Rattle.field.specs.Field.{width-good, xor, doubled, alpha}
+use Rattle.field.specs.Laws.{Fields, Powers}
+use Rattle.field.proofs.Tests.{all, at, widths}
 use Rattle.field.proofs.Xor as X
 use Rattle.field.proofs.Field as F
 

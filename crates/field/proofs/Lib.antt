@@ -3,3 +3,4 @@ pub mod Xor
 pub mod Field
 pub mod Laws
 pub mod Tables
+pub mod Refusals

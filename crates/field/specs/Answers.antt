@@ -1,5 +1,5 @@
 -- What the calls on elements answer, for every input (document 01, 'Codes and fields'). Assumes nothing: these are definitions.
-use mathlib.Core.Bool.{Bool, _&&_, not, cond}
+use mathlib.Core.Bool.{_&&_, not, cond}
 use Prim.Native.Nat.{ℕ, zero, suc, _^_}
 use lib.Dec.{ltb, eqb}
 use Rattle.field.specs.declared.Element.{Element}

@@ -9,6 +9,10 @@ pub record Elements (m a b : ℕ) : Type 0 where
   pub first : a < 2 ^ m
   pub second : b < 2 ^ m
 
+pub record Inside (m a : ℕ) : Type 0 where
+  pub width : width-good m ≡ true
+  pub inside : a < 2 ^ m
+
 pub record Nonzero (m a : ℕ) : Type 0 where
   pub width : width-good m ≡ true
   pub inside : a < 2 ^ m

@@ -1,12 +1,12 @@
 // The fields of 8 and of 16 elements. An element is a value with its sum, product and inverse; each call refuses by itself
-// and promises, for every input, the answer that specs/Answers.antt gives it. `add`, `multiply` and `power` are for the
-// crates above, on numbers that are known to be elements.
+// and promises, for every input, the answer that specs/Answers.antt gives it. `is_width`, `size`, `add`, `multiply` and `power`
+// are for the crates above, on numbers that are known to be elements.
 ghost use mathlib.Core.Path.{_≡_};
 ghost use mathlib.Core.Bool.{true};
 ghost use Prim.Native.Nat.{_^_, _<_};
-ghost use Rattle.field.specs.Field.{width-good, xor, times, alpha};
-ghost use Rattle.field.specs.Within.{Elements, Nonzero, Log};
-ghost use Rattle.field.specs.Answers.{made, sum-of, product-of, inverse-of};
+ghost use Rattle.field.specs.Field.{width-good, xor, times, alpha, inverse};
+ghost use Rattle.field.specs.Within.{Elements, Inside, Nonzero, Log};
+ghost use Rattle.field.specs.Answers.{one-refusal, two-refusal, made, sum-of, product-of, inverse-of};
 
 // The powers of α from exponent 0.
 pub const ANTILOG_3: [u8; 7] = [1, 2, 4, 3, 6, 7, 5];
@@ -28,6 +28,105 @@ pub struct Element {
 pub enum Answer {
     Found(Element),
     Refused(u32),
+}
+
+impl Element {
+    // The element of the field of 2^m with a number.
+    pub fn new(m: u32, number: u8) -> Answer
+        ensures { λ r. ⌜ r ≡ made m number ⌝ }
+    {
+        let made = Element { m, value: number };
+        let refusal = one_refusal(made);
+        if refusal != 0 {
+            return Answer::Refused(refusal);
+        }
+        Answer::Found(made)
+    }
+
+    pub fn sum(self, other: Element) -> Answer
+        ensures { λ r. ⌜ r ≡ sum-of self other ⌝ }
+    {
+        let refusal = two_refusal(self, other);
+        if refusal != 0 {
+            return Answer::Refused(refusal);
+        }
+        Answer::Found(Element {
+            m: self.m,
+            value: add(self.value, other.value),
+        })
+    }
+
+    pub fn product(self, other: Element) -> Answer
+        ensures { λ r. ⌜ r ≡ product-of self other ⌝ }
+    {
+        let refusal = two_refusal(self, other);
+        if refusal != 0 {
+            return Answer::Refused(refusal);
+        }
+        Answer::Found(Element {
+            m: self.m,
+            value: multiply(self.m, self.value, other.value),
+        })
+    }
+
+    // The inverse of 0 is given as 0.
+    pub fn inverse(self) -> Answer
+        ensures { λ r. ⌜ r ≡ inverse-of self ⌝ }
+    {
+        let refusal = one_refusal(self);
+        if refusal != 0 {
+            return Answer::Refused(refusal);
+        }
+        Answer::Found(Element {
+            m: self.m,
+            value: invert(self.m, self.value),
+        })
+    }
+}
+
+// Whether there is a field of 2^m here.
+pub fn is_width(m: u32) -> bool
+    ensures { λ r. ⌜ r ≡ width-good m ⌝ }
+{
+    if m < 3 {
+        return false;
+    }
+    m <= 4
+}
+
+// How many elements a field has: 2^m.
+pub fn size(m: u32) -> u8
+    requires { ⌜ width-good m ≡ true ⌝ }
+    ensures { λ r. ⌜ r ≡ 2 ^ m ⌝ }
+{
+    if m == 3 { 8 } else { 16 }
+}
+
+// What a call on one element is refused by, 0 for nothing.
+fn one_refusal(e: Element) -> u32
+    ensures { λ r. ⌜ r ≡ one-refusal e ⌝ }
+{
+    if !is_width(e.m) {
+        return 1;
+    }
+    if e.value < size(e.m) { 0 } else { 6 }
+}
+
+// What a call on two elements is refused by, 0 for nothing.
+fn two_refusal(a: Element, b: Element) -> u32
+    ensures { λ r. ⌜ r ≡ two-refusal a b ⌝ }
+{
+    if !is_width(a.m) {
+        return 1;
+    }
+    if a.m != b.m {
+        return 1;
+    }
+    let top = size(a.m);
+    if top <= a.value {
+        return 6;
+    }
+    if b.value < top { 0 } else { 6 }
 }
 
 // The sum of two elements.
@@ -74,4 +173,16 @@ pub fn multiply(m: u32, a: u8, b: u8) -> u8
         return 0;
     }
     power(m, log(m, a) + log(m, b))
+}
+
+// The inverse of an element: the rest of a turn from its exponent; that of 0 is itself.
+fn invert(m: u32, a: u8) -> u8
+    requires { ⌜ Inside m a ⌝ }
+    ensures { λ r. ⌜ r ≡ inverse m a ⌝ }
+{
+    if a == 0 {
+        return a;
+    }
+    let turn = size(m) as u32 - 1;
+    power(m, turn - log(m, a))
 }

@@ -26,7 +26,7 @@ returns : tie.Need-returns Inv-loop μ-loop
 returns c = let s = c .before .before .before in let b = s .before .before in let a = b .args in
     sym (roots-decide (a .m) (a .r) (a .word .now) (b .pre .count) (b .pre .symbols)
     ∙ s .loop .inv .2
-    ∙ root-missed (a .m) (a .r) (s .loop .t) (a .word .now) (c .before .before .loop-test .taken) (λ e. c .if1 .taken (c .before .value .ensures ∙ e)))
+    ∙ root-missed (a .m) (a .r) (s .loop .t) (a .word .now) (search needs) (λ e. c .if1 .taken (c .before .value .ensures ∙ e)))
 
 add-t : tie.Need-add-t Inv-loop μ-loop
 add-t c = let b = c .before .before .before .before .before in omega (arith, long-small (b .args .m) (b .pre .width), b .pre)
@@ -38,7 +38,7 @@ loop-again : tie.Need-loop-again Inv-loop μ-loop
 loop-again c = let s = c .before .before .before in let b = s .before .before in let a = b .args in (
   search needs,
   search needs,
-  s .loop .inv .2 ∙ root-met (a .m) (a .r) (s .loop .t) (a .word .now) (c .before .before .loop-test .taken) (sym (c .before .value .ensures) ∙ c .if1 .left),
+  s .loop .inv .2 ∙ root-met (a .m) (a .r) (s .loop .t) (a .word .now) (search needs) (sym (c .before .value .ensures) ∙ c .if1 .left),
 )
 
 returns-2 : tie.Need-returns-2 Inv-loop μ-loop

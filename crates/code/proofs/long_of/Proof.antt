@@ -1,7 +1,7 @@
 -- `code::long_of` meets its contract.
 -- Assumes nothing.
-use Rattle.code.specs.Code.{long}
 use Rattle.field.proofs.Tests.{not-three}
+use Rattle.code.specs.Code.{long}
 use Rattle.code.proofs.long_of.Statement.{statement}
 use Rattle.code.proofs.long_of.Tie as tie
 

@@ -1,8 +1,8 @@
 -- `code::row_long_of` meets its contract.
 -- Assumes nothing.
+use Rattle.field.proofs.Tests.{not-three}
 use Rattle.code.specs.Code.{long}
 use Rattle.code.specs.Bits.{row-long}
-use Rattle.field.proofs.Tests.{not-three}
 use Rattle.code.proofs.row_long_of.Statement.{statement}
 use Rattle.code.proofs.row_long_of.Tie as tie
 

@@ -1,10 +1,10 @@
 -- `code::symbols_good` meets its contract: what is left of the word is as good as the whole.
 -- Assumes nothing.
 use mathlib.Core.Path.{_≡_, refl, sym, _∙_}
-use Prim.Native.Nat.{_≤_, _-_, _^_}
+use Prim.Native.Nat.{_≤_, _-_}
+use lib.ListN.{length, drop}
 use native.Mathlib.Omega.{arith}
 use borrow.Author.Needs.{needs}
-use lib.ListN.{length, drop}
 use Rattle.code.specs.Code.{symbols-good}
 use Rattle.code.proofs.Loops.{symbol-good, symbol-bad, symbols-none}
 use Rattle.code.proofs.symbols_good.Statement.{statement}
@@ -16,8 +16,8 @@ Inv-loop m word top i₀ i = (i ≤ length word) × (symbols-good m word ≡ sym
 abbrev μ-loop : tie.MeasureT-loop
 μ-loop m word top i₀ i = length word - i
 
-below-of-requires : tie.Need-below-of-requires Inv-loop μ-loop
-below-of-requires c κs = search needs
+size-requires : tie.Need-size-requires Inv-loop μ-loop
+size-requires c κs = search needs
 
 loop-holds : tie.Need-loop-holds Inv-loop μ-loop
 loop-holds c = (search needs, refl)
@@ -27,7 +27,7 @@ shared-slice-read-if1 c = search needs
 
 returns : tie.Need-returns Inv-loop μ-loop
 returns c = let s = c .before .before .before in let g = s .before in let a = g .before .before .args in
-    sym (s .loop .inv .1 ∙ symbol-bad (a .m) (a .word .now) (s .loop .i) (c .before .before .loop-test .taken) (rw (g .below-of .ensures) at (c .if1 .taken)))
+    sym (s .loop .inv .1 ∙ symbol-bad (a .m) (a .word .now) (s .loop .i) (c .before .before .loop-test .taken) (omega (arith, g .size .ensures)))
 
 add-i : tie.Need-add-i Inv-loop μ-loop
 add-i c = search needs
@@ -38,7 +38,7 @@ loop-less c = search needs
 loop-again : tie.Need-loop-again Inv-loop μ-loop
 loop-again c = let s = c .before .before .before in let g = s .before in let a = g .before .before .args in (
   search needs,
-  s .loop .inv .1 ∙ symbol-good (a .m) (a .word .now) (s .loop .i) (c .before .before .loop-test .taken) (rw (g .below-of .ensures) at (c .if1 .left)),
+  s .loop .inv .1 ∙ symbol-good (a .m) (a .word .now) (s .loop .i) (c .before .before .loop-test .taken) (rw (g .size .ensures) at (c .if1 .left)),
 )
 
 returns-2 : tie.Need-returns-2 Inv-loop μ-loop
@@ -51,7 +51,7 @@ symbols-good-spec =
     (tie.spec
     Inv-loop
     μ-loop
-    below-of-requires
+    size-requires
     loop-holds
     shared-slice-read-if1
     returns

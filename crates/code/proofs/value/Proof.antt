@@ -1,11 +1,11 @@
 -- `code::value` meets its contract: the sum so far and the value of what is left make the value of the word.
 -- Assumes nothing.
-use mathlib.Core.Path.{_≡_, refl, sym, ap, _∙_}
-use Prim.Native.Nat.{_≤_, _+_, _-_, _*_}
+use mathlib.Core.Path.{_≡_, sym, _∙_}
+use Prim.Native.Nat.{_≤_, _-_, _*_}
 use native.Mathlib.Omega.{arith}
-use borrow.Author.Needs.{needs}
-use lib.ListN.{length, drop}
 use native.Mathlib.Nat.{zero-mul}
+use lib.ListN.{length, drop}
+use borrow.Author.Needs.{needs}
 use Rattle.field.specs.Field.{xor}
 use Rattle.field.proofs.Xor as X
 use Rattle.field.proofs.Field as F

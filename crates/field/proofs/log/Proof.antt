@@ -1,7 +1,7 @@
 -- `field::log` meets its contract: the table's rule.
 -- Assumes nothing.
 use mathlib.Core.Path.{_≡_}
-use Prim.Native.Nat.{ℕ, _^_, _<_}
+use Prim.Native.Nat.{_<_}
 use native.Mathlib.Omega.{arith}
 use Rattle.field.proofs.Tests.{not-three}
 use Rattle.field.proofs.Tables.{exponent-3, exponent-4}

@@ -1,38 +1,38 @@
 -- Each message has one codeword: a word that vanishes at a root x is X + x by what synthetic division leaves.
 -- Assumes nothing.
-use mathlib.Core.Path.{_≡_, refl, sym, ap, ap₂, _∙_, subst}
-use mathlib.Core.Bool.{Bool, true, false, _&&_}
+use mathlib.Core.Path.{_≡_, refl, sym, ap, ap₂, _∙_}
+use mathlib.Core.Bool.{true}
 use mathlib.Core.List.{List, [], _∷_}
 use mathlib.Core.Logic.{_⊎_, inl, inr}
-use Prim.Native.Nat.{ℕ, zero, suc, _+_, _-_, _*_, _^_, _<_, _≤_}
-use native.Mathlib.Nat.{not-suc-le-zero, le-of-suc-le-suc, eq-or-lt-of-le, zero-add, suc-add}
+use Prim.Native.Nat.{ℕ, zero, suc, _+_, _-_, _^_, _<_, _≤_}
+use native.Mathlib.Nat.{not-suc-le-zero, le-of-suc-le-suc, eq-or-lt-of-le, zero-add, suc-add, add-zero, add-suc}
 use native.Mathlib.Omega.{arith}
-use lib.Dec.{T, eqb, eqb→eq, eqb-refl}
 use lib.Pow.{pow-pos}
 use lib.ListN.{length, drop}
 use Rattle.field.specs.Field.{xor, times, alpha, width-good}
 use Rattle.code.specs.Code.{long, message-long, symbols-good, is-codeword, message}
-use Rattle.field.proofs.Tests.{and-l, and-r, to-T, from-T}
+use Rattle.code.specs.Division.{tails, product, spread, divided, multiplied}
+use Rattle.field.proofs.Tests.{to-T}
 use Rattle.field.proofs.Xor as X
 use Rattle.field.proofs.Field as F
 use Rattle.field.proofs.Field.{field, times-lt}
 use Rattle.code.proofs.Words as W
 use Rattle.code.proofs.Words.{Below, horner, horner-lt, value-horner, Codeword-parts, codeword-parts, parts-codeword}
 
--- c ∷ cs divided by X + x leaves its own value at x, and gives the values of the tails of cs
-unfoldable pub tails : (m x : ℕ) → List ℕ → List ℕ
-tails m x [] = []
-tails m x (d ∷ ds) = horner m x (d ∷ ds) ∷ tails m x ds
-
--- p + (X + x) q
-unfoldable pub product : (m x p : ℕ) → List ℕ → List ℕ
-product m x p [] = p ∷ []
-product m x p (y ∷ ys) = xor p (times m x y) ∷ product m x y ys
-
 -- the word with the k roots α^t, α^(t+1), .. that ends in the message
 unfoldable pub encode : (m k t : ℕ) → List ℕ → List ℕ
 encode m zero t ms = ms
 encode m (suc k) t ms = product m (alpha m t) 0 (encode m k (suc t) (tails m (alpha m t) ms))
+
+multiplied-encode : (m i k : ℕ) (ms : List ℕ) → multiplied m i (encode m k (suc i) (divided m i ms)) ≡ encode m (i + k) 1 ms
+unfolding encode divided multiplied
+multiplied-encode m zero k ms = ap (λ (x : ℕ). encode m x 1 ms) (sym (zero-add k))
+multiplied-encode m (suc i) k ms = multiplied-encode m i (suc k) ms ∙ ap (λ (x : ℕ). encode m x 1 ms) (add-suc i k ∙ sym (suc-add i k))
+
+-- all divisions first, and then all products
+pub encode-in-turn : (m r : ℕ) (ms : List ℕ) → multiplied m r (divided m r ms) ≡ encode m r 1 ms
+unfolding encode
+encode-in-turn m r ms = multiplied-encode m r 0 ms ∙ ap (λ (x : ℕ). encode m x 1 ms) (add-zero r)
 
 -- ---- lengths and tops
 
@@ -59,24 +59,20 @@ drop-tails m x zero ws = refl
 drop-tails m x (suc k) [] = refl
 drop-tails m x (suc k) (d ∷ ds) = drop-tails m x k ds
 
-after : (m x : ℕ) → List ℕ → List ℕ
-after m x [] = []
-after m x (y ∷ ys) = product m x y ys
-
-drop-product : (m x p k : ℕ) (q : List ℕ) → k ≤ length q → drop (suc k) (product m x p q) ≡ after m x (drop k q)
-unfolding product after
+drop-product : (m x p k : ℕ) (q : List ℕ) → k ≤ length q → drop (suc k) (product m x p q) ≡ spread m x (drop k q)
+unfolding product spread
 drop-product m x p zero [] h = refl
 drop-product m x p zero (y ∷ ys) h = refl
 drop-product m x p (suc k) [] h = absurd (not-suc-le-zero h)
 drop-product m x p (suc k) (y ∷ ys) h = drop-product m x y k ys (le-of-suc-le-suc h)
 
 module _ (m : ℕ) (w : width-good m ≡ true) where
-  tails-below : (x : ℕ) (ws : List ℕ) → x < 2 ^ m → Below (2 ^ m) ws → Below (2 ^ m) (tails m x ws)
+  pub tails-below : (x : ℕ) (ws : List ℕ) → x < 2 ^ m → Below (2 ^ m) ws → Below (2 ^ m) (tails m x ws)
   unfolding tails
   tails-below x [] hx b = tt
   tails-below x (d ∷ ds) hx b = (horner-lt m w x (d ∷ ds) hx b, tails-below x ds hx (b .1))
 
-  product-below : (x p : ℕ) (q : List ℕ) → x < 2 ^ m → p < 2 ^ m → Below (2 ^ m) q → Below (2 ^ m) (product m x p q)
+  pub product-below : (x p : ℕ) (q : List ℕ) → x < 2 ^ m → p < 2 ^ m → Below (2 ^ m) q → Below (2 ^ m) (product m x p q)
   unfolding product
   product-below x p [] hx hp b = (hp, tt)
   product-below x p (y ∷ ys) hx hp b = (X.below m p (times m x y) hp (F.times-lt m w x y hx (b .0)), product-below x y ys hx (b .0) (b .1))
@@ -95,10 +91,10 @@ module _ (m : ℕ) (w : width-good m ≡ true) where
   undo x c [] hx = simp (F.times-zero-r, X.zero-r)
   undo x c (d ∷ ds) hx = ap₂ (λ (y : ℕ) (ys : List ℕ). y ∷ ys) (X.uncancel c (times m x (horner m x (d ∷ ds)))) (undo x d ds hx)
 
-  undo-after : (x : ℕ) (ws : List ℕ) → x < 2 ^ m → after m x (tails m x ws) ≡ ws
-  unfolding after tails
-  undo-after x [] hx = refl
-  undo-after x (d ∷ ds) hx = undo x d ds hx
+  undo-spread : (x : ℕ) (ws : List ℕ) → x < 2 ^ m → spread m x (tails m x ws) ≡ ws
+  unfolding spread tails
+  undo-spread x [] hx = refl
+  undo-spread x (d ∷ ds) hx = undo x d ds hx
 
   -- the value at y of p + (X + x) q
   product-value : (x y p : ℕ) (q : List ℕ) → x < 2 ^ m → y < 2 ^ m → p < 2 ^ m → Below (2 ^ m) q →
@@ -120,7 +116,7 @@ module _ (m : ℕ) (w : width-good m ≡ true) where
   encode-top (suc k) t ms =
       let x : ℕ = alpha m t in
       drop-product m x 0 k (encode m k (suc t) (tails m x ms)) (omega (arith, encode-length m k (suc t) (tails m x ms)))
-      ∙ ap (after m x) (encode-top k (suc t) (tails m x ms)) ∙ undo-after x ms (F.alpha-lt m w t)
+      ∙ ap (spread m x) (encode-top k (suc t) (tails m x ms)) ∙ undo-spread x ms (F.alpha-lt m w t)
 
   pub encode-roots : (k t s : ℕ) (ms : List ℕ) → Below (2 ^ m) ms → t ≤ s → s < t + k → horner m (alpha m s) (encode m k t ms) ≡ 0
   unfolding encode

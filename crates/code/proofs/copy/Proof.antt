@@ -1,0 +1,61 @@
+-- `code::copy` meets its contract.
+-- Assumes nothing.
+use mathlib.Core.List.{List, _++_}
+use mathlib.Core.Path.{ap, _≡_, refl, _∙_}
+use Prim.Native.Nat.{ℕ, _≤_, _-_}
+use lib.ListN.{getD, set, length-set, length, take, drop}
+use borrow.Author.Needs.{needs}
+use Rattle.code.proofs.Loops.{copy-step, copy-done}
+use Rattle.code.proofs.copy.Statement.{statement}
+use Rattle.code.proofs.copy.Tie as tie
+
+abbrev Inv-loop : tie.InvT-loop
+Inv-loop from to₀ i₀ to i = (i ≤ length from) × (length to ≡ length to₀) × (to ≡ take i from ++ drop i to₀)
+
+abbrev μ-loop : tie.MeasureT-loop
+μ-loop from to₀ i₀ to i = length from - i
+
+loop-holds : tie.Need-loop-holds Inv-loop μ-loop
+loop-holds c = (search needs, refl, refl)
+
+shared-slice-read-to : tie.Need-shared-slice-read-to Inv-loop μ-loop
+shared-slice-read-to c = search needs
+
+slice-write-to : tie.Need-slice-write-to Inv-loop μ-loop
+slice-write-to c = search needs
+
+add-i : tie.Need-add-i Inv-loop μ-loop
+add-i c = search needs
+
+loop-less : tie.Need-loop-less Inv-loop μ-loop
+loop-less c = search needs
+
+loop-again : tie.Need-loop-again Inv-loop μ-loop
+loop-again c = let s = c .before .before in let a = s .before .args in (
+  search needs,
+  length-set (s .loop .to) (s .loop .i) (getD (a .from .now) (s .loop .i) 0) ∙ s .loop .inv .1,
+  ap (λ (l : List ℕ). set l (s .loop .i) (getD (a .from .now) (s .loop .i) 0)) (s .loop .inv .2)
+      ∙ copy-step (a .from .now) (a .to .now) (s .loop .i) (c .before .loop-test .taken) (search needs),
+)
+
+same-length : tie.Need-same-length Inv-loop μ-loop
+same-length c = c .before .loop .inv .1
+
+returns : tie.Need-returns Inv-loop μ-loop
+returns c = let s = c .before in let a = s .before .args in
+    s .loop .inv .2 ∙ copy-done (a .from .now) (a .to .now) (s .loop .i) (c .loop-test .left) (search needs)
+
+pub copy-spec : {M : Type 1} → statement M
+copy-spec =
+    tie.close
+    (tie.spec
+    Inv-loop
+    μ-loop
+    loop-holds
+    shared-slice-read-to
+    slice-write-to
+    add-i
+    loop-less
+    loop-again
+    same-length
+    returns)

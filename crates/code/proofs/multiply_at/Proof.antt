@@ -1,0 +1,62 @@
+-- `code::multiply_at` meets its contract.
+-- Assumes nothing.
+use mathlib.Core.Path.{ap₂, ap, _∙_}
+use mathlib.Core.Bool.{Bool, _&&_}
+use mathlib.Core.List.{List, _++_}
+use Prim.Native.Nat.{_-_, _^_, ℕ}
+use lib.ListN.{length, set, take, length-set}
+use lib.Pow.{pow-pos}
+use borrow.Author.Tests.{lt-ltb}
+use borrow.Rule.Slice.PartMut.{same-len-mid}
+use borrow.Author.Needs.{needs}
+use Rattle.code.specs.Code.{symbols-good}
+use Rattle.code.specs.Division.{spread}
+use Rattle.code.proofs.Parts.{cleared, put-cleared}
+use Rattle.code.proofs.multiply_at.Statement.{statement}
+use Rattle.code.proofs.multiply_at.Tie as tie
+
+slice-write-out : tie.Need-slice-write-out
+slice-write-out c = search needs
+
+sub-multiply-in : tie.Need-sub-multiply-in
+sub-multiply-in c = simp length-set (search needs)
+
+part-multiply-in-start : tie.Need-part-multiply-in-start
+part-multiply-in-start c = simp length-set (search needs)
+
+part-multiply-in-end : tie.Need-part-multiply-in-end
+part-multiply-in-end c = search needs
+
+multiply-in-requires : tie.Need-multiply-in-requires
+unfolding symbols-good
+multiply-in-requires c κs = let b = c .before .before in
+    rw (cleared (b .args .out .now) (b .args .at) (b .pre .room))
+    (record {
+      width = search needs;
+      point = search needs;
+      symbols = ap₂ (λ (x y : Bool). x && y) (lt-ltb 0 (2 ^ b .args .m) (pow-pos (b .args .m))) (b .pre .symbols);
+    })
+
+same-length : tie.Need-same-length
+same-length c = let b = c .before .before .before .before .before in let l = set (b .args .out .now) (b .args .at) 0 in
+    same-len-mid (b .args .at) (length l - b .args .at) l (c .before .before .multiply-in .last .1 .1 .0) (c .before .before .multiply-in .kept .1 .1 .0)
+    ∙ length-set (b .args .out .now) (b .args .at) 0
+
+returns : tie.Need-returns
+unfolding spread
+returns c = let b = c .before .before .before .before .before in let l = b .args .out .now in
+    put-cleared l (b .args .at) (b .pre .room) (c .before .before .multiply-in .last .1 .1 .0)
+    ∙ ap (λ (p : List ℕ). take (b .args .at) l ++ p)
+    (c .before .before .multiply-in .ensures ∙ ap (spread (b .args .m) (b .args .x)) (cleared l (b .args .at) (b .pre .room)))
+
+pub multiply-at-spec : {M : Type 1} → statement M
+multiply-at-spec =
+    tie.close
+    (tie.spec
+    slice-write-out
+    sub-multiply-in
+    part-multiply-in-start
+    part-multiply-in-end
+    multiply-in-requires
+    same-length
+    returns)

@@ -1,0 +1,20 @@
+// Runs the values on record and compares them: one line a topic, how many of its comparisons agree.
+mod codes;
+mod fields;
+mod tally;
+
+use tally::Tally;
+
+fn main() {
+    report(b"fields", fields::agree());
+    report(b"codes", codes::agree());
+}
+
+fn report(topic: &[u8], t: Tally) {
+    io::write_all(1, topic);
+    io::write_all(1, b": ");
+    io::print_decimal(1, t.agreed);
+    io::write_all(1, b" of ");
+    io::print_decimal(1, t.total);
+    io::write_all(1, b" agree\n");
+}
