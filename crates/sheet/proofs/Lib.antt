@@ -1,0 +1,5 @@
+pub mod Digits
+pub mod Items
+pub mod Forms
+pub mod Bytes
+pub mod Trips
