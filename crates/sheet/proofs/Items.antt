@@ -5,15 +5,15 @@ use mathlib.Core.Logic.{_⊎_, inl, inr}
 use mathlib.Core.Bool.{Bool, true, false, _&&_, not, cond, false≢true}
 use mathlib.Core.List.{List, [], _∷_, _++_, append-nil}
 use Prim.Native.Nat.{ℕ, zero, suc, _+_, _*_, _-_, _/_, _%_, _^_, _<_, _≤_, min}
-use native.Mathlib.Nat.{div-eq-of-lt, lt-of-lt-of-le, min-eq-left, min-eq-right, mul-suc, mul-le-mul-left, min-le-left, min-le-right, min-zero, zero-sub, mul-zero, sub-eq-zero-of-le, lt-of-not-le}
+use native.Mathlib.Nat.{div-eq-of-lt, lt-of-lt-of-le, min-eq-left, min-eq-right, mul-suc, le-trans, pow-le-pow-right, min-le-left, min-zero, zero-sub, mul-zero, sub-eq-zero-of-le}
 use native.Mathlib.Omega.{arith}
 use borrow.Author.Tests.{eqb-true, eq-eqb, not-false, leb-true, leb-false}
 use lib.Dec.{eqb, leb}
-use lib.Pow.{pow-mono}
-use lib.ListN.{length, take, drop, length-append, length-take, length-drop, take-append-drop, drop-of-length-le}
+use lib.ListN.{length, getD, take, drop, length-append, length-take, length-drop, take-append-drop, drop-of-length-le}
 use lib.Seq.{take-all, take-at, drop-at}
 use Rattle.code.proofs.Words.{Below}
-use Rattle.sheet.specs.Sheet.{Form, digits, packed, worded, kind, body, used, items, unused, items-words, items-refusal, items-in}
+use Rattle.sheet.specs.declared.Form.{Form}
+use Rattle.sheet.specs.Sheet.{digits, packed, worded, kind, body, used, items, unused, items-words, first, word-refusal, items-refusal, items-in}
 use Rattle.sheet.proofs.Digits.{digits-length, digits-below, digits-packed, packed-digits, packed-lt}
 
 -- what a passed test leaves
@@ -24,6 +24,11 @@ passed false a x e = (refl, e)
 pub held : (t : Bool) (a x : ℕ) → cond t x (suc a) ≡ 0 → (t ≡ true) × (x ≡ 0)
 held true a x e = (refl, e)
 held false a x e = absurd (omega arith)
+
+pub first-none : (a b : ℕ) → first a b ≡ 0 → (a ≡ 0) × (b ≡ 0)
+unfolding first
+first-none zero b e = (refl, e)
+first-none (suc a) b e = absurd (omega arith)
 
 pub both : (a b : Bool) → (a && b) ≡ true → (a ≡ true) × (b ≡ true)
 both true b e = (refl, e)
@@ -65,7 +70,8 @@ items-words-length f (suc k) ds = ap suc (items-words-length f k (drop (f .each)
 
 -- a form, the refusal that a bad item meets, and what is asked of items
 pub record Tested (f : Form) (good : List ℕ → Bool) : Type 0 where
-  pub fits : f .bits * f .each ≤ 28
+  pub some : 0 < f .base
+  pub fits : f .base ^ f .each ≤ 2 ^ 28
   pub none : good [] ≡ true
   pub splits : (a b : List ℕ) → good (a ++ b) ≡ (good a && good b)
 
@@ -74,19 +80,19 @@ pub record Held (f : Form) (good : List ℕ → Bool) (k n : ℕ) (ws : List ℕ
   pub enough : k ≤ length ws
   pub again : items-words f k (items-in f k n ws) ≡ take k ws
   pub fine : good (items-in f k n ws) ≡ true
-  pub inside : Below (2 ^ f .bits) (items-in f k n ws)
+  pub inside : Below (f .base) (items-in f k n ws)
 
 module _ (f : Form) where
   items-length : (n w : ℕ) → length (items f n w) ≡ used f n
   unfolding items
-  items-length n w = digits-length (f .bits) (used f n) (body w)
+  items-length n w = digits-length (f .base) (used f n) (body w)
 
   no-items : (k : ℕ) (ws : List ℕ) → items-in f k 0 ws ≡ []
   unfolding items-in items used digits
   no-items zero ws = refl
-  no-items (suc k) [] = refl
-  no-items (suc k) (w ∷ ws) =
-      ap₂ _++_ (ap (λ (x : ℕ). digits (f .bits) x (body w)) (min-zero (f .each))) (ap (λ (x : ℕ). items-in f k x ws) (zero-sub (f .each)) ∙ no-items k ws)
+  no-items (suc k) ws =
+      ap₂ _++_ (ap (λ (x : ℕ). digits (f .base) x (body (getD ws 0 0))) (min-zero (f .each)))
+      (ap (λ (x : ℕ). items-in f k x (drop 1 ws)) (zero-sub (f .each)) ∙ no-items k (drop 1 ws))
 
   -- the first word takes the first items
   part : (n w k : ℕ) (ws : List ℕ) →
@@ -106,64 +112,62 @@ module _ (f : Form) where
           let z : items-in f k (n - f .each) ws ≡ [] = ap (λ (x : ℕ). items-in f k x ws) (sub-eq-zero-of-le (omega arith)) ∙ no-items k ws in
           (rw (z, append-nil) (take-all (f .each) (items f n w) l), rw (z, append-nil) (drop-of-length-le (items f n w) l))
 
-  pub items-in-length : (k n : ℕ) (ws : List ℕ) → k ≤ length ws → n ≤ f .each * k → length (items-in f k n ws) ≡ n
+  pub items-in-length : (k n : ℕ) (ws : List ℕ) → n ≤ f .each * k → length (items-in f k n ws) ≡ n
   unfolding items-in used
-  items-in-length zero n ws h l = omega (arith, mul-zero (f .each))
-  items-in-length (suc k) n [] h l = absurd (omega arith)
-  items-in-length (suc k) n (w ∷ ws) h l =
+  items-in-length zero n ws l = omega (arith, mul-zero (f .each))
+  items-in-length (suc k) n ws l =
       omega (
         arith,
-        length-append (items f n w) (items-in f k (n - f .each) ws),
-        items-length n w,
-        items-in-length k (n - f .each) ws (omega arith) (omega (arith, mul-suc (f .each) k)),
+        length-append (items f n (getD ws 0 0)) (items-in f k (n - f .each) (drop 1 ws)),
+        items-length n (getD ws 0 0),
+        items-in-length k (n - f .each) (drop 1 ws) (omega (arith, mul-suc (f .each) k)),
       )
 
 -- a written word
 record Word (f : Form) (ds : List ℕ) (w : ℕ) : Type 0 where
-  small : packed (f .bits) (take (f .each) ds) < 2 ^ 28
+  small : packed (f .base) (take (f .each) ds) < 2 ^ 28
   right : kind w ≡ f .kind
   clear : unused f (length ds) w ≡ 0
   same : items f (length ds) w ≡ take (f .each) ds
 
 module _ (f : Form) (good : List ℕ → Bool) (t : Tested f good) where
-  word : (ds : List ℕ) → Below (2 ^ f .bits) ds → Word f ds (worded (f .kind) (packed (f .bits) (take (f .each) ds)))
+  word : (ds : List ℕ) → Below (f .base) ds → Word f ds (worded (f .kind) (packed (f .base) (take (f .each) ds)))
   unfolding used unused items
   word ds g =
-      let v : ℕ = packed (f .bits) (take (f .each) ds) in
-      let b : Below (2 ^ f .bits) (take (f .each) ds) = below-parts (2 ^ f .bits) (f .each) ds g .0 in
+      let v : ℕ = packed (f .base) (take (f .each) ds) in
+      let b : Below (f .base) (take (f .each) ds) = below-parts (f .base) (f .each) ds g .0 in
       let l : length (take (f .each) ds) ≡ min (f .each) (length ds) = length-take (f .each) ds in
-      let n : v < 2 ^ (f .bits * min (f .each) (length ds)) = subst (λ (x : ℕ). v < 2 ^ (f .bits * x)) l (packed-lt (f .bits) (take (f .each) ds) b) in
-      let m : v < 2 ^ 28 =
-      lt-of-lt-of-le n (pow-mono {j = 28} (omega (arith, t .fits, mul-le-mul-left (f .bits) (min-le-left (f .each) (length ds))))) in
+      let n : v < f .base ^ min (f .each) (length ds) = subst (λ (x : ℕ). v < f .base ^ x) l (packed-lt (f .base) (take (f .each) ds) b) in
+      let m : v < 2 ^ 28 = lt-of-lt-of-le n (le-trans (pow-le-pow-right (t .some) (min-le-left (f .each) (length ds))) (t .fits)) in
       let e : body (worded (f .kind) v) ≡ v = body-worded (f .kind) v m in
       record {
         small = m;
         right = kind-worded (f .kind) v m;
         clear = rw e (div-eq-of-lt n);
-        same = rw e (rw (← l) (digits-packed (f .bits) (take (f .each) ds) b));
+        same = rw e (rw (← l) (digits-packed (f .base) (t .some) (take (f .each) ds) b));
       }
 
-  pub items-words-below : f .kind < 16 → (k : ℕ) (ds : List ℕ) → Below (2 ^ f .bits) ds → Below (2 ^ 32) (items-words f k ds)
+  pub items-words-below : f .kind < 16 → (k : ℕ) (ds : List ℕ) → Below (f .base) ds → Below (2 ^ 32) (items-words f k ds)
   unfolding items-words worded
   items-words-below h zero ds g = tt
   items-words-below h (suc k) ds g =
-      (omega (arith, word ds g .small), items-words-below h k (drop (f .each) ds) (below-parts (2 ^ f .bits) (f .each) ds g .1))
+      (omega (arith, word ds g .small), items-words-below h k (drop (f .each) ds) (below-parts (f .base) (f .each) ds g .1))
 
   fine-parts : (ds : List ℕ) → good ds ≡ true → (good (take (f .each) ds) ≡ true) × (good (drop (f .each) ds) ≡ true)
   fine-parts ds h =
       both (good (take (f .each) ds)) (good (drop (f .each) ds))
       (sym (t .splits (take (f .each) ds) (drop (f .each) ds)) ∙ ap good (take-append-drop (f .each) ds) ∙ h)
 
-  pub written-accepted : (e k : ℕ) (ds rest : List ℕ) → Below (2 ^ f .bits) ds → good ds ≡ true →
+  pub written-accepted : (e k : ℕ) (ds rest : List ℕ) → Below (f .base) ds → good ds ≡ true →
       items-refusal f e good k (length ds) (items-words f k ds ++ rest) ≡ 0
-  unfolding items-refusal items-words
+  unfolding items-refusal word-refusal first items-words
   written-accepted e zero ds rest g h = refl
   written-accepted e (suc k) ds rest g h =
       let w = word ds g in
       rw (w .right, eq-eqb (f .kind) (f .kind) refl, w .clear, w .same, fine-parts ds h .0, ← length-drop (f .each) ds)
-      (written-accepted e k (drop (f .each) ds) rest (below-parts (2 ^ f .bits) (f .each) ds g .1) (fine-parts ds h .1))
+      (written-accepted e k (drop (f .each) ds) rest (below-parts (f .base) (f .each) ds g .1) (fine-parts ds h .1))
 
-  pub written-back : (k : ℕ) (ds rest : List ℕ) → Below (2 ^ f .bits) ds → length ds ≤ f .each * k →
+  pub written-back : (k : ℕ) (ds rest : List ℕ) → Below (f .base) ds → length ds ≤ f .each * k →
       items-in f k (length ds) (items-words f k ds ++ rest) ≡ ds
   unfolding items-in items-words
   written-back zero [] rest g l = refl
@@ -172,26 +176,27 @@ module _ (f : Form) (good : List ℕ → Bool) (t : Tested f good) where
       let w = word ds g in
       rw (w .same, ← length-drop (f .each) ds)
       (ap (λ (x : List ℕ). take (f .each) ds ++ x)
-      (written-back k (drop (f .each) ds) rest (below-parts (2 ^ f .bits) (f .each) ds g .1) (omega (arith, length-drop (f .each) ds, mul-suc (f .each) k)))
+      (written-back k (drop (f .each) ds) rest (below-parts (f .base) (f .each) ds g .1) (omega (arith, length-drop (f .each) ds, mul-suc (f .each) k)))
       ∙ take-append-drop (f .each) ds)
 
   pub accepted-back : (e k n : ℕ) (ws : List ℕ) → items-refusal f (suc e) good k n ws ≡ 0 → Held f good k n ws
-  unfolding items-refusal items-words items-in items unused
+  unfolding items-refusal word-refusal items-words items-in items unused
   accepted-back e zero n ws h = record { enough = omega arith; again = refl; fine = t .none; inside = tt }
   accepted-back e (suc k) n [] h = absurd (omega arith)
   accepted-back e (suc k) n (w ∷ ws) h =
-      let a = passed (not (eqb (kind w) (f .kind))) 9 _ h in
+      let o = first-none (word-refusal f (suc e) good n w) (items-refusal f (suc e) good k (n - f .each) ws) h in
+      let a = passed (not (eqb (kind w) (f .kind))) 9 _ (o .0) in
       let b = passed (not (eqb (unused f n w) 0)) 10 _ (a .1) in
-      let d = held (good (items f n w)) e _ (b .1) in
+      let d = held (good (items f n w)) e 0 (b .1) in
       more (eqb-true (kind w) (f .kind) (not-false _ (a .0))) (eqb-true (unused f n w) 0 (not-false _ (b .0))) (d .0)
-      (accepted-back e k (n - f .each) ws (d .1))
+      (accepted-back e k (n - f .each) ws (o .1))
     where
       more : kind w ≡ f .kind → unused f n w ≡ 0 → good (items f n w) ≡ true → Held f good k (n - f .each) ws → Held f good (suc k) n (w ∷ ws)
       more right clear fine r = record {
         enough = omega (arith, r .enough);
         again =
             rw (part f n w k ws .0, part f n w k ws .1)
-            (ap₂ _∷_ (ap₂ worded (sym right) (packed-digits (f .bits) (used f n) (body w) clear) ∙ worded-again w) (r .again));
+            (ap₂ _∷_ (ap₂ worded (sym right) (packed-digits (f .base) (used f n) (body w) clear) ∙ worded-again w) (r .again));
         fine = t .splits (items f n w) (items-in f k (n - f .each) ws) ∙ ap₂ _&&_ fine (r .fine);
-        inside = below-join (2 ^ f .bits) (items f n w) (items-in f k (n - f .each) ws) (digits-below (f .bits) (used f n) (body w)) (r .inside);
+        inside = below-join (f .base) (items f n w) (items-in f k (n - f .each) ws) (digits-below (f .base) (t .some) (used f n) (body w)) (r .inside);
       }

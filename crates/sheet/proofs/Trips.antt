@@ -57,7 +57,7 @@ use Rattle.sheet.specs.Sheet.{
   all-good,
 }
 use Rattle.sheet.specs.Promise.{all-bytes, Written-read, Read-written}
-use Rattle.sheet.proofs.Items.{Held, passed, held, both, below-join, items-words-below, kind-worded, body-worded, worded-again, items-words-length, items-in-length, written-accepted, written-back, accepted-back}
+use Rattle.sheet.proofs.Items.{Held, passed, held, first-none, both, below-join, items-words-below, kind-worded, body-worded, worded-again, items-words-length, items-in-length, written-accepted, written-back, accepted-back}
 use Rattle.sheet.proofs.Forms.{row-tested, symbol-tested, items-below, row-back, items-back, row-items-length, row-of-length, symbols-below, row-room, symbol-room}
 use Rattle.sheet.proofs.Bytes.{bytes-length, as-words-bytes, as-bytes-words}
 
@@ -136,10 +136,10 @@ module _ (q : Question) (g : Good q) (rest : List ℕ) where
   past-question =
       rw past-row (drop-at (word-part q) rest (symbol-words (width (q .code))) (items-words-length symbols (symbol-words (width (q .code))) (q .word)))
 
-  row-below : Below (2 ^ reliabilities .bits) (row-items (q .row))
+  row-below : Below (reliabilities .base) (row-items (q .row))
   row-below = items-below (q .row) (g .row-fine)
 
-  word-below : Below (2 ^ symbols .bits) (q .word)
+  word-below : Below (symbols .base) (q .word)
   word-below = symbols-below (width (q .code)) (q .word) (width-le (q .code) (g .known)) (g .word-fine)
 
   row-accepted : row-refusal (width (q .code)) (row-part q ++ (word-part q ++ rest)) ≡ 0
@@ -295,11 +295,6 @@ end-back n w ws k e =
     let l : low w ≡ n = eqb-true (low w) n (not-false _ (b .0)) in
     ap₂ _∷_ (omega (arith, k, c, l)) (sym (none-after ws (eqb-true (length ws) 0 (d .0))))
 
-first-none : (a b : ℕ) → first a b ≡ 0 → (a ≡ 0) × (b ≡ 0)
-unfolding first
-first-none zero b e = (refl, e)
-first-none (suc a) b e = absurd (omega arith)
-
 head-back : (w : ℕ) → kind w ≡ head-kind → worded head-kind (head-code w * numbers + low w) ≡ w
 unfolding head-code low numbers kind body worded
 head-back w k = omega arith
@@ -331,9 +326,9 @@ asked-good w ws a =
       small = mod-lt (body w) (lit< tt);
       row-length =
           row-of-length (items-in reliabilities (row-words m) (row-long m) ws)
-          ∙ items-in-length reliabilities (row-words m) (row-long m) ws (a .row-held .enough) (row-room m);
+          ∙ items-in-length reliabilities (row-words m) (row-long m) ws (row-room m);
       row-fine = a .row-held .fine;
-      word-length = items-in-length symbols (symbol-words m) (long m) (after-row m ws) (a .word-held .enough) (symbol-room m);
+      word-length = items-in-length symbols (symbol-words m) (long m) (after-row m ws) (symbol-room m);
       word-fine = a .word-held .fine;
     }
 

@@ -4,11 +4,12 @@ use mathlib.Core.Bool.{Bool, true, _&&_, not, cond}
 use mathlib.Core.List.{List, [], _∷_, _++_, map}
 use Prim.Native.Nat.{ℕ, zero, suc, _+_, _*_, _-_, _/_, _%_, _^_, min}
 use lib.Dec.{ltb, leb, eqb}
-use lib.ListN.{length, take, drop}
+use lib.ListN.{length, getD, take, drop}
 use lib.IntN.{ℤ, pos, negsuc}
 use Rattle.code.specs.Code.{code-good, width, long, symbols-good}
 use Rattle.code.specs.Bits.{row-long}
 use Rattle.metric.specs.Row.{row-good}
+use Rattle.sheet.specs.declared.Form.{Form}
 
 -- the kinds of the words that begin a question and end a sheet
 unfoldable pub head-kind : ℕ
@@ -17,19 +18,13 @@ head-kind = 1
 unfoldable pub end-kind : ℕ
 end-kind = 15
 
--- a kind of word that holds items: how many, and of how many bits
-pub record Form : Type 0 where
-  pub kind : ℕ
-  pub each : ℕ
-  pub bits : ℕ
-
--- kind 2: three reliabilities of 8 bits
+-- a kind of word that holds items: how many, and below what each is. Kind 2: three reliabilities of 8 bits
 unfoldable pub reliabilities : Form
-reliabilities = record { kind = 2; each = 3; bits = 8 }
+reliabilities = record { kind = 2; each = 3; base = 2 ^ 8 }
 
 -- kind 3: six 4-bit symbols
 unfoldable pub symbols : Form
-symbols = record { kind = 3; each = 6; bits = 4 }
+symbols = record { kind = 3; each = 6; base = 2 ^ 4 }
 
 -- at most 200 questions; a question number and a count have 24 bits
 unfoldable pub most : ℕ
@@ -44,29 +39,29 @@ pub record Question : Type 0 where
   pub row : List ℤ
   pub word : List ℕ
 
--- n digits of so many bits, the first lowest; and the number that has these digits
-unfoldable pub digits : (bits n : ℕ) → ℕ → List ℕ
+-- n digits to a base, the first lowest; and the number that has these digits
+unfoldable pub digits : (base n : ℕ) → ℕ → List ℕ
 digits b zero v = []
-digits b (suc n) v = (v % 2 ^ b) ∷ digits b n (v / 2 ^ b)
+digits b (suc n) v = (v % b) ∷ digits b n (v / b)
 
-unfoldable pub packed : (bits : ℕ) → List ℕ → ℕ
+unfoldable pub packed : (base : ℕ) → List ℕ → ℕ
 packed b [] = 0
-packed b (d ∷ ds) = d + 2 ^ b * packed b ds
+packed b (d ∷ ds) = d + b * packed b ds
 
--- two's complement of so many bits
-unfoldable pub unsigned-of : (bits : ℕ) → ℤ → ℕ
+-- two's complement
+unfoldable pub unsigned-of : (base : ℕ) → ℤ → ℕ
 unsigned-of b (pos n) = n
-unsigned-of b (negsuc n) = 2 ^ b - 1 - n
+unsigned-of b (negsuc n) = b - 1 - n
 
-unfoldable pub signed-of : (bits : ℕ) → ℕ → ℤ
-signed-of b d = cond (ltb d (2 ^ (b - 1))) (pos d) (negsuc (2 ^ b - 1 - d))
+unfoldable pub signed-of : (base : ℕ) → ℕ → ℤ
+signed-of b d = cond (ltb d (b / 2)) (pos d) (negsuc (b - 1 - d))
 
 -- a row as the items of its words, and back
 unfoldable pub row-items : (row : List ℤ) → List ℕ
-row-items rs = map (unsigned-of (reliabilities .bits)) rs
+row-items rs = map (unsigned-of (reliabilities .base)) rs
 
 unfoldable pub row-of : (items : List ℕ) → List ℤ
-row-of ds = map (signed-of (reliabilities .bits)) ds
+row-of ds = map (signed-of (reliabilities .base)) ds
 
 -- a word is 32 bits, the top four the kind
 unfoldable pub worded : (kind body : ℕ) → ℕ
@@ -98,7 +93,7 @@ symbol-words m = count symbols (long m)
 -- WRITING
 unfoldable pub items-words : Form → (words : ℕ) → (items : List ℕ) → List ℕ
 items-words f zero ds = []
-items-words f (suc k) ds = worded (f .kind) (packed (f .bits) (take (f .each) ds)) ∷ items-words f k (drop (f .each) ds)
+items-words f (suc k) ds = worded (f .kind) (packed (f .base) (take (f .each) ds)) ∷ items-words f k (drop (f .each) ds)
 
 -- a question is a head, its n·m reliabilities, then the n symbols handed in
 unfoldable pub question-words : Question → List ℕ
@@ -114,7 +109,7 @@ all-words (q ∷ qs) = question-words q ++ all-words qs
 -- low byte first
 unfoldable pub as-bytes : (words : List ℕ) → List ℕ
 as-bytes [] = []
-as-bytes (w ∷ ws) = digits 8 4 w ++ as-bytes ws
+as-bytes (w ∷ ws) = digits (2 ^ 8) 4 w ++ as-bytes ws
 
 -- the sheet of a question list
 unfoldable pub written : List Question → List ℕ
@@ -123,7 +118,7 @@ written qs = as-bytes (all-words qs ++ worded end-kind (length qs) ∷ [])
 -- READING
 unfoldable pub words-from : (words : ℕ) → (bytes : List ℕ) → List ℕ
 words-from zero bs = []
-words-from (suc n) bs = packed 8 (take 4 bs) ∷ words-from n (drop 4 bs)
+words-from (suc n) bs = packed (2 ^ 8) (take 4 bs) ∷ words-from n (drop 4 bs)
 
 unfoldable pub as-words : (bytes : List ℕ) → List ℕ
 as-words bs = words-from (length bs / 4) bs
@@ -133,35 +128,37 @@ unfoldable pub used : Form → (left : ℕ) → ℕ
 used f n = min (f .each) n
 
 unfoldable pub items : Form → (left word : ℕ) → List ℕ
-items f n w = digits (f .bits) (used f n) (body w)
+items f n w = digits (f .base) (used f n) (body w)
 
 unfoldable pub unused : Form → (left word : ℕ) → ℕ
-unused f n w = body w / 2 ^ (f .bits * used f n)
+unused f n w = body w / f .base ^ used f n
 
--- n items in so many words: words run out 9, wrong kind 10, unused bits not zero 11, then the refusal that a bad item meets
+-- what refuses first
+unfoldable pub first : ℕ → ℕ → ℕ
+first zero e = e
+first (suc d) e = suc d
+
+-- a word of which n items are left: wrong kind 10, unused bits not zero 11, then the refusal that a bad item meets
+unfoldable pub word-refusal : Form → (bad : ℕ) → (good : List ℕ → Bool) → (left word : ℕ) → ℕ
+word-refusal f e good n w =
+    cond (not (eqb (kind w) (f .kind))) 10 (cond (not (eqb (unused f n w) 0)) 11 (cond (good (items f n w)) 0 e))
+
+-- n items in so many words; words run out 9
 unfoldable pub items-refusal : Form → (bad : ℕ) → (good : List ℕ → Bool) → (words left : ℕ) → List ℕ → ℕ
 items-refusal f e good zero n ws = 0
 items-refusal f e good (suc k) n [] = 9
-items-refusal f e good (suc k) n (w ∷ ws) =
-    cond (not (eqb (kind w) (f .kind))) 10
-    (cond (not (eqb (unused f n w) 0)) 11
-    (cond (good (items f n w)) (items-refusal f e good k (n - f .each) ws) e))
+items-refusal f e good (suc k) n (w ∷ ws) = first (word-refusal f e good n w) (items-refusal f e good k (n - f .each) ws)
 
+-- the items; a word that is not there counts as 0
 unfoldable pub items-in : Form → (words left : ℕ) → List ℕ → List ℕ
 items-in f zero n ws = []
-items-in f (suc k) n [] = []
-items-in f (suc k) n (w ∷ ws) = items f n w ++ items-in f k (n - f .each) ws
+items-in f (suc k) n ws = items f n (getD ws 0 0) ++ items-in f k (n - f .each) (drop 1 ws)
 
 unfoldable pub row-refusal : (m : ℕ) → List ℕ → ℕ
 row-refusal m ws = items-refusal reliabilities 5 (λ ds. row-good (row-of ds)) (row-words m) (row-long m) ws
 
 unfoldable pub symbol-refusal : (m : ℕ) → List ℕ → ℕ
 symbol-refusal m ws = items-refusal symbols 6 (symbols-good m) (symbol-words m) (long m) ws
-
--- what refuses first
-unfoldable pub first : ℕ → ℕ → ℕ
-first zero e = e
-first (suc d) e = suc d
 
 -- what follows a head of width m: the row, the word, then the rest
 unfoldable pub after-row : (m : ℕ) → List ℕ → List ℕ
