@@ -13,7 +13,7 @@ ghost use Rattle.sheet.specs.Steps.{outside, head-refusal};
 ghost use Rattle.sheet.specs.Calls.{judgement};
 
 // What stands above n digits.
-fn above(v: u32, base: u32, n: usize) -> u32
+pub fn above(v: u32, base: u32, n: usize) -> u32
     requires { ⌜ 0 < base ⌝ }
     ensures { λ r. ⌜ r ≡ v / base ^ n ⌝ }
 {

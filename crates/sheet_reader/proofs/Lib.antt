@@ -1,0 +1,4 @@
+pub mod Places
+pub mod Twos
+pub mod Reading
+pub mod Says
