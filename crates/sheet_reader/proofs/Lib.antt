@@ -2,3 +2,4 @@ pub mod Places
 pub mod Twos
 pub mod Reading
 pub mod Says
+pub mod Order
