@@ -105,7 +105,7 @@ fn refused_row(sheet: &[u8], at: usize, m: u32) -> u32
     refused_items(sheet, at, words::reliability_form(), 128, 129, 5, n)
 }
 
-fn size_of(m: u32) -> u32
+pub fn size_of(m: u32) -> u32
     requires { ⌜ width-good m ≡ true ⌝ }
     ensures { λ r. ⌜ r ≡ 2 ^ m ⌝ }
 {
