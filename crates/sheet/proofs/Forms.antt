@@ -43,7 +43,7 @@ unfolding symbols symbols-good
 symbol-tested m = record { some = lit< tt; fits = lit≤ tt; none = refl; splits = symbol-splits m }
 
 -- two's complement
-unsigned-lt : (r : ℤ) → reliability-good r ≡ true → unsigned-of 256 r < 256
+pub unsigned-lt : (r : ℤ) → reliability-good r ≡ true → unsigned-of 256 r < 256
 unfolding unsigned-of reliability-good bound
 unsigned-lt (pos n) g = omega (arith, leb-true n 127 g)
 unsigned-lt (negsuc n) g = omega arith
