@@ -10,7 +10,7 @@ use native.Mathlib.Omega.{arith}
 use borrow.Author.Tests.{ltb-true, leb-true, le-ltb}
 use lib.Dec.{T, ltb, lit<, lit≤}
 use lib.ListN.{length, getD, take, drop, set, length-set, length-take, length-drop, length-append, drop-of-length-le, List·getD-map}
-use lib.Seq.{drop-cons, sets, sets-eq, getD-take, take-suc, take-at, drop-at, drop-drop, drop-append-add, take-all}
+use lib.Seq.{drop-cons, sets, sets-eq, getD-take, take-suc, take-at, drop-at, drop-drop, drop-append-add, take-all, length-take-le}
 use lib.IntN.{ℤ, pos, negsuc, natAbs, _+ℤ_}
 use lib.Signed.{ltZ, nonNeg}
 use mir.Syntax.{w16, w32}
@@ -187,3 +187,11 @@ begun-word ws o w =
 pub begun-all : (ws o : List ℕ) → length o ≡ 4 * length ws → begun ws o ≡ as-bytes ws
 unfolding begun
 begun-all ws o h = rw (drop-of-length-le o {i = 4 * length ws} (omega arith), append-nil)
+
+pub begun-next : (ws o : List ℕ) (j : ℕ) → j < length ws →
+    take (4 * j) (begun (take j ws) o) ++ (digits 256 4 (getD ws j 0) ++ drop (4 * j + 4) (begun (take j ws) o)) ≡ begun (take (j + 1) ws) o
+begun-next ws o j h =
+    let e : length (take j ws) ≡ j = length-take-le j ws (omega arith) in
+    subst (λ (n : ℕ). take (4 * n) (begun (take j ws) o) ++ (digits 256 4 (getD ws j 0) ++ drop (4 * n + 4) (begun (take j ws) o)) ≡ begun (take j ws ++ getD ws j 0 ∷ []) o) e
+    (begun-word (take j ws) o (getD ws j 0))
+    ∙ ap (λ (l : List ℕ). begun l o) (sym (ap (λ (x : ℕ). take x ws) (add-one j) ∙ take-suc ws j 0 h))

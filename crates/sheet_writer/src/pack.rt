@@ -6,7 +6,7 @@ ghost use Prim.Native.Nat.{_+_, _*_, _<_, _≤_};
 ghost use lib.ListN.{length, getD, take, drop};
 ghost use Rattle.code.specs.Code.{symbols-good};
 ghost use Rattle.metric.specs.Row.{reliability-good, row-good};
-ghost use Rattle.sheet.specs.Sheet.{reliabilities, symbols, digits, packed, unsigned-of, row-items, items-words, question-words, question-good};
+ghost use Rattle.sheet.specs.Sheet.{reliabilities, symbols, digits, packed, unsigned-of, row-items, items-words, question-words, question-good, worded, end-kind};
 ghost use Rattle.sheet_writer.specs.Steps.{question, begun};
 
 const KINDS: u32 = 268435456;
@@ -70,7 +70,7 @@ fn symbol_word(word: &[u8], k: usize) -> u32
 }
 
 // Word j of a question.
-fn question_word(code: u32, number: u32, row: &[i16], word: &[u8], j: usize) -> u32
+pub fn question_word(code: u32, number: u32, row: &[i16], word: &[u8], j: usize) -> u32
     requires { ⌜ question-good (question code number (now row) (now word)) ≡ true ⌝ }
     requires { ⌜ j < length (question-words (question code number (now row) (now word))) ⌝ }
     ensures { λ r. ⌜ r ≡ getD (question-words (question code number (now (row .entry)) (now (word .entry)))) j 0 ⌝ }
@@ -95,4 +95,12 @@ pub fn put_word(output: &mut [u8], i: usize, w: u32)
     output[at + 1] = (w / 256 % 256) as u8;
     output[at + 2] = (w / 256 / 256 % 256) as u8;
     output[at + 3] = (w / 256 / 256 / 256 % 256) as u8;
+}
+
+// The end word of so many questions.
+pub fn end_word(count: u32) -> u32
+    requires { ⌜ count ≤ 200 ⌝ }
+    ensures { λ r. ⌜ r ≡ worded end-kind count ⌝ }
+{
+    sheet::words::END * KINDS + count
 }
