@@ -3,3 +3,4 @@ pub mod Twos
 pub mod Reading
 pub mod Says
 pub mod Order
+pub mod Choice

@@ -107,11 +107,13 @@ module _ (bs : List ℕ) (i : ℕ) (p : Cursor) (t : Placed bs i p) where
 
   -- no question is left
   pub record Done : Type 0 where
+    pub no-head : kind (getD (as-words bs) (p .at) 0) ≡ head-kind → ⊥
     pub none : drop i (questions bs) ≡ []
     pub answer : (r n : ℕ) → answered (p .refusal) (getD (as-words bs) (p .at) 0) r n ≡ NoneLeft
 
   -- question i stands here, and the next place is that of the question after it
   pub record More : Type 0 where
+    pub head : kind (getD (as-words bs) (p .at) 0) ≡ head-kind
     pub list : drop i (questions bs) ≡ question-here bs p ∷ drop (suc i) (questions bs)
     pub answer :
         answered (p .refusal) (getD (as-words bs) (p .at) 0) (row-long (width (question-here bs p .code))) (long (width (question-here bs p .code)))
@@ -120,6 +122,7 @@ module _ (bs : List ℕ) (i : ℕ) (p : Cursor) (t : Placed bs i p) where
 
   done : Ended (t .left) (drop (p .at) (as-words bs)) → Done
   done e = record {
+    no-head = λ h. e .no-head (ap kind word-is ∙ h);
     none = sym (t .holds) ∙ e .holds;
     answer = λ r n. rw (t .accepted) (answered-none (getD (as-words bs) (p .at) 0) r n (λ h. e .no-head (ap kind word-is ∙ h)));
   }
@@ -140,6 +143,7 @@ module _ (bs : List ℕ) (i : ℕ) (p : Cursor) (t : Placed bs i p) where
       let n : drop (suc i) (questions bs) ≡ questions-from (h .k) on =
       ap (λ (x : ℕ). drop x (questions bs)) (sym (add-one i)) ∙ sym (drop-drop 1 i (questions bs)) ∙ ap (drop 1) l in
       record {
+        head = ap kind (sym word-is) ∙ h .head;
         list = l ∙ ap (_∷_ q) (sym n);
         answer = rw (t .accepted) (answered-found w (row-long m) (long m) (ap kind (sym word-is) ∙ h .head) refl refl);
         next = record { left = h .k; accepted = t .accepted; rest = ap (rest-refusal (h .k)) (sym e) ∙ h .rest; holds = sym n };

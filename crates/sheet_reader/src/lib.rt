@@ -9,7 +9,8 @@ ghost use Rattle.field.specs.Field.{width-good};
 ghost use Rattle.code.specs.Code.{long};
 ghost use Rattle.code.specs.Bits.{row-long};
 ghost use Rattle.sheet.specs.Sheet.{as-words};
-ghost use Rattle.sheet_reader.specs.Calls.{opened, answered, Read-says, Yield-says};
+ghost use Rattle.sheet_reader.specs.Calls.{opened, answered, Read-says, Yield-says, Choice-says};
+ghost use Rattle.sheet_reader.specs.Steps.{skipped};
 
 mod items;
 
@@ -103,4 +104,32 @@ pub fn question_at(sheet: &[u8], cursor: Cursor, row: &mut [i16], word: &mut [u8
         answer,
         next: Cursor { refusal, at: next },
     }
+}
+
+// The place after so many questions, or of the end.
+fn place_of(sheet: &[u8], index: usize) -> usize
+    ensures { λ r. ⌜ r ≡ skipped index (as-words (now (sheet .entry))) 0 ⌝ }
+{
+    let mut at = 0;
+    let mut left = index;
+    while 0 < left {
+        let w = sheet::words::word_at(sheet, at);
+        if sheet::words::kind_of(w) != sheet::words::HEAD {
+            return at;
+        }
+        at += 1 + sheet::refusal::question_words_of(sheet::words::head_code_of(w));
+        left -= 1;
+    }
+    at
+}
+
+// The question that has so many before it. The whole sheet is checked at each call; a reader checks it once.
+pub fn question_of(sheet: &[u8], index: usize, row: &mut [i16], word: &mut [u8]) -> Yield
+    ensures { λ r. ⌜ Choice-says (now (sheet .entry)) index r (now (row .entry)) (now (row .exit)) (now (word .entry)) (now (word .exit)) ⌝ }
+{
+    let start = open(sheet);
+    let refusal = start.refusal;
+    let at = place_of(sheet, index);
+    let step = question_at(sheet, Cursor { refusal, at }, row, word);
+    step.answer
 }
