@@ -8,7 +8,7 @@ ghost use Rattle.sheet.specs.Sheet.{question-words, question-good, all-words, w
 ghost use Rattle.sheet_writer.specs.Calls.{listed, list-refusal, Write-says};
 ghost use Rattle.sheet_writer.specs.Steps.{question, begun};
 
-mod check;
+mod list;
 mod pack;
 
 // Stores the words of a question at the start of an output.
@@ -76,11 +76,11 @@ pub fn write_sheet(
     if codes.len() != numbers.len() {
         return 12;
     }
-    let e = check::refused_list(codes, numbers, rows, words);
+    let e = list::refused_list(codes, numbers, rows, words);
     if e != 0 {
         return e;
     }
-    if output.len() != 4 * (check::needed(codes) + 1) {
+    if output.len() != 4 * (list::needed(codes) + 1) {
         return 4;
     }
     write_list(codes, numbers, rows, words, output);

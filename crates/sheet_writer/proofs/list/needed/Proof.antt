@@ -13,8 +13,8 @@ use Rattle.sheet_writer.specs.Steps.{words-needed}
 use Rattle.sheet_writer.proofs.Lists.{needed-step, needed-le}
 use borrow.Author.Needs.{needs}
 use native.Mathlib.Omega.{arith}
-use Rattle.sheet_writer.proofs.check.needed.Statement.{statement}
-use Rattle.sheet_writer.proofs.check.needed.Tie as tie
+use Rattle.sheet_writer.proofs.list.needed.Statement.{statement}
+use Rattle.sheet_writer.proofs.list.needed.Tie as tie
 
 abbrev Inv-loop : tie.InvT-loop
 Inv-loop codes total₀ i₀ total i = (i ≤ length codes) × (total ≡ words-needed (drop i codes))

@@ -11,8 +11,8 @@ use Rattle.sheet.proofs.Judging.{width-fine}
 use Rattle.sheet_writer.specs.Calls.{parts-refusal}
 use Rattle.sheet_writer.proofs.Lists.{code-unknown, number-large, parts-next}
 use borrow.Author.Needs.{needs}
-use Rattle.sheet_writer.proofs.check.refused_question.Statement.{statement}
-use Rattle.sheet_writer.proofs.check.refused_question.Tie as tie
+use Rattle.sheet_writer.proofs.list.refused_question.Statement.{statement}
+use Rattle.sheet_writer.proofs.list.refused_question.Tie as tie
 
 known : (c : tie.Else1) → code-good (c .before .before .before .args .code) ≡ true
 known c = sym (c .before .is-code .ensures) ∙ not-false (c .before .is-code .result) (c .if1 .left)

@@ -10,8 +10,8 @@ use denote.Ref.{now}
 use Rattle.code.specs.Code.{symbols-good}
 use Rattle.sheet_writer.proofs.Lists.{symbol-step, symbol-end}
 use borrow.Author.Needs.{needs}
-use Rattle.sheet_writer.proofs.check.are_symbols_good.Statement.{statement}
-use Rattle.sheet_writer.proofs.check.are_symbols_good.Tie as tie
+use Rattle.sheet_writer.proofs.list.are_symbols_good.Statement.{statement}
+use Rattle.sheet_writer.proofs.list.are_symbols_good.Tie as tie
 
 abbrev Inv-loop : tie.InvT-loop
 Inv-loop m word size i₀ i = symbols-good m word ≡ symbols-good m (drop i word)

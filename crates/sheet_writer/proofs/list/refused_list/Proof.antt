@@ -20,8 +20,8 @@ use Rattle.sheet_writer.specs.Calls.{asked-refusal, list-refusal}
 use Rattle.sheet_writer.proofs.Lists.{room, list-step, list-end}
 use borrow.Author.Needs.{needs}
 use native.Mathlib.Omega.{arith}
-use Rattle.sheet_writer.proofs.check.refused_list.Statement.{statement}
-use Rattle.sheet_writer.proofs.check.refused_list.Tie as tie
+use Rattle.sheet_writer.proofs.list.refused_list.Statement.{statement}
+use Rattle.sheet_writer.proofs.list.refused_list.Tie as tie
 
 abbrev Inv-loop : tie.InvT-loop
 Inv-loop codes numbers rows words i₀ row₀ word₀ i row word =

@@ -13,8 +13,8 @@ use Rattle.metric.specs.Row.{row-good}
 use Rattle.sheet_writer.specs.Calls.{fits, parts-refusal}
 use Rattle.sheet_writer.proofs.Lists.{row-misfit, word-misfit, row-bad, word-last, enough}
 use borrow.Author.Needs.{needs}
-use Rattle.sheet_writer.proofs.check.refused_parts.Statement.{statement}
-use Rattle.sheet_writer.proofs.check.refused_parts.Tie as tie
+use Rattle.sheet_writer.proofs.list.refused_parts.Statement.{statement}
+use Rattle.sheet_writer.proofs.list.refused_parts.Tie as tie
 
 row-fits : (c : tie.After-is-enough) → let s = c .before .before .before .before .args in c .is-enough .result ≡ fits (s .after) (length (now (s .rows))) (row-long (s .m))
 row-fits c = let s = c .before .before .before .before .args in c .is-enough .ensures ∙ ap (fits (s .after) (length (now (s .rows)))) (c .before .before .row-long-of .ensures)

@@ -13,8 +13,8 @@ use denote.Ref.{now}
 use Rattle.metric.specs.Row.{reliability-good, row-good}
 use Rattle.sheet_writer.proofs.Lists.{row-step, row-end}
 use borrow.Author.Needs.{needs}
-use Rattle.sheet_writer.proofs.check.is_row_good.Statement.{statement}
-use Rattle.sheet_writer.proofs.check.is_row_good.Tie as tie
+use Rattle.sheet_writer.proofs.list.is_row_good.Statement.{statement}
+use Rattle.sheet_writer.proofs.list.is_row_good.Tie as tie
 
 abbrev Inv-loop : tie.InvT-loop
 Inv-loop row i₀ i = row-good row ≡ row-good (drop i row)
