@@ -2,3 +2,4 @@ pub mod Lists
 pub mod Packing
 pub mod Questions
 pub mod Writing
+pub mod Return
