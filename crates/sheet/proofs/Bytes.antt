@@ -1,19 +1,19 @@
 -- Words as bytes, low byte first, and back.
 -- Assumes nothing.
 use mathlib.Core.Path.{_≡_, refl, sym, ap, ap₂, _∙_, subst}
-use mathlib.Core.Bool.{Bool, true, _&&_}
-use mathlib.Core.List.{List, [], _∷_, _++_, append-nil}
+use mathlib.Core.Bool.{true}
+use mathlib.Core.List.{List, [], _∷_, _++_}
 use Prim.Native.Nat.{ℕ, zero, suc, _+_, _*_, _-_, _/_, _%_, _^_, _<_, _≤_}
 use native.Mathlib.Nat.{div-eq-of-lt, not-suc-le-zero, add-zero, mul-suc, add-comm}
 use native.Mathlib.Omega.{arith}
 use borrow.Author.Tests.{ltb-true}
 use lib.Dec.{ltb, lit<}
-use lib.ListN.{length, take, drop, length-append, length-take, length-drop, take-append-drop, getD, List·getD-eq-default}
+use lib.ListN.{length, take, drop, length-append, length-drop, take-append-drop, getD, List·getD-eq-default}
 use lib.Seq.{take-at, drop-at, length-take-le, drop-drop, getD-drop}
 use Rattle.code.proofs.Words.{Below}
 use Rattle.sheet.specs.Sheet.{digits, packed, as-bytes, words-from, as-words}
 use Rattle.sheet.specs.Promise.{all-bytes}
-use Rattle.sheet.proofs.Digits.{digits-length, digits-below, digits-packed, packed-digits}
+use Rattle.sheet.proofs.Digits.{digits-length, digits-packed, packed-digits}
 use Rattle.sheet.proofs.Items.{both, below-parts}
 
 pub bytes-length : (ws : List ℕ) → length (as-bytes ws) ≡ 4 * length ws

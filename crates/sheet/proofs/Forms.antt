@@ -1,18 +1,17 @@
 -- The two forms: reliabilities in two's complement, and symbols. Their items fit, and both ways of a row are inverse to each other.
 -- Assumes nothing.
-use mathlib.Core.Path.{_≡_, refl, sym, ap, ap₂, _∙_, subst}
+use mathlib.Core.Path.{_≡_, refl, ap, ap₂, _∙_}
 use mathlib.Core.Bool.{Bool, true, false, _&&_, cond}
-use mathlib.Core.List.{List, [], _∷_, _++_, map}
-use Prim.Native.Nat.{ℕ, zero, suc, _+_, _*_, _-_, _/_, _^_, _<_, _≤_}
+use mathlib.Core.List.{List, [], _∷_, _++_}
+use Prim.Native.Nat.{ℕ, suc, _+_, _*_, _-_, _^_, _<_, _≤_}
 use native.Mathlib.Omega.{arith}
 use borrow.Author.Tests.{leb-true, lt-ltb, le-ltb}
-use lib.Dec.{ltb, leb, lit≤, lit<}
+use lib.Dec.{ltb, lit≤, lit<}
 use lib.Pow.{pow-mono}
 use lib.ListN.{length, length-map}
-use lib.IntN.{ℤ, pos, negsuc, natAbs}
-use Rattle.field.specs.Field.{width-good}
-use Rattle.field.proofs.Tests.{widths, to-T}
-use Rattle.code.specs.Code.{code-good, width, long, symbols-good}
+use lib.IntN.{ℤ, pos, negsuc}
+use Rattle.field.proofs.Tests.{to-T}
+use Rattle.code.specs.Code.{width, long, symbols-good}
 use Rattle.code.specs.Bits.{row-long}
 use Rattle.code.proofs.Words.{Below, below, widen}
 use Rattle.metric.specs.Row.{bound, reliability-good, row-good}

@@ -1,17 +1,17 @@
 -- The loop over questions: what is judged of a rest of a sheet, word by word.
 -- Assumes nothing.
-use mathlib.Core.Path.{_≡_, refl, sym, ap, ap₂, _∙_, subst}
-use mathlib.Core.Bool.{Bool, true, false, _&&_, _||_, not, cond}
+use mathlib.Core.Path.{_≡_, refl, sym, ap, ap₂, _∙_}
+use mathlib.Core.Bool.{Bool, true, false, _&&_, _||_, cond}
 use mathlib.Core.List.{List, [], _∷_}
-use Prim.Native.Nat.{ℕ, zero, suc, _+_, _*_, _-_, _/_, _%_, _^_, _<_, _≤_}
-use native.Mathlib.Nat.{add-zero, sub-zero, sub-self, zero-add, zero-lt-suc, add-assoc}
+use Prim.Native.Nat.{ℕ, zero, suc, _+_, _-_, _/_, _%_, _^_, _<_, _≤_}
+use native.Mathlib.Nat.{add-zero, zero-add, zero-lt-suc, add-assoc}
 use native.Mathlib.Omega.{arith}
-use borrow.Author.Tests.{eqb-true, eq-eqb, ne-eqb, ltb-true, ltb-false, lt-ltb, le-ltb, le-leb, lt-leb, leb-true, leb-false}
-use lib.Dec.{ltb, leb, eqb, lit<, lit≤, eqb·suc-zero}
+use borrow.Author.Tests.{eq-eqb, ne-eqb, ltb-true, ltb-false, le-leb, lt-leb, leb-true, leb-false}
+use lib.Dec.{ltb, leb, eqb, lit≤, eqb·suc-zero}
 use native.Mathlib.Numerals.{add-one}
 use lib.ListN.{length, getD, drop, length-drop}
 use lib.Seq.{drop-drop, drop-cons}
-use lib.IntN.{ℤ, pos, negsuc, natAbs}
+use lib.IntN.{pos, negsuc, natAbs}
 use Rattle.field.specs.Field.{width-good}
 use Rattle.field.proofs.Tests.{widths}
 use Rattle.code.specs.Code.{code-good, width, long, symbols-good}
@@ -19,43 +19,7 @@ use Rattle.code.specs.Bits.{row-long}
 use Rattle.code.proofs.Words.{Below}
 use Rattle.metric.specs.Row.{bound, reliability-good, row-good}
 use Rattle.sheet.specs.declared.Form.{Form}
-use Rattle.sheet.specs.Sheet.{
-  reliabilities,
-  symbols,
-  signed-of,
-  row-of,
-  digits,
-  kind,
-  body,
-  head-code,
-  low,
-  head-kind,
-  count,
-  row-words,
-  symbol-words,
-  row-refusal,
-  symbol-refusal,
-  after-row,
-  end-kind,
-  most,
-  used,
-  unused,
-  items,
-  first,
-  word-refusal,
-  items-refusal,
-  question-refusal,
-  end-refusal,
-  next-refusal,
-  rest-refusal,
-  after,
-  questions-from,
-  question-in,
-  Question,
-  as-words,
-  sheet-refusal,
-  questions,
-}
+use Rattle.sheet.specs.Sheet.{reliabilities, symbols, signed-of, row-of, digits, kind, body, head-code, low, head-kind, count, row-words, symbol-words, row-refusal, symbol-refusal, after-row, end-kind, most, used, items, first, word-refusal, items-refusal, question-refusal, end-refusal, next-refusal, rest-refusal, after, questions-from, question-in, Question, as-words, sheet-refusal, questions}
 use Rattle.sheet.specs.Steps.{outside, head-refusal}
 use Rattle.sheet.specs.Calls.{judgement, judged}
 use Rattle.sheet.proofs.Digits.{digits-below}

@@ -3,14 +3,13 @@
 use mathlib.Core.Path.{_≡_, refl, sym, ap, ap₂, _∙_, subst}
 use mathlib.Core.Bool.{Bool, true, false, _&&_, not, cond}
 use mathlib.Core.List.{List, [], _∷_, _++_, append-assoc}
-use Prim.Native.Nat.{ℕ, zero, suc, _+_, _*_, _-_, _/_, _%_, _^_, _<_, _≤_}
+use Prim.Native.Nat.{ℕ, zero, suc, _+_, _*_, _-_, _%_, _^_, _<_, _≤_}
 use native.Mathlib.Nat.{mod-lt, sub-zero, add-zero}
 use native.Mathlib.Omega.{arith}
-use borrow.Author.Tests.{eqb-true, eq-eqb, ltb-true, lt-ltb, leb-true, not-false}
-use lib.Dec.{ltb, leb, eqb, lit<, lit≤}
-use lib.ListN.{length, take, drop, length-append, length-drop, take-append-drop}
+use borrow.Author.Tests.{eqb-true, eq-eqb, ltb-true, lt-ltb, not-false}
+use lib.Dec.{ltb, eqb, lit<, lit≤}
+use lib.ListN.{length, take, drop, take-append-drop}
 use lib.Seq.{drop-at}
-use Rattle.field.specs.Field.{width-good}
 use Rattle.code.specs.Code.{code-good, width, long, symbols-good}
 use Rattle.code.specs.Bits.{row-long}
 use Rattle.code.proofs.Words.{Below}
@@ -56,8 +55,8 @@ use Rattle.sheet.specs.Sheet.{
   question-good,
   all-good,
 }
-use Rattle.sheet.specs.Promise.{all-bytes, Written-read, Read-written}
-use Rattle.sheet.proofs.Items.{Held, passed, held, first-none, both, below-join, items-words-below, kind-worded, body-worded, worded-again, items-words-length, items-in-length, written-accepted, written-back, accepted-back}
+use Rattle.sheet.specs.Promise.{Written-read, Read-written}
+use Rattle.sheet.proofs.Items.{Held, passed, held, first-none, both, below-join, items-words-below, kind-worded, body-worded, items-words-length, items-in-length, written-accepted, written-back, accepted-back}
 use Rattle.sheet.proofs.Forms.{row-tested, symbol-tested, items-below, row-back, items-back, row-items-length, row-of-length, symbols-below, row-room, symbol-room}
 use Rattle.sheet.proofs.Bytes.{bytes-length, as-words-bytes, as-bytes-words}
 

@@ -2,27 +2,22 @@
 -- Assumes nothing.
 use mathlib.Core.Path.{_≡_, refl, sym, ap, ap₂, _∙_, subst}
 use mathlib.Core.Logic.{_⊎_, inl, inr}
-use mathlib.Core.Bool.{Bool, true, false, _&&_, not, cond}
-use mathlib.Core.List.{List, [], _∷_}
+use mathlib.Core.List.{List, []}
 use Prim.Native.Nat.{ℕ, zero, suc, _+_, _-_, _<_, _≤_}
 use native.Mathlib.Nat.{add-zero, zero-add, add-suc, suc-add}
-use native.Mathlib.Numerals.{add-one}
 use native.Mathlib.Omega.{arith}
 use borrow.Author.Tests.{eq-eqb, ne-eqb}
-use lib.Dec.{eqb}
 use lib.ListN.{length, getD, drop}
 use lib.Seq.{drop-drop, drop-nil}
 use lib.IntN.{ℤ}
-use Rattle.code.specs.Code.{width, long}
-use Rattle.code.specs.Bits.{row-long}
-use Rattle.sheet.specs.Sheet.{Question, kind, head-code, low, head-kind, row-words, symbol-words, as-words, sheet-refusal, question-in, questions}
+use Rattle.code.specs.Code.{width}
+use Rattle.sheet.specs.Sheet.{Question, kind, head-code, head-kind, row-words, symbol-words, as-words, sheet-refusal, question-in, questions}
 use Rattle.sheet_reader.specs.declared.Cursor.{Cursor}
 use Rattle.sheet_reader.specs.declared.Step.{Step}
 use Rattle.sheet_reader.specs.declared.Yield.{Yield}
 use Rattle.sheet_reader.specs.declared.Yield.the-variants.{Found, NoneLeft, Refused}
 use Rattle.sheet_reader.specs.Calls.{opened, answered, moved, yielded, filled, question-here, Yield-says, chosen, row-first, word-first, Choice-says}
 use Rattle.sheet_reader.specs.Steps.{skipped}
-use Rattle.sheet_reader.proofs.Places.{answered-none}
 use Rattle.sheet_reader.proofs.Order.{Placed, placed-first, Done, More, cases}
 
 -- one turn of the loop over heads

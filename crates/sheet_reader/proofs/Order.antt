@@ -1,8 +1,8 @@
 -- The yields of a reader, one after another: what is left of the sheet after i yields holds what is left of the list after i questions.
 -- Assumes nothing.
-use mathlib.Core.Path.{_≡_, refl, sym, ap, ap₂, _∙_, subst}
+use mathlib.Core.Path.{_≡_, refl, sym, ap, ap₂, _∙_}
 use mathlib.Core.Logic.{_⊎_, inl, inr}
-use mathlib.Core.Bool.{Bool, true, false, not, cond}
+use mathlib.Core.Bool.{Bool, true, false, cond}
 use mathlib.Core.List.{List, [], _∷_}
 use Prim.Native.Nat.{ℕ, zero, suc, _+_, _-_, _%_, _<_, _≤_}
 use native.Mathlib.Nat.{add-zero, add-assoc}
@@ -10,39 +10,18 @@ use native.Mathlib.Numerals.{add-one}
 use native.Mathlib.Omega.{arith}
 use borrow.Author.Tests.{eqb-true}
 use lib.Dec.{eqb}
-use lib.ListN.{length, getD, drop, length-drop, drop-of-length-le}
+use lib.ListN.{length, getD, drop, length-drop}
 use lib.Seq.{drop-drop, getD-drop}
 use Rattle.code.specs.Code.{width, long}
 use Rattle.code.specs.Bits.{row-long}
-use Rattle.sheet.specs.Sheet.{
-  Question,
-  kind,
-  head-code,
-  low,
-  head-kind,
-  end-kind,
-  most,
-  row-words,
-  symbol-words,
-  as-words,
-  first,
-  after,
-  question-refusal,
-  end-refusal,
-  next-refusal,
-  rest-refusal,
-  sheet-refusal,
-  question-in,
-  questions-from,
-  questions,
-}
+use Rattle.sheet.specs.Sheet.{Question, kind, head-code, head-kind, end-kind, most, row-words, symbol-words, as-words, first, after, question-refusal, end-refusal, next-refusal, rest-refusal, sheet-refusal, question-in, questions-from, questions}
 use Rattle.sheet.proofs.Items.{held, first-none}
 use Rattle.sheet.proofs.Judging.{past}
 use Rattle.sheet_reader.specs.declared.Cursor.{Cursor}
 use Rattle.sheet_reader.specs.declared.Yield.{Yield}
 use Rattle.sheet_reader.specs.declared.Yield.the-variants.{Found, NoneLeft, Refused}
 use Rattle.sheet_reader.specs.Calls.{opened, answered, moved, yielded, question-here}
-use Rattle.sheet_reader.specs.Promise.{after-yields, In-order, Yields-in-order}
+use Rattle.sheet_reader.specs.Promise.{after-yields, Yields-in-order}
 use Rattle.sheet_reader.proofs.Places.{answered-none, answered-found}
 
 -- an accepted rest of a sheet begins with an end or with a question

@@ -1,9 +1,9 @@
 -- Refusals are small, so 100 and a count is none; what is answered at a word, by its tests.
 -- Assumes nothing.
-use mathlib.Core.Path.{_≡_, refl, sym, ap, ap₂, _∙_, subst}
-use mathlib.Core.Bool.{Bool, true, false, _&&_, not, cond}
+use mathlib.Core.Path.{_≡_, refl}
+use mathlib.Core.Bool.{Bool, true, false, not, cond}
 use mathlib.Core.List.{List, [], _∷_}
-use Prim.Native.Nat.{ℕ, zero, suc, _+_, _-_, _%_, _<_, _≤_}
+use Prim.Native.Nat.{ℕ, zero, suc, _-_, _%_, _<_, _≤_}
 use native.Mathlib.Omega.{arith}
 use borrow.Author.Tests.{eq-eqb, ne-eqb}
 use lib.Dec.{eqb, lit≤}
@@ -42,7 +42,6 @@ use Rattle.sheet.specs.Sheet.{
   questions,
 }
 use Rattle.sheet.specs.Calls.{judgement, judged}
-use Rattle.sheet_reader.specs.declared.Yield.{Yield}
 use Rattle.sheet_reader.specs.declared.Yield.the-variants.{Found, NoneLeft, Refused}
 use Rattle.sheet_reader.specs.Calls.{answered}
 

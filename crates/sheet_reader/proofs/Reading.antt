@@ -1,10 +1,10 @@
 -- The item at a place of a row or of a word, and one turn of the loops that fill the outputs.
 -- Assumes nothing.
-use mathlib.Core.Path.{_≡_, refl, sym, ap, ap₂, _∙_, subst}
+use mathlib.Core.Path.{_≡_, sym, ap, ap₂, _∙_}
 use mathlib.Core.Logic.{_⊎_, inl, inr}
-use mathlib.Core.List.{List, [], _∷_, _++_, append-assoc}
+use mathlib.Core.List.{List, _++_, append-assoc}
 use Prim.Native.Nat.{ℕ, zero, suc, _+_, _*_, _-_, _/_, _%_, _^_, _<_, _≤_}
-use native.Mathlib.Nat.{div-eq-of-lt, mod-eq-of-lt, mod-eq-sub-mod, div-eq-sub-div, min-eq-left, mul-suc, mul-zero, add-comm, mod-lt}
+use native.Mathlib.Nat.{div-eq-of-lt, mod-eq-of-lt, mod-eq-sub-mod, div-eq-sub-div, mul-suc, mul-zero, add-comm}
 use native.Mathlib.Numerals.{add-one}
 use native.Mathlib.Omega.{arith}
 use lib.Dec.{lit<}
@@ -12,7 +12,7 @@ use lib.ListN.{length, getD, take, drop, set, List·getD-append, List·getD-map}
 use lib.Seq.{getD-append-add, getD-drop, drop-cons, take-suc, set-at, length-take-le}
 use lib.IntN.{ℤ, pos}
 use Rattle.sheet.specs.declared.Form.{Form}
-use Rattle.sheet.specs.Sheet.{reliabilities, symbols, digits, body, used, items, count, items-in, row-of, signed-of, as-words}
+use Rattle.sheet.specs.Sheet.{reliabilities, symbols, body, used, items, count, items-in, row-of, signed-of, as-words}
 use Rattle.sheet.proofs.Digits.{digits-length, digits-at}
 use Rattle.sheet.proofs.Items.{le-or-lt, items-in-length}
 use Rattle.sheet.proofs.Forms.{row-of-length}

@@ -1,6 +1,6 @@
 -- What a reader yields, one after another. A statement is a type; proofs/Order.antt has the proof. Assumes nothing.
 use mathlib.Core.Path.{_≡_}
-use mathlib.Core.List.{List, [], _∷_}
+use mathlib.Core.List.{List, _∷_}
 use Prim.Native.Nat.{ℕ, zero, suc, _<_, _≤_}
 use lib.ListN.{length, getD, drop}
 use Rattle.code.specs.Code.{width, long}

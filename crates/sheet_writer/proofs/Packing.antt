@@ -1,16 +1,16 @@
 -- Reliabilities and symbols as numbers, one digit a turn; words stored as bytes.
 -- Assumes nothing.
 use mathlib.Core.Path.{_≡_, refl, sym, ap, ap₂, _∙_, subst}
-use mathlib.Core.Bool.{Bool, true, false, _&&_}
-use mathlib.Core.List.{List, [], _∷_, _++_, map, append-assoc, append-nil}
-use Prim.Native.Nat.{ℕ, zero, suc, _+_, _*_, _-_, _/_, _%_, _^_, _<_, _≤_, min}
-use native.Mathlib.Nat.{le-trans, lt-of-lt-of-le, pow-le-pow-right, add-zero}
+use mathlib.Core.Bool.{true, false}
+use mathlib.Core.List.{List, [], _∷_, _++_, append-assoc, append-nil}
+use Prim.Native.Nat.{ℕ, zero, suc, _+_, _*_, _-_, _/_, _%_, _^_, _<_, _≤_}
+use native.Mathlib.Nat.{lt-of-lt-of-le, pow-le-pow-right}
 use native.Mathlib.Numerals.{add-one}
 use native.Mathlib.Omega.{arith}
 use borrow.Author.Tests.{ltb-true, leb-true, le-ltb}
-use lib.Dec.{T, ltb, lit<, lit≤}
-use lib.ListN.{length, getD, take, drop, set, length-set, length-take, length-drop, length-append, drop-of-length-le, List·getD-map}
-use lib.Seq.{drop-cons, sets, sets-eq, getD-take, take-suc, take-at, drop-at, drop-drop, drop-append-add, take-all, length-take-le}
+use lib.Dec.{T, lit<}
+use lib.ListN.{length, getD, take, drop, set, length-take, length-drop, length-append, drop-of-length-le, List·getD-map}
+use lib.Seq.{drop-cons, sets-eq, getD-take, take-suc, take-at, drop-at, drop-drop, length-take-le}
 use lib.IntN.{ℤ, pos, negsuc, natAbs, _+ℤ_}
 use lib.Signed.{ltZ, nonNeg}
 use mir.Syntax.{w16, w32}
@@ -21,9 +21,9 @@ use Rattle.code.proofs.Words.{Below, below, good, widen}
 use Rattle.field.proofs.Tests.{to-T}
 use Rattle.metric.specs.Row.{bound, reliability-good, row-good}
 use Rattle.sheet.specs.Sheet.{digits, packed, unsigned-of, row-items, reliabilities, as-bytes}
-use Rattle.sheet.proofs.Digits.{packed-lt, digits-length}
+use Rattle.sheet.proofs.Digits.{packed-lt}
 use Rattle.sheet.proofs.Items.{both, below-parts}
-use Rattle.sheet.proofs.Forms.{unsigned-lt, items-below, row-items-length}
+use Rattle.sheet.proofs.Forms.{unsigned-lt, items-below}
 use Rattle.sheet.proofs.Bytes.{bytes-length}
 use Rattle.sheet_writer.specs.Steps.{begun}
 

@@ -1,21 +1,18 @@
 -- The words of a question one by one.
 -- Assumes nothing.
-use mathlib.Core.Path.{_≡_, refl, sym, ap, ap₂, _∙_, subst}
-use mathlib.Core.Bool.{Bool, true, false, _&&_}
-use mathlib.Core.List.{List, [], _∷_, _++_}
-use Prim.Native.Nat.{ℕ, zero, suc, _+_, _*_, _-_, _/_, _^_, _<_, _≤_}
+use mathlib.Core.Path.{_≡_, refl, sym, ap, _∙_}
+use mathlib.Core.List.{List, _∷_, _++_}
+use Prim.Native.Nat.{ℕ, zero, suc, _+_, _*_, _-_, _<_, _≤_}
 use native.Mathlib.Nat.{mul-suc, mul-zero, add-comm, not-suc-le-zero}
 use native.Mathlib.Omega.{arith}
 use lib.ListN.{length, getD, take, drop, length-append, List·getD-append}
 use lib.Seq.{drop-drop, getD-append-add}
 use lib.IntN.{ℤ}
-use Rattle.code.specs.Code.{code-good, width, long, symbols-good}
+use Rattle.code.specs.Code.{width, long}
 use Rattle.code.specs.Bits.{row-long}
-use Rattle.metric.specs.Row.{row-good}
 use Rattle.sheet.specs.declared.Form.{Form}
-use Rattle.sheet.specs.Sheet.{Question, reliabilities, symbols, head-kind, numbers, worded, packed, count, row-items, row-words, symbol-words, items-words, question-words, question-good}
+use Rattle.sheet.specs.Sheet.{reliabilities, symbols, head-kind, numbers, worded, packed, count, row-items, row-words, symbol-words, items-words, question-words}
 use Rattle.sheet.proofs.Items.{items-words-length}
-use Rattle.sheet.proofs.Trips.{Good, good-parts, code-lt, width-le}
 use Rattle.sheet_writer.specs.Steps.{question}
 
 some : (j : ℕ) → (j ≡ 0 → ⊥) → 0 < j

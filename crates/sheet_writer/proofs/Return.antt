@@ -1,7 +1,7 @@
 -- An accepted list holds questions that a sheet can hold, so the round trip of sheets applies to it.
 -- Assumes nothing.
 use mathlib.Core.Path.{_≡_, refl, ap₂}
-use mathlib.Core.Bool.{Bool, true, _&&_, not}
+use mathlib.Core.Bool.{true, _&&_, not}
 use mathlib.Core.List.{List, [], _∷_}
 use Prim.Native.Nat.{ℕ, _≤_}
 use native.Mathlib.Omega.{arith}
@@ -11,7 +11,7 @@ use lib.ListN.{length, drop}
 use lib.IntN.{ℤ}
 use Rattle.code.specs.Code.{width, long}
 use Rattle.code.specs.Bits.{row-long}
-use Rattle.sheet.specs.Sheet.{Question, most, written, question-good, all-good}
+use Rattle.sheet.specs.Sheet.{most, all-good}
 use Rattle.sheet.proofs.Items.{passed, both, first-none}
 use Rattle.sheet.proofs.Trips.{written-read}
 use Rattle.sheet.specs.Promise.{Written-read}

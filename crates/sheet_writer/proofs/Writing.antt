@@ -1,29 +1,28 @@
 -- The loop that writes: after i questions the output begins with their words, and what is left of the lent list is the rest of the questions.
 -- Assumes nothing.
-use mathlib.Core.Path.{_≡_, refl, sym, ap, ap₂, _∙_, subst}
-use mathlib.Core.Bool.{Bool, true, false, _&&_, not, cond}
+use mathlib.Core.Path.{_≡_, refl, sym, ap, ap₂, _∙_}
+use mathlib.Core.Bool.{true, not, cond}
 use mathlib.Core.List.{List, [], _∷_, _++_, append-assoc, append-nil}
 use Prim.Native.Nat.{ℕ, zero, suc, _+_, _*_, _-_, _^_, _<_, _≤_}
-use native.Mathlib.Nat.{add-zero}
 use native.Mathlib.Numerals.{add-one}
 use native.Mathlib.Omega.{arith}
 use borrow.Author.Tests.{not-false, ltb-true, le-leb, lt-leb, eq-eqb, ne-eqb}
 use lib.Dec.{ltb, eqb}
-use lib.ListN.{length, getD, take, drop, length-drop, length-append, length-take, drop-of-length-le, take-append-drop}
+use lib.ListN.{length, getD, take, drop, length-drop, length-append, take-append-drop}
 use lib.Seq.{drop-cons, take-add, drop-drop, take-all, length-take-le}
 use lib.IntN.{ℤ}
 use Rattle.code.specs.Code.{code-good, width, long, symbols-good}
 use Rattle.code.specs.Bits.{row-long}
 use Rattle.code.specs.Calls.{Outcome}
 use Rattle.metric.specs.Row.{row-good}
-use Rattle.sheet.specs.Sheet.{Question, end-kind, most, numbers, worded, digits, first, row-words, symbol-words, question-words, all-words, as-bytes, written, question-good}
+use Rattle.sheet.specs.Sheet.{Question, end-kind, most, numbers, worded, digits, first, question-words, all-words, written, question-good}
 use Rattle.sheet.proofs.Items.{passed, held, first-none}
 use Rattle.sheet.proofs.Bytes.{bytes-length}
 use Rattle.sheet.proofs.Scan.{first-some, first-next}
-use Rattle.sheet.proofs.Trips.{Good, parts-good}
+use Rattle.sheet.proofs.Trips.{parts-good}
 use Rattle.sheet_writer.specs.Calls.{listed, fits, parts-refusal, asked-refusal, list-refusal, write-refusal, Write-says}
 use Rattle.sheet_writer.specs.Steps.{words-needed, begun, question}
-use Rattle.sheet_writer.proofs.Lists.{room, list-step, enough}
+use Rattle.sheet_writer.proofs.Lists.{room, list-step}
 use Rattle.sheet_writer.proofs.Packing.{begun-none, begun-length, begun-join, begun-word, begun-all}
 use Rattle.sheet_writer.proofs.Questions.{words-length}
 

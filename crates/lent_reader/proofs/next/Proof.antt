@@ -43,7 +43,6 @@ use denote.Triple.Table.{entered, cited}
 use denote.Triple.Walked.{says, Stays, stay-none, gave-slice, walkOf, goes-none, goes-gave-slice, Walks, ends-at, walked, walk-meets}
 use denote.Exit.{yes}
 use denote.Triple.Clauses.{ensured, lasts}
-use Rattle.sheet_reader.specs.declared.Cursor.{Cursor}
 use Rattle.sheet_reader.specs.declared.Step.{Step}
 use Rattle.sheet_reader.specs.Calls.{Yield-says}
 use Rattle.sheet_reader.proofs.Step as S

@@ -1,6 +1,6 @@
 -- `sheet_reader::answer_at` meets its contract.
 -- Assumes nothing.
-use mathlib.Core.Path.{_≡_, ap, ap₂, sym, _∙_, subst}
+use mathlib.Core.Path.{_≡_, ap, ap₂, sym, _∙_}
 use mathlib.Core.Bool.{true}
 use Prim.Native.Nat.{ℕ}
 use lib.ListN.{getD}
@@ -10,7 +10,6 @@ use Rattle.code.specs.Code.{width, long}
 use Rattle.code.specs.Bits.{row-long}
 use Rattle.sheet.specs.Sheet.{as-words, kind, head-code, low, head-kind}
 use Rattle.sheet.proofs.Judging.{width-fine}
-use Rattle.sheet_reader.specs.declared.Yield.{Yield}
 use Rattle.sheet_reader.specs.declared.Yield.the-variants.{Found}
 use Rattle.sheet_reader.specs.Calls.{answered}
 use Rattle.sheet_reader.proofs.Places.{answered-refused, answered-none, answered-row, answered-word, answered-found}

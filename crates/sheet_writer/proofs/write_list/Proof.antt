@@ -1,17 +1,16 @@
 -- `sheet_writer::write_list` meets its contract.
 -- Assumes nothing.
-use mathlib.Core.Path.{_≡_, refl, sym, ap, ap₂, _∙_, subst}
+use mathlib.Core.Path.{_≡_, ap, ap₂, _∙_}
 use mathlib.Core.Bool.{true}
 use mathlib.Core.List.{List, _++_, append-nil}
-use Prim.Native.Nat.{ℕ, _+_, _*_, _-_, _/_, _<_, _≤_}
+use Prim.Native.Nat.{ℕ, _+_, _*_, _-_, _/_, _≤_}
 use lib.ListN.{length, getD, take, drop, length-drop, drop-of-length-le}
 use lib.Seq.{take-all}
-use lib.IntN.{ℤ}
 use denote.Ref.{now}
 use Rattle.field.specs.Field.{width-good}
 use Rattle.code.specs.Code.{width, long}
 use Rattle.code.specs.Bits.{row-long}
-use Rattle.sheet.specs.Sheet.{Question, digits, question-words, question-good, row-words, symbol-words}
+use Rattle.sheet.specs.Sheet.{Question, digits, question-words, question-good}
 use Rattle.sheet.proofs.Judging.{width-fine, row-words-le, symbol-words-le}
 use Rattle.sheet_writer.specs.Steps.{question, begun}
 use Rattle.sheet_writer.proofs.Questions.{words-length}

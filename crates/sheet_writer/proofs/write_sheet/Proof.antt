@@ -1,11 +1,8 @@
 -- `sheet_writer::write_sheet` meets its contract.
 -- Assumes nothing.
-use mathlib.Core.Path.{_≡_, sym, ap, _∙_, subst}
+use mathlib.Core.Path.{sym, ap, _∙_}
 use Prim.Native.Nat.{ℕ, _+_, _*_, _≤_}
-use lib.ListN.{length}
 use denote.Ref.{now}
-use Rattle.sheet_writer.specs.Calls.{list-refusal}
-use Rattle.sheet_writer.specs.Steps.{words-needed}
 use Rattle.sheet_writer.proofs.Lists.{needed-le}
 use Rattle.sheet_writer.proofs.Writing.{refuses, writes, too-many, unequal, of-list, misfit, fitting, needed-is}
 use native.Mathlib.Omega.{arith}

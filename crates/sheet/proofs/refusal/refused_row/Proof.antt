@@ -1,6 +1,6 @@
 -- `sheet::refused_row` meets its contract.
 -- Assumes nothing.
-use mathlib.Core.Path.{ap, ap₂, _∙_, subst, sym}
+use mathlib.Core.Path.{ap₂, _∙_, subst, sym}
 use mathlib.Core.List.{List}
 use Prim.Native.Nat.{ℕ, _<_}
 use lib.Dec.{lit<}

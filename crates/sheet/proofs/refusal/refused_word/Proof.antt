@@ -3,7 +3,6 @@
 use mathlib.Core.Path.{_≡_, sym, ap, ap₂, _∙_}
 use mathlib.Core.Bool.{Bool, true, false, cond}
 use Prim.Native.Nat.{ℕ, _/_, _^_}
-use borrow.Author.Tests.{not-false}
 use Rattle.sheet.specs.Sheet.{digits, kind, body, used, items, unused, word-refusal}
 use Rattle.sheet.specs.Steps.{outside}
 use Rattle.sheet.proofs.Scan.{wrong-kind, not-clear, clear-word}

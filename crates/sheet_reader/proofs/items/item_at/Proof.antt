@@ -1,7 +1,7 @@
 -- `sheet_reader::item_at` meets its contract.
 -- Assumes nothing.
-use mathlib.Core.Path.{ap, ap₂, _∙_}
-use Prim.Native.Nat.{ℕ, _/_, _%_, _^_, _≤_}
+use mathlib.Core.Path.{ap, _∙_}
+use Prim.Native.Nat.{ℕ, _/_, _%_, _^_}
 use native.Mathlib.Nat.{div-le-self}
 use Rattle.sheet.specs.Sheet.{body}
 use native.Mathlib.Omega.{arith}

@@ -1,14 +1,13 @@
 -- `sheet_reader::read_row` meets its contract.
 -- Assumes nothing.
-use mathlib.Core.Path.{_≡_, refl, ap, sym, _∙_, subst}
+use mathlib.Core.Path.{_≡_, refl, ap, sym, _∙_}
 use mathlib.Core.List.{List, _++_, append-nil}
-use Prim.Native.Nat.{ℕ, _+_, _-_, _<_, _≤_}
+use Prim.Native.Nat.{ℕ, _+_, _-_, _≤_}
 use native.Mathlib.Omega.{arith}
 use lib.ListN.{length, getD, take, drop, set, length-set, drop-of-length-le}
 use lib.Seq.{take-all}
 use lib.IntN.{ℤ, pos}
 use denote.Ref.{now}
-use Rattle.sheet.specs.Sheet.{as-words}
 use Rattle.sheet_reader.proofs.Reading.{row-here, row-here-length, row-item, filled-more}
 use mir.Syntax.{w16}
 use mir.Val.{SFits}

@@ -1,14 +1,12 @@
 -- `sheet_reader::read_symbols` meets its contract.
 -- Assumes nothing.
-use mathlib.Core.Path.{_≡_, refl, ap, sym, _∙_, subst}
+use mathlib.Core.Path.{_≡_, refl, ap, sym, _∙_}
 use mathlib.Core.List.{List, _++_, append-nil}
-use Prim.Native.Nat.{ℕ, _+_, _-_, _<_, _≤_}
+use Prim.Native.Nat.{ℕ, _+_, _-_, _≤_}
 use native.Mathlib.Omega.{arith}
 use lib.ListN.{length, getD, take, drop, set, length-set, drop-of-length-le}
 use lib.Seq.{take-all}
-use lib.IntN.{ℤ, pos}
 use denote.Ref.{now}
-use Rattle.sheet.specs.Sheet.{as-words}
 use Rattle.sheet_reader.proofs.Reading.{word-here, word-here-length, word-item, filled-more}
 use borrow.Author.Needs.{needs}
 use Rattle.sheet_reader.proofs.items.read_symbols.Statement.{statement}

@@ -1,13 +1,12 @@
 -- `sheet_writer::needed` meets its contract.
 -- Assumes nothing.
-use mathlib.Core.Path.{_≡_, refl, sym, ap, _∙_}
+use mathlib.Core.Path.{_≡_, sym, ap, _∙_}
 use mathlib.Core.List.{List}
 use Prim.Native.Nat.{ℕ, _+_, _-_, _≤_}
-use lib.ListN.{length, getD, drop, drop-of-length-le, length-drop}
+use lib.ListN.{length, getD, drop, length-drop}
 use lib.Seq.{drop-length}
 use denote.Ref.{now}
 use Rattle.code.specs.Code.{width}
-use Rattle.sheet.specs.Sheet.{row-words, symbol-words}
 use Rattle.sheet.proofs.Judging.{width-fine, row-words-le, symbol-words-le}
 use Rattle.sheet_writer.specs.Steps.{words-needed}
 use Rattle.sheet_writer.proofs.Lists.{needed-step, needed-le}

@@ -4,7 +4,7 @@ use mathlib.Core.Path.{_≡_, sym, ap, _∙_, subst}
 use mathlib.Core.List.{List}
 use Prim.Native.Nat.{ℕ, _-_, _<_, _≤_}
 use lib.Dec.{lit<}
-use lib.ListN.{length, getD, take, drop, length-take}
+use lib.ListN.{length, take, drop, length-take}
 use denote.Ref.{now}
 use Rattle.sheet.specs.Sheet.{packed}
 use Rattle.sheet_writer.proofs.Packing.{digit-turn, digit-bound, packed-end, symbol-below}

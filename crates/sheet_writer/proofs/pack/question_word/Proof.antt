@@ -1,14 +1,12 @@
 -- `sheet_writer::question_word` meets its contract.
 -- Assumes nothing.
 use mathlib.Core.Path.{_≡_, sym, ap, _∙_, subst}
-use mathlib.Core.Bool.{true}
-use mathlib.Core.List.{List}
 use Prim.Native.Nat.{ℕ, _+_, _*_, _-_, _<_, _≤_}
 use lib.ListN.{length, take, drop}
 use denote.Ref.{now}
 use Rattle.field.specs.Field.{width-good}
 use Rattle.code.specs.Code.{width}
-use Rattle.sheet.specs.Sheet.{packed, row-items, row-words}
+use Rattle.sheet.specs.Sheet.{packed, row-words}
 use Rattle.sheet.proofs.Judging.{width-fine}
 use Rattle.sheet.proofs.Trips.{Good, good-parts, code-lt, width-le}
 use Rattle.sheet_writer.specs.Steps.{question}

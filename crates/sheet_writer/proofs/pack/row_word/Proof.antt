@@ -1,6 +1,6 @@
 -- `sheet_writer::row_word` meets its contract.
 -- Assumes nothing.
-use mathlib.Core.Path.{_≡_, sym, ap, _∙_, subst}
+use mathlib.Core.Path.{_≡_, ap, _∙_}
 use mathlib.Core.List.{List}
 use Prim.Native.Nat.{ℕ, _+_, _*_, _-_, _<_}
 use lib.Dec.{lit<}
@@ -8,10 +8,9 @@ use lib.ListN.{length, take, drop, length-drop}
 use lib.Seq.{take-all}
 use lib.IntN.{ℤ}
 use denote.Ref.{now}
-use Rattle.code.specs.Code.{symbols-good}
 use Rattle.metric.specs.Row.{row-good}
 use Rattle.sheet.specs.Sheet.{packed, row-items}
-use Rattle.sheet_writer.proofs.Packing.{digit-bound, row-below, symbol-below, row-items-drop, row-good-drop, symbols-drop}
+use Rattle.sheet_writer.proofs.Packing.{digit-bound, row-below, row-items-drop, row-good-drop}
 use native.Mathlib.Omega.{arith}
 use borrow.Author.Needs.{needs}
 use Rattle.sheet_writer.proofs.pack.row_word.Statement.{statement}
