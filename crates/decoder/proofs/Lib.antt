@@ -5,3 +5,4 @@ pub mod Refusals
 pub mod Decodings
 pub mod Inputs
 pub mod Joins
+pub mod Marking
