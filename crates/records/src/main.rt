@@ -1,6 +1,8 @@
 // Runs the values on record and compares them: one line a topic, how many of its comparisons agree.
 mod codes;
+mod decodings;
 mod fields;
+mod marks;
 mod samples;
 mod splits;
 mod tally;
@@ -12,6 +14,8 @@ fn main() {
     report(b"codes", codes::agree());
     report(b"split", splits::agree());
     report(b"quantiser", samples::agree());
+    report(b"decoder", decodings::agree());
+    report(b"marker", marks::agree());
 }
 
 fn report(topic: &[u8], t: Tally) {
