@@ -14,12 +14,14 @@ ghost use Rattle.metric.specs.Metric.{Decoded};
 ghost use Rattle.glue.specs.Walk.{Marginals};
 
 // 0 and the best metric, or the number of a refusal and 0.
+#[repr(C)]
 pub struct Decoding {
     pub number: u32,
     pub metric: i32,
 }
 
 // 0 with the verdict (0 none, 1 short, 2 best) and the shortfall, or the number of a refusal with 0 and 0.
+#[repr(C)]
 pub struct Mark {
     pub number: u32,
     pub verdict: u32,

@@ -1,6 +1,10 @@
 // Runs the values on record and compares them: one line a topic, how many of its comparisons agree.
 mod codes;
+mod decodings;
 mod fields;
+mod marks;
+mod samples;
+mod splits;
 mod tally;
 
 use tally::Tally;
@@ -8,6 +12,10 @@ use tally::Tally;
 fn main() {
     report(b"fields", fields::agree());
     report(b"codes", codes::agree());
+    report(b"split", splits::agree());
+    report(b"quantiser", samples::agree());
+    report(b"decoder", decodings::agree());
+    report(b"marker", marks::agree());
 }
 
 fn report(topic: &[u8], t: Tally) {

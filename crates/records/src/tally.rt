@@ -26,4 +26,19 @@ impl Tally {
             total: std::num::wrapping_add_u64(self.total, other.total),
         }
     }
+
+    // One comparison of the lengths, and one of each place.
+    pub fn places(self, found: &[i16], expected: &[i16]) -> Tally {
+        let mut t = self.with(found.len() == expected.len());
+        let mut i: usize = 0;
+        while i < found.len() {
+            t = t.with(is_at(expected, i, found[i]));
+            i += 1;
+        }
+        t
+    }
+}
+
+fn is_at(row: &[i16], i: usize, r: i16) -> bool {
+    if i < row.len() { row[i] == r } else { false }
 }

@@ -19,6 +19,7 @@ ghost use Rattle.split.specs.Within.{Coset, Position-of, Layer-of, Layer
 ghost use Rattle.split.specs.Calls.{split-refusal, Split-right, Split-says};
 
 // The number of a refusal, or 0 with the configuration of the word.
+#[repr(C)]
 pub struct Splitting {
     pub number: u32,
     pub configuration: [u16; 4],

@@ -1,0 +1,172 @@
+//! Compares this library with plain Rust of the same algorithm and with a Wolf trellis of the whole code.
+//!
+//!     bench check CODE ROWS           all three agree on that many rows
+//!     bench call WHICH CALL CODE N    N calls on rows of one pool, for a count of instructions
+//!     bench time WHICH CALL CODE N    nanoseconds a call, the least of five runs of N calls
+//!
+//! WHICH is library, plain or wolf; CALL is decode or mark.
+
+mod codes;
+mod library;
+mod plain;
+mod wolf;
+
+use codes::Code;
+use plain::Plain;
+use std::hint::black_box;
+use std::time::Instant;
+use wolf::Wolf;
+
+/// As many rows are made before any call, so that a call's cost is the difference of two runs.
+const POOL: usize = 32;
+
+struct Decoders {
+    number: u32,
+    plain: Plain,
+    wolf: Wolf,
+}
+
+impl Decoders {
+    fn new(number: u32) -> Decoders {
+        Decoders { number, plain: Plain::new(number), wolf: Wolf::new(number) }
+    }
+
+    fn decode(&mut self, which: &str, row: &[i16], word: &mut [u8], soft: &mut [i16]) -> i32 {
+        match which {
+            "library" => library::decode(self.number, row, word, soft),
+            "plain" => self.plain.decode(row, word, soft),
+            "wolf" => self.wolf.decode(row, word, soft),
+            _ => usage(),
+        }
+    }
+
+    fn mark(&mut self, which: &str, row: &[i16], word: &[u8]) -> (u32, i32) {
+        match which {
+            "library" => library::mark(self.number, row, word),
+            "plain" => self.plain.mark(row, word),
+            "wolf" => self.wolf.mark(row, word),
+            _ => usage(),
+        }
+    }
+}
+
+fn usage() -> ! {
+    eprintln!("bench check CODE ROWS | call WHICH CALL CODE N | time WHICH CALL CODE N");
+    std::process::exit(2)
+}
+
+/// Reliabilities from -127 to 127, by xorshift.
+struct Rows {
+    state: u64,
+    bits: usize,
+}
+
+impl Rows {
+    fn new(bits: usize) -> Rows {
+        Rows { state: 0x9E37_79B9_7F4A_7C15, bits }
+    }
+
+    fn draw(&mut self) -> u64 {
+        self.state ^= self.state << 13;
+        self.state ^= self.state >> 7;
+        self.state ^= self.state << 17;
+        self.state >> 11
+    }
+
+    fn within(&mut self, size: u64) -> Vec<i16> {
+        (0..self.bits).map(|_| (self.draw() % (2 * size + 1)) as i16 - size as i16).collect()
+    }
+}
+
+/// Rows with the words to mark for them: each is the best word of the row before.
+fn pool(number: u32) -> Vec<(Vec<i16>, Vec<u8>)> {
+    let code = Code::of(number);
+    let mut rows = Rows::new(code.bits());
+    let mut plain = Plain::new(number);
+    let mut soft = vec![0; code.bits()];
+    let mut handed = vec![0; code.n];
+    (0..POOL)
+        .map(|_| {
+            let row = rows.within(127);
+            let word = handed.clone();
+            plain.decode(&row, &mut handed, &mut soft);
+            (row, word)
+        })
+        .collect()
+}
+
+fn calls(which: &str, call: &str, decoders: &mut Decoders, pool: &[(Vec<i16>, Vec<u8>)], n: usize) {
+    let code = Code::of(decoders.number);
+    let mut word = vec![0; code.n];
+    let mut soft = vec![0; code.bits()];
+    for (row, handed) in pool.iter().cycle().take(n) {
+        match call {
+            "decode" => {
+                black_box(decoders.decode(which, black_box(row), &mut word, &mut soft));
+                black_box(&soft);
+            }
+            "mark" => {
+                black_box(decoders.mark(which, black_box(row), black_box(handed)));
+            }
+            _ => usage(),
+        }
+    }
+}
+
+/// Random rows, and rows near 0 that tie often. Metrics, soft outputs and marks are the same; a word is a codeword with the best metric.
+fn check(number: u32, count: usize) {
+    let code = Code::of(number);
+    let mut rows = Rows::new(code.bits());
+    let mut decoders = Decoders::new(number);
+    let mut handed = vec![0; code.n];
+    let mut verdicts = [0; 3];
+    for k in 0..count {
+        let row = rows.within([127, 1, 127, 0, 127, 3][k % 6]);
+        let mut seen = None;
+        for which in ["library", "plain", "wolf"] {
+            let mut word = vec![0; code.n];
+            let mut soft = vec![0; code.bits()];
+            let metric = decoders.decode(which, &row, &mut word, &mut soft);
+            assert!(decoders.wolf.is_codeword(&word), "{which}: no codeword for row {k}");
+            assert_eq!(code.metric(&row, &word), metric, "{which}: metric of row {k}");
+            let mut turned = handed.clone();
+            turned[k % code.n] ^= 1;
+            let marks = [&handed, &word, &turned].map(|w| decoders.mark(which, &row, w));
+            let result = (metric, soft, marks);
+            match &seen {
+                None => seen = Some(result),
+                Some(first) => assert_eq!(*first, result, "{which}: row {k}"),
+            }
+            if which == "wolf" {
+                marks.iter().for_each(|m| verdicts[m.0 as usize] += 1);
+                handed = word;
+            }
+        }
+    }
+    let [none, short, best] = verdicts;
+    println!("code {number}: all three agree on {count} rows and on marks of {best} best, {short} short and {none} other words");
+}
+
+fn main() {
+    let args: Vec<String> = std::env::args().skip(1).collect();
+    let args: Vec<&str> = args.iter().map(String::as_str).collect();
+    let number = |s: &str| s.parse::<u32>().unwrap_or_else(|_| usage());
+    match args[..] {
+        ["check", code, count] => check(number(code), number(count) as usize),
+        ["call", which, call, code, n] => {
+            let code = number(code);
+            calls(which, call, &mut Decoders::new(code), &pool(code), number(n) as usize);
+        }
+        ["time", which, call, code, n] => {
+            let (code, n) = (number(code), number(n) as usize);
+            let (mut decoders, pool) = (Decoders::new(code), pool(code));
+            let run = |_| {
+                let start = Instant::now();
+                calls(which, call, &mut decoders, &pool, n);
+                start.elapsed().as_nanos() as usize / n
+            };
+            println!("{}", (0..5).map(run).min().unwrap());
+        }
+        _ => usage(),
+    }
+}

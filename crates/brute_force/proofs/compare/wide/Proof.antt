@@ -1,0 +1,16 @@
+-- `brute_force::compare::wide` is safe and ends.
+-- Assumes nothing.
+use mir.Facts.{toZ-ofZ}
+use borrow.Author.Needs.{needs}
+use Rattle.brute_force.proofs.Signed.{wider}
+use Rattle.brute_force.proofs.compare.wide.Statement.{statement}
+use Rattle.brute_force.proofs.compare.wide.Tie as tie
+
+cast-result : tie.Need-cast-result
+cast-result c = rw (toZ-ofZ (c .fits .x)) (wider (c .args .x) (c .fits .x))
+
+returns : tie.Need-returns
+returns c = search needs
+
+pub wide-spec : {M : Type 1} → statement M
+wide-spec = tie.close (tie.spec cast-result returns)

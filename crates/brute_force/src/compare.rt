@@ -1,0 +1,181 @@
+// One row: the decoding and the marks of some words, against the greatest metrics of the listed codewords.
+use crate::rows;
+use crate::words;
+
+// How many of each agree, and how many words had each verdict.
+pub struct Tally {
+    pub rows: u64,
+    pub metrics: u64,
+    pub words: u64,
+    pub softs: u64,
+    pub marks: u64,
+    pub none: u64,
+    pub short: u64,
+    pub best: u64,
+}
+
+impl Tally {
+    pub fn nothing() -> Tally {
+        Tally {
+            rows: 0,
+            metrics: 0,
+            words: 0,
+            softs: 0,
+            marks: 0,
+            none: 0,
+            short: 0,
+            best: 0,
+        }
+    }
+
+    fn with_row(self, metric: bool, word: bool, softs: u64) -> Tally {
+        Tally {
+            rows: plus(self.rows, 1),
+            metrics: plus(self.metrics, one_if(metric)),
+            words: plus(self.words, one_if(word)),
+            softs: plus(self.softs, softs),
+            marks: self.marks,
+            none: self.none,
+            short: self.short,
+            best: self.best,
+        }
+    }
+
+    fn with_mark(self, agrees: bool, verdict: u32) -> Tally {
+        Tally {
+            rows: self.rows,
+            metrics: self.metrics,
+            words: self.words,
+            softs: self.softs,
+            marks: plus(self.marks, one_if(agrees)),
+            none: plus(self.none, one_if(verdict == 0)),
+            short: plus(self.short, one_if(verdict == 1)),
+            best: plus(self.best, one_if(verdict == 2)),
+        }
+    }
+}
+
+// (No program counts so far that these wrap.)
+fn plus(a: u64, b: u64) -> u64 {
+    std::num::wrapping_add_u64(a, b)
+}
+
+fn one_if(b: bool) -> u64 {
+    if b { 1 } else { 0 }
+}
+
+// a - b as a signed number; the metrics compared here are far below 2^16.
+fn difference(a: u32, b: u32) -> i32 {
+    if a < b {
+        negative(b - a)
+    } else {
+        ((a - b) % 65536) as i32
+    }
+}
+
+fn negative(x: u32) -> i32 {
+    let n = (x % 65536) as i32;
+    0 - n
+}
+
+fn wide(x: i16) -> i32 {
+    x as i32
+}
+
+// How many soft outputs are the greatest metric with a 0 less that with a 1.
+fn softs_agree(soft: &[i16; 21], zero: &[u32; 21], one: &[u32; 21]) -> u64 {
+    let mut n: u64 = 0;
+    for b in 0..21 {
+        n = plus(n, one_if(wide(soft[b]) == difference(zero[b], one[b])));
+    }
+    n
+}
+
+// What every metric is raised by.
+const RAISED: u32 = 2667;
+
+// What a row is compared by: its levels, itself and its greatest metric, raised.
+struct Sought {
+    levels: [u32; 21],
+    row: [i16; 21],
+    best: u32,
+}
+
+// The mark of a word. It is a codeword where the listed word of its message is itself.
+fn with_mark(t: Tally, code: u32, words: &[u32], s: Sought, word: u32) -> Tally {
+    let row = s.row;
+    let levels = s.levels;
+    let symbols = words::symbols(word);
+    let mark = decoder::judge_word(code, &row, &symbols);
+    let own = words::metric(&levels, word);
+    let verdict = if is_listed(code, words, word) {
+        if own == s.best { 2 } else { 1 }
+    } else {
+        0
+    };
+    let shortfall = if verdict == 1 {
+        difference(s.best, own)
+    } else {
+        0
+    };
+    let agrees = mark.number == 0 && mark.verdict == verdict && mark.shortfall == shortfall;
+    t.with_mark(agrees, verdict)
+}
+
+fn is_listed(code: u32, words: &[u32], word: u32) -> bool {
+    let x = words::message_of(code, word) as usize;
+    if x < words.len() {
+        words[x] == word
+    } else {
+        false
+    }
+}
+
+// A listed word by a number that was drawn.
+fn one_of(words: &[u32], x: u32) -> u32 {
+    let i = x as usize;
+    if i < words.len() { words[i] } else { 0 }
+}
+
+// The hard decisions of a row: 1 where the reliability is negative.
+fn hard(levels: &[u32; 21]) -> u32 {
+    let mut word: u32 = 0;
+    for b in 0..21 {
+        word = std::num::wrapping_add_u32(word / 2, if levels[b] < 127 { 1048576 } else { 0 });
+    }
+    word
+}
+
+// The marks of eight words: the decoded one, the constant ones, the hard decisions, a codeword that was drawn and one near the decoded
+// word, and two with one bit turned.
+fn with_marks(t: Tally, code: u32, words: &[u32], s: Sought, decoded: u32, state: u32) -> Tally {
+    let levels = s.levels;
+    let x = rows::drawn(rows::next(state)) % 512;
+    let drawn = one_of(words, x);
+    let a = with_mark(t, code, words, s, decoded);
+    let b = with_mark(a, code, words, s, 0);
+    let c = with_mark(b, code, words, s, 2097151);
+    let d = with_mark(c, code, words, s, hard(&levels));
+    let e = with_mark(d, code, words, s, drawn);
+    let f = with_mark(e, code, words, s, decoded ^ one_of(words, 1));
+    let g = with_mark(f, code, words, s, drawn ^ 16);
+    with_mark(g, code, words, s, decoded ^ 1048576)
+}
+
+// One row, decoded and marked.
+pub fn with_row(t: Tally, code: u32, words: &[u32], k: u32, state: u32) -> Tally {
+    let levels = rows::levels(k, state);
+    let row = rows::row_of(&levels);
+    let mut zero = [0u32; 21];
+    let mut one = [0u32; 21];
+    let best = words::greatest(&levels, words, &mut zero, &mut one);
+    let mut word = [0u8; 7];
+    let mut soft = [0i16; 21];
+    let d = decoder::decode(code, &row, &mut word, &mut soft);
+    let decoded = words::packed(word);
+    let metric = d.number == 0 && d.metric == difference(best, RAISED);
+    let member = is_listed(code, words, decoded) && words::metric(&levels, decoded) == best;
+    let s = Sought { levels, row, best };
+    let u = t.with_row(metric, member, softs_agree(&soft, &zero, &one));
+    with_marks(u, code, words, s, decoded, state)
+}

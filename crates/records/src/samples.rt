@@ -1,0 +1,114 @@
+// The quantiser: the samples on record, the edges beside them, and the refusals in their order with the row kept.
+use crate::tally::Tally;
+
+// Samples by their bits: the four on record (1.0, 1/64, -1/64, 3.984375), both zeros, both infinities, the least subnormal, the floats
+// next to 1/64 and to -1/64, 2.5/32, 126.5/32 with the floats next to it, the negatives of two of these, and the largest of both signs.
+const SAMPLES: [u32; 21] = [
+    0x3f800000,
+    0x3c800000,
+    0xbc800000,
+    0x407f0000,
+    0x00000000,
+    0x80000000,
+    0x7f800000,
+    0xff800000,
+    0x00000001,
+    0x3c7fffff,
+    0x3c800001,
+    0xbc7fffff,
+    0xbc800001,
+    0x3da00000,
+    0x407cffff,
+    0x407d0000,
+    0x407d0001,
+    0xc07cffff,
+    0xc07d0000,
+    0x7f7fffff,
+    0xff7fffff,
+];
+
+const QUANTISED: [i16; 21] = [
+    32,
+    1,
+    -1,
+    127,
+    0,
+    0,
+    127,
+    -127,
+    0,
+    0,
+    1,
+    0,
+    -1,
+    3,
+    126,
+    127,
+    127,
+    -126,
+    -127,
+    127,
+    -127,
+];
+
+pub fn agree() -> Tally {
+    let taken = on_record();
+    let other = with_nan();
+    values(&taken).plus(refusals(&other))
+}
+
+fn values(samples: &[f32; 21]) -> Tally {
+    let row = QUANTISED;
+    let kept = [9i16; 21];
+    gives(1, samples, 0, &row)
+        .plus(gives(2, samples, 0, &row))
+        .plus(gives(4, samples, 1, &kept))
+        .plus(gives(3, samples, 2, &kept))
+}
+
+// The last of the samples is not a number.
+fn refusals(samples: &[f32; 21]) -> Tally {
+    let kept = [9i16; 21];
+    gives(1, samples, 7, &kept)
+        .plus(gives(0, samples, 1, &kept))
+        .plus(gives(3, samples, 2, &kept))
+        .plus(gives(1, samples, 4, &kept[..20]))
+}
+
+fn with_nan() -> [f32; 21] {
+    let mut samples = on_record();
+    samples[20] = float_of(0x7fc00000);
+    samples
+}
+
+// The float with these bits; every NaN's bits give the one NaN.
+fn float_of(bits: u32) -> f32 {
+    if bits % 2147483648 > 2139095040 {
+        return 0.0 / 0.0;
+    }
+    f32::from_bits(bits)
+}
+
+// The samples, from their bits.
+fn on_record() -> [f32; 21] {
+    let mut samples = [0.0f32; 21];
+    for i in 0..21 {
+        samples[i] = float_of(SAMPLES[i]);
+    }
+    samples
+}
+
+// Quantising into nines answers a number and leaves a row: a comparison a place.
+fn gives(code: u32, samples: &[f32], number: u32, row: &[i16]) -> Tally {
+    let n = row.len();
+    let mut space = [9i16; 21];
+    if 21 < n {
+        return Tally::none().with(false);
+    }
+    gives_in(code, samples, number, row, &mut space[..n])
+}
+
+fn gives_in(code: u32, samples: &[f32], number: u32, row: &[i16], space: &mut [i16]) -> Tally {
+    let answer = quantiser::quantise(code, samples, space);
+    Tally::none().with(answer == number).places(space, row)
+}

@@ -1,0 +1,19 @@
+-- `tugzeck::tugzeck_check_word` meets its contract: the number of the answer that the codeword test promises.
+-- Assumes nothing.
+use mathlib.Core.Path.{ap, _∙_}
+use borrow.Author.Needs.{needs}
+use Rattle.code.specs.Calls.{number-of}
+use Rattle.tugzeck.proofs.tugzeck_check_word.Statement.{statement}
+use Rattle.tugzeck.proofs.tugzeck_check_word.Tie as tie
+
+check-word-requires : tie.Need-check-word-requires
+check-word-requires c κs = search needs
+
+number-of-requires : tie.Need-number-of-requires
+number-of-requires c κs = search needs
+
+returns : tie.Need-returns
+returns c = c .number-of .ensures ∙ ap number-of (c .before .check-word .ensures)
+
+pub tugzeck-check-word-spec : {M : Type 1} → statement M
+tugzeck-check-word-spec = tie.close (tie.spec check-word-requires number-of-requires returns)
