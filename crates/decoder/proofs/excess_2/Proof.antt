@@ -40,9 +40,10 @@ slice-aggregate-excess-with-5 c = search needs
 excess-with-requires : tie.Need-excess-with-requires
 unfolding width long
 excess-with-requires c κs = let s = c .before .before .before .before .before .before .before .before in
-    let a = s .args in
-    (input-2 (a .row .now) (s .pre .good-row) (s .pre .long-row) (take 256 (c .before .before .before .before .before .before .all-of .result)) (ap (take 256) (c .before .before .before .before .before .before .all-of .ensures)),
-    (record { length-hs = refl; length-zs = refl; length-os = refl; length-t = c .before .before .before .before .before .zeros-2048 .ensures }, s .pre .codeword))
+    let a = s .args in (
+      input-2 (a .row .now) (s .pre .good-row) (s .pre .long-row) (take 256 (c .before .before .before .before .before .before .all-of .result)) (ap (take 256) (c .before .before .before .before .before .before .all-of .ensures)),
+      (record { length-hs = refl; length-zs = refl; length-os = refl; length-t = c .before .before .before .before .before .zeros-2048 .ensures }, s .pre .codeword),
+    )
 
 returns : tie.Need-returns
 returns c = search needs

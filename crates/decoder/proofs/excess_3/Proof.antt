@@ -36,9 +36,10 @@ slice-aggregate-excess-with-5 c = search needs
 excess-with-requires : tie.Need-excess-with-requires
 unfolding width long
 excess-with-requires c κs = let s = c .before .before .before .before .before .before .before .before in
-    let a = s .args in
-    (input-3 (a .row .now) (s .pre .good-row) (s .pre .long-row) (c .before .before .before .before .before .before .all-of .result) (c .before .before .before .before .before .before .all-of .ensures ∙ sym whole-3),
-    (record { length-hs = refl; length-zs = refl; length-os = refl; length-t = c .before .before .before .before .before .zeros-1024 .ensures }, s .pre .codeword))
+    let a = s .args in (
+      input-3 (a .row .now) (s .pre .good-row) (s .pre .long-row) (c .before .before .before .before .before .before .all-of .result) (c .before .before .before .before .before .before .all-of .ensures ∙ sym whole-3),
+      (record { length-hs = refl; length-zs = refl; length-os = refl; length-t = c .before .before .before .before .before .zeros-1024 .ensures }, s .pre .codeword),
+    )
 
 returns : tie.Need-returns
 returns c = search needs
