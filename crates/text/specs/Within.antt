@@ -1,0 +1,23 @@
+-- What the functions that write a text leave in their buffer, for the crates above. Assumes nothing: these are definitions.
+use mathlib.Core.Path.{_≡_}
+use mathlib.Core.List.{List, _++_}
+use Prim.Native.Nat.{ℕ, _+_, _≤_}
+use mathlib.Core.Bool.{cond}
+use lib.ListN.{length, take, drop}
+use lib.IntN.{ℤ}
+use Rattle.metric.specs.Metric.{is-neg}
+use Rattle.text.specs.Text.{digit}
+
+-- the buffer with a text from a place on, the rest kept
+unfoldable pub put : (at : ℕ) → (text buffer : List ℕ) → List ℕ
+put at t o = take at o ++ (t ++ drop (at + length t) o)
+
+-- a text was written from a place on; `next` is the place behind it
+pub record Written (at : ℕ) (text buffer buffer-now : List ℕ) (next : ℕ) : Type 0 where
+  pub room : at + length text ≤ length buffer
+  pub now-is : buffer-now ≡ put at text buffer
+  pub next-is : next ≡ at + length text
+
+-- the decided bit of a soft output, as a digit
+unfoldable pub bit-digit : (soft : ℤ) → ℕ
+bit-digit s = digit (cond (is-neg s) 1 0)
