@@ -68,3 +68,10 @@ more at i x s o p h l e w =
 
 pub whole : (i : ℕ) (s : List ℕ) {at n : ℕ} {o p : List ℕ} → length s ≤ i → Written at (take i s) o p n → Written at s o p n
 whole i s h w = rw (take-all i s h) at w
+
+-- ---- room for a text is room for its beginning, and for the rest behind that
+pub fits-first : (s t : List ℕ) (at k : ℕ) → at + length (s ++ t) ≤ k → at + length s ≤ k
+fits-first s t at k h = omega (arith, rw length-append at h)
+
+pub fits-next : (s t : List ℕ) {at i : ℕ} {o p : List ℕ} → Written at s o p i → at + length (s ++ t) ≤ length o → i + length t ≤ length p
+fits-next s t w h = omega (arith, rw length-append at h, w .next-is, written-length w)

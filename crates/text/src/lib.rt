@@ -7,7 +7,7 @@ ghost use Prim.Native.Nat.{_+_, _<_, _≤_, min};
 ghost use lib.ListN.{length};
 ghost use lib.IntN.{natAbs};
 ghost use Rattle.text.specs.Text.{digit, decimal, signed, verdict-field, shortfall-field, bits-field, least-magnitude, header, question-line, count-line, refused-line};
-ghost use Rattle.text.specs.Within.{Written, bit-digit};
+ghost use Rattle.text.specs.Within.{Written, bit-digit, ended, numbers-part, mark-part, soft-part};
 
 const FEED: u8 = 10;
 
@@ -18,7 +18,7 @@ const DASH: u8 = 45;
 const ZERO: u8 = 48;
 
 pub fn put_byte(b: u8, out: &mut [u8], at: usize) -> usize
-    requires { ⌜ at < length (now out) ⌝ }
+    requires { ⌜ at + 1 ≤ length (now out) ⌝ }
     ensures { λ r. ⌜ Written at (b ∷ []) (now (out .entry)) (now (out .exit)) r ⌝ }
 {
     out[at] = b;
@@ -148,4 +148,86 @@ fn least_of(soft: &[i16]) -> u32
         i += 1;
     }
     least
+}
+
+// A number, and the byte that ends its field.
+fn put_number(n: u32, end: u8, out: &mut [u8], at: usize) -> usize
+    requires { ⌜ at + length (ended (decimal n) end) ≤ length (now out) ⌝ }
+    ensures { λ r. ⌜ Written at (ended (decimal n) end) (now (out .entry)) (now (out .exit)) r ⌝ }
+{
+    let next = put_decimal(n, out, at);
+    put_byte(end, out, next)
+}
+
+// The first three fields of a question's line.
+fn put_numbers(number: u32, code: u32, best: i32, out: &mut [u8], at: usize) -> usize
+    requires { ⌜ at + length (numbers-part number code best) ≤ length (now out) ⌝ }
+    ensures { λ r. ⌜ Written at (numbers-part number code best) (now (out .entry)) (now (out .exit)) r ⌝ }
+{
+    let a = put_number(number, SPACE, out, at);
+    let b = put_number(code, SPACE, out, a);
+    let c = put_signed(best, out, b);
+    put_byte(SPACE, out, c)
+}
+
+// The next two.
+fn put_mark(verdict: u32, shortfall: i32, out: &mut [u8], at: usize) -> usize
+    requires { ⌜ at + length (mark-part verdict shortfall) ≤ length (now out) ⌝ }
+    ensures { λ r. ⌜ Written at (mark-part verdict shortfall) (now (out .entry)) (now (out .exit)) r ⌝ }
+{
+    let a = put_verdict(verdict, out, at);
+    let b = put_byte(SPACE, out, a);
+    let c = put_shortfall(verdict, shortfall, out, b);
+    put_byte(SPACE, out, c)
+}
+
+// The last two.
+fn put_soft(soft: &[i16], out: &mut [u8], at: usize) -> usize
+    requires { ⌜ at + length (soft-part (now soft)) ≤ length (now out) ⌝ }
+    ensures { λ r. ⌜ Written at (soft-part (now (soft .entry))) (now (out .entry)) (now (out .exit)) r ⌝ }
+{
+    let a = put_bits(soft, out, at);
+    let b = put_byte(SPACE, out, a);
+    put_number(least_of(soft), FEED, out, b)
+}
+
+pub fn put_question(
+    number: u32,
+    code: u32,
+    best: i32,
+    verdict: u32,
+    shortfall: i32,
+    soft: &[i16],
+    out: &mut [u8],
+    at: usize,
+) -> usize
+    requires { ⌜ at + length (question-line number code best verdict shortfall (now soft)) ≤ length (now out) ⌝ }
+    ensures { λ r. ⌜ Written at (question-line number code best verdict shortfall (now (soft .entry))) (now (out .entry)) (now (out .exit)) r ⌝ }
+{
+    let a = put_numbers(number, code, best, out, at);
+    let b = put_mark(verdict, shortfall, out, a);
+    put_soft(soft, out, b)
+}
+
+pub fn put_header(out: &mut [u8], at: usize) -> usize
+    requires { ⌜ at + length header ≤ length (now out) ⌝ }
+    ensures { λ r. ⌜ Written at header (now (out .entry)) (now (out .exit)) r ⌝ }
+{
+    put_bytes(b"question code best verdict short bits least\n", out, at)
+}
+
+pub fn put_count(count: u32, out: &mut [u8], at: usize) -> usize
+    requires { ⌜ at + length (count-line count) ≤ length (now out) ⌝ }
+    ensures { λ r. ⌜ Written at (count-line count) (now (out .entry)) (now (out .exit)) r ⌝ }
+{
+    let next = put_decimal(count, out, at);
+    put_bytes(b" questions\n", out, next)
+}
+
+pub fn put_refused(refusal: u32, out: &mut [u8], at: usize) -> usize
+    requires { ⌜ at + length (refused-line refusal) ≤ length (now out) ⌝ }
+    ensures { λ r. ⌜ Written at (refused-line refusal) (now (out .entry)) (now (out .exit)) r ⌝ }
+{
+    let next = put_bytes(b"refused ", out, at);
+    put_number(refusal, FEED, out, next)
 }
