@@ -4,14 +4,16 @@ use mathlib.Core.Bool.{true}
 use mathlib.Core.List.{List}
 use Prim.Native.Nat.{ℕ, _+_, _*_, _^_, _<_, _≤_}
 use lib.ListN.{length, getD}
-use lib.IntN.{ℤ}
-use Rattle.code.specs.Code.{code-good, width, roots, long}
+use lib.IntN.{ℤ, pos, _-ℤ_}
+use Rattle.field.specs.Field.{width-good}
+use Rattle.code.specs.Code.{code-good, width, roots, long, is-codeword}
 use Rattle.code.specs.Bits.{row-long}
 use Rattle.split.specs.Split.{cosets}
 use Rattle.configurations.specs.Configurations.{configurations, listed}
 use Rattle.metric.specs.Row.{bound, row-good}
-use Rattle.trellis.specs.Rows.{entry, Layers, Made}
-use Rattle.glue.specs.Walk.{Walked, Marginals}
+use Rattle.trellis.specs.Rows.{entry, lane, Layers, Made}
+use Rattle.glue.specs.Walk.{Marginals}
+use Rattle.metric.specs.Cost.{cost, Least, Least-with}
 use Rattle.search.specs.Search.{Spelt}
 
 -- a reliability's greatest size, a number above every cost of a word, and one above twice that and a layer's cost
@@ -50,3 +52,49 @@ pub record Tabled (code q size : ℕ) (row : List ℤ) (hs zs os t : List ℕ) :
   pub spelt : Spelt (width code) (roots code) row hs zs os
   pub layers : Layers q size top hs zs os
   pub made : Made size big hs zs os 0 t
+
+-- what the walk and the trace leave: the least cost, a codeword that has it, and the least total with each syndrome in each layer
+pub record Best (code size count : ℕ) (row : List ℤ) (t cs g word : List ℕ) (least : ℕ) : Type 0 where
+  pub codeword : is-codeword (width code) (roots code) word ≡ true
+  pub costs : cost (width code) row word ≡ least
+  pub is-least : Least (width code) (roots code) row least
+  pub marginals : Marginals size count cap t cs g
+
+-- the least costs with a 0 and with a 1 at each bit
+abbrev pub Softs : (code m n : ℕ) → (row : List ℤ) → (zero one : List ℕ) → Type 0
+Softs code m n row zs os =
+    (i j : ℕ) → i < n → j < m →
+    Least-with (width code) (roots code) row (i * m + j) 0 (entry zs i j) × Least-with (width code) (roots code) row (i * m + j) 1 (entry os i j)
+    × (entry zs i j < big) × (entry os i j < big)
+
+-- all entries are n
+abbrev pub All : (n : ℕ) → List ℕ → Type 0
+All n xs = (i : ℕ) → i < length xs → getD xs i 0 ≡ n
+
+-- soft output i * m + j from the least costs
+abbrev pub soft-of : (zero one : List ℕ) → (i j : ℕ) → ℤ
+soft-of zs os i j = pos (2 * entry os i j) -ℤ pos (2 * entry zs i j)
+
+-- what `soft_rows` asks
+pub record SoftRows (m n : ℕ) (zero one : List ℕ) (soft : List ℤ) : Type 0 where
+  pub width : width-good m ≡ true
+  pub length-zero : length zero ≡ n * 4
+  pub length-one : length one ≡ n * 4
+  pub length-soft : length soft ≡ n * m
+  pub small : (i j : ℕ) → i < n → j < m → (entry zero i j < big) × (entry one i j < big)
+
+-- the soft outputs of the first n positions are written
+pub record Softened (m : ℕ) (zero one : List ℕ) (n : ℕ) (before soft : List ℤ) : Type 0 where
+  pub long : length soft ≡ length before
+  pub done : (i j : ℕ) → i < n → j < m → getD soft (i * m + j) (pos 0) ≡ soft-of zero one i j
+
+-- one position's soft outputs, from two rows, at a place
+pub record SoftRow (m at : ℕ) (z o : List ℕ) (soft : List ℤ) : Type 0 where
+  pub width : width-good m ≡ true
+  pub fits : at + m ≤ length soft
+  pub small : (j : ℕ) → j < m → (lane z j < big) × (lane o j < big)
+
+pub record Written (m at : ℕ) (z o : List ℕ) (before soft : List ℤ) : Type 0 where
+  pub long : length soft ≡ length before
+  pub done : (j : ℕ) → j < m → getD soft (at + j) (pos 0) ≡ pos (2 * lane o j) -ℤ pos (2 * lane z j)
+  pub kept : (i : ℕ) → i < at → getD soft i (pos 0) ≡ getD before i (pos 0)

@@ -63,7 +63,7 @@ zeros-at zero i = refl
 zeros-at (suc k) zero = refl
 zeros-at (suc k) (suc i) = zeros-at k i
 
-padded-in : (ss : List ℕ) (j : ℕ) → j < length ss → getD (padded ss) j 0 ≡ getD ss j 0
+pub padded-in : (ss : List ℕ) (j : ℕ) → j < length ss → getD (padded ss) j 0 ≡ getD ss j 0
 unfolding padded
 padded-in ss j h = List·getD-append ss (replicate (4 - length ss) 0) 0 j h
 
@@ -92,6 +92,11 @@ free-two i (b ∷ bs) h = (h .0, free-two (suc i) bs (h .1))
 pub two-free : (i : ℕ) (bs : List ℕ) → Below 2 bs → Held free i bs
 two-free i [] h = tt
 two-free i (b ∷ bs) h = (h .0, two-free (suc i) bs (h .1))
+
+-- a place above the width is 0
+pub conf-high : (c : ℕ) → code-good c ≡ true → (k : ℕ) → k < configurations c → (j : ℕ) → width c ≤ j → conf c k j ≡ 0
+unfolding Configurations
+conf-high c g k lk j u = padded-out (configuration c k) j (omega (arith, configurations-right c g .each-valid k lk .count))
 
 module _ (c : ℕ) (g : code-good c ≡ true) (rs : List ℤ) (l : length rs ≡ row-long (width c)) (hs zs os : List ℕ) (y : Spelt (width c) (roots c) rs hs zs os) (big : ℕ) where
   m : ℕ
@@ -259,7 +264,7 @@ module _ (c : ℕ) (g : code-good c ≡ true) (rs : List ℤ) (l : length rs ≡
         )
           where
             nothing : conf c k j ≡ 0
-            nothing = padded-out (configuration c k) j (omega (arith, configurations-right c g .each-valid k lk .count))
+            nothing = conf-high c g k lk j u
 
             none-cost : (bs : List ℕ) → Below 1 bs → length bs ≡ long (width c) → T.cost (L j) 0 bs ≡ table holds j (conf c k j)
             none-cost bs b e =

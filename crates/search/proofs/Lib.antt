@@ -4,3 +4,5 @@ pub mod Weave
 pub mod Bridge
 pub mod Found
 pub mod Prepared
+pub mod Traced
+pub mod Sums

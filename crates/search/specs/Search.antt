@@ -2,15 +2,17 @@
 -- codewords and metrics. Assumes nothing: these are definitions.
 use mathlib.Core.Path.{_≡_}
 use mathlib.Core.Bool.{true, cond}
-use mathlib.Core.List.{List}
-use Prim.Native.Nat.{ℕ, _+_, _*_, _^_, _≤_, _<_}
+use mathlib.Core.List.{List, [], _∷_}
+use Prim.Native.Nat.{ℕ, suc, _+_, _*_, _/_, _%_, _^_, _≤_, _<_}
 use lib.Dec.{leb, ltb}
 use lib.ListN.{length, getD}
 use lib.IntN.{ℤ, pos}
 use Rattle.field.specs.Field.{width-good, alpha}
 use Rattle.code.specs.Code.{long}
 use Rattle.metric.specs.Cost.{costZero, costOne}
-use Rattle.trellis.specs.Rows.{entry}
+use Rattle.trellis.specs.Trellis.{pick}
+use Rattle.trellis.specs.Rows.{entry, lane}
+use Rattle.glue.specs.Walk.{sum4}
 
 -- a syndrome from the values at α and α^3
 abbrev pub pack : (m r : ℕ) → (a b : ℕ) → ℕ
@@ -60,3 +62,25 @@ pub record CostRows (m n : ℕ) (row : List ℤ) (zs os : List ℕ) : Type 0 whe
 pub record Costed (m n : ℕ) (row : List ℤ) (zs os : List ℕ) : Type 0 where
   pub zeros : (i j : ℕ) → i < n → j < 4 → entry zs i j ≡ zero-cost m row i j
   pub ones : (i j : ℕ) → i < n → j < 4 → entry os i j ≡ one-cost m row i j
+
+-- what a word's symbols cost by themselves, from position i on
+abbrev pub symbol-cost : (zs os : List ℕ) → (i c : ℕ) → ℕ
+symbol-cost zs os i c = sum4 (λ j. pick (c / 2 ^ j % 2) (entry zs i j) (entry os i j))
+
+unfoldable pub word-cost : (zs os : List ℕ) → (i : ℕ) → (word : List ℕ) → ℕ
+word-cost zs os i [] = 0
+word-cost zs os i (c ∷ cs) = symbol-cost zs os i c + word-cost zs os (suc i) cs
+
+-- what `word_cost` asks: a row of costs for each symbol, each at most top
+pub record Own (top : ℕ) (zs os word : List ℕ) : Type 0 where
+  pub length-zs : length zs ≡ length word * 4
+  pub length-os : length os ≡ length word * 4
+  pub cost-zs : (i j : ℕ) → i < length word → j < 4 → entry zs i j ≤ top
+  pub cost-os : (i j : ℕ) → i < length word → j < 4 → entry os i j ≤ top
+  pub room : length word * (top * 4) < 2 ^ 32
+
+-- rows of costs that may be added up
+pub record Symbol (top : ℕ) (z o : List ℕ) : Type 0 where
+  pub cost-z : (j : ℕ) → j < 4 → lane z j ≤ top
+  pub cost-o : (j : ℕ) → j < 4 → lane o j ≤ top
+  pub room : top * 4 < 2 ^ 32

@@ -3,16 +3,18 @@
 // Its functions are for the decoder.
 ghost use mathlib.Core.Path.{_≡_};
 ghost use mathlib.Core.Bool.{true};
-ghost use Prim.Native.Nat.{ℕ, _+_, _*_, _<_, _≤_};
+ghost use Prim.Native.Nat.{ℕ, _+_, _*_, _/_, _%_, _^_, _<_, _≤_};
 ghost use lib.ListN.{length, getD};
 ghost use Rattle.field.specs.Field.{width-good};
 ghost use Rattle.code.specs.Code.{code-good, long, width, roots};
 ghost use Rattle.code.specs.Bits.{row-long};
 ghost use Rattle.configurations.specs.Configurations.{configurations, listed};
-ghost use Rattle.metric.specs.Row.{row-good};
+ghost use Rattle.metric.specs.Row.{reliability-good, row-good};
 ghost use Rattle.metric.specs.Cost.{costZero, costOne, weight-of, cost};
-ghost use Rattle.trellis.specs.Rows.{lanes};
-ghost use Rattle.search.specs.Search.{head, reliability, zero-cost, one-cost, Head, Headed, CostRows, Costed};
+ghost use Rattle.trellis.specs.Rows.{lane, lanes};
+ghost use Rattle.search.specs.Search.{head, reliability, zero-cost, one-cost, Head, Headed, CostRows, Costed, word-cost, Own, Symbol};
+ghost use Rattle.trellis.specs.Trellis.{pick};
+ghost use Rattle.glue.specs.Walk.{sum4};
 
 // The syndrome that a 1 at position i adds.
 fn head_of(m: u32, r: u32, i: u32) -> u16
@@ -46,13 +48,13 @@ pub fn columns(m: u32, r: u32, hs: &mut [u16])
 }
 
 // What a 0 and a 1 contradicts of a reliability.
-fn cost_of_zero(r: i16) -> u32
+pub fn cost_of_zero(r: i16) -> u32
     ensures { λ x. ⌜ x ≡ costZero r ⌝ }
 {
     if r < 0 { (0 - (r as i32)) as u32 } else { 0 }
 }
 
-fn cost_of_one(r: i16) -> u32
+pub fn cost_of_one(r: i16) -> u32
     ensures { λ x. ⌜ x ≡ costOne r ⌝ }
 {
     if r > 0 { r as u32 } else { 0 }
@@ -114,4 +116,62 @@ pub fn cost_rows(m: u32, n: usize, row: &[i16], zs: &mut [u32], os: &mut [u32])
         trellis::store(os, i, o);
         i += 1;
     }
+}
+
+// What a bit costs.
+fn bit_cost(b: u8, z: u32, o: u32) -> u32
+    ensures { λ r. ⌜ r ≡ pick b z o ⌝ }
+{
+    if b == 0 { z } else { o }
+}
+
+// What a symbol costs, from the costs of its position.
+fn symbol_cost(top: u32, c: u8, z: [u32; 4], o: [u32; 4]) -> u32
+    requires { ⌜ Symbol top z o ⌝ }
+    ensures { λ r. ⌜ (r ≡ sum4 (λ j. pick (c / 2 ^ j % 2) (lane z j) (lane o j))) × (r ≤ top * 4) ⌝ }
+{
+    let a = bit_cost(c / 1 % 2, z[0], o[0]);
+    let b = bit_cost(c / 2 % 2, z[1], o[1]);
+    let d = bit_cost(c / 4 % 2, z[2], o[2]);
+    let e = bit_cost(c / 8 % 2, z[3], o[3]);
+    a + b + d + e
+}
+
+// What a word costs by itself.
+pub fn word_cost(top: u32, zs: &[u32], os: &[u32], word: &[u8]) -> u32
+    requires { ⌜ Own top (now zs) (now os) (now word) ⌝ }
+    ensures { λ r. ⌜ r ≡ word-cost (now (zs .entry)) (now (os .entry)) 0 (now (word .entry)) ⌝ }
+{
+    let mut sum = 0;
+    let mut i = 0;
+    while i < word.len() {
+        let c = word[i];
+        let x = symbol_cost(top, c, trellis::load(zs, i), trellis::load(os, i));
+        sum += x;
+        i += 1;
+    }
+    sum
+}
+
+// The size of a reliability.
+fn size_of(r: i16) -> u32
+    requires { ⌜ reliability-good r ≡ true ⌝ }
+    ensures { λ x. ⌜ (x ≡ costZero r + costOne r) × (x ≤ 127) ⌝ }
+{
+    cost_of_zero(r) + cost_of_one(r)
+}
+
+// The sum of a row's sizes.
+pub fn weight(row: &[i16]) -> u32
+    requires { ⌜ (row-good (now row) ≡ true) × (length (now row) ≤ 60) ⌝ }
+    ensures { λ r. ⌜ r ≡ weight-of (now (row .entry)) ⌝ }
+{
+    let mut sum = 0;
+    let mut i = 0;
+    while i < row.len() {
+        let r = row[i];
+        sum += size_of(r);
+        i += 1;
+    }
+    sum
 }

@@ -1,0 +1,47 @@
+-- `decoder::best_word` meets its contract.
+-- Assumes nothing.
+use Rattle.decoder.proofs.Searching.{tuples-ok, trace-ok, best-ok}
+use lib.ListN.{length, getD}
+use native.Mathlib.Omega.{arith}
+use Prim.Native.Nat.{ℕ, suc, _<_, _≤_, _-_, _+_, _*_, _^_}
+use mathlib.Core.List.{List}
+use mathlib.Core.Path.{_≡_, sym, ap, ap₂, _∙_, subst, refl}
+use borrow.Author.Needs.{needs}
+use Rattle.decoder.proofs.best_word.Statement.{statement}
+use Rattle.decoder.proofs.best_word.Tie as tie
+
+clear-requires : tie.Need-clear-requires
+clear-requires c κs = tt
+
+walk-requires : tie.Need-walk-requires
+walk-requires c κs = let s = c .before .before .before .before .before .before .before .before .before .before .before .before in
+    let a = s .args in
+    let p = s .pre in
+    let e = c .before .before .before .clear .ensures .0 ∙ p .1 .1 .0 in
+    (tuples-ok (a .code) (a .m) (a .r) (a .q) (a .n) (a .size) (a .count) (a .row .now) (a .cs .now) (a .hs .now) (a .zs .now) (a .os .now) (a .t .now) (p .0) (p .1 .0), (e, λ i h. c .before .before .before .clear .ensures .1 i (omega arith)))
+
+trace-word-requires : tie.Need-trace-word-requires
+trace-word-requires c κs = let s = c .before .before .before .before .before .before .before .before .before .before .before .before .before .before .before .before .before in
+    let a = s .args in
+    let p = s .pre in
+    trace-ok (a .code) (a .m) (a .r) (a .q) (a .n) (a .size) (a .count) (a .row .now) (a .cs .now) (a .hs .now) (a .zs .now) (a .os .now) (a .t .now) (p .0) (p .1 .0) (c .before .before .before .before .walk .result .total) (c .before .before .before .before .walk .result .at) (c .before .before .before .before .walk .ensures .0) (a .word .now) (p .1 .1 .1)
+
+same-length : tie.Need-same-length
+same-length c = let s = c .before .before .before .before .before .before .before .before .before .before .before .before .before .before .before .before .before .before .before .before in
+    let a = s .args in
+    let p = s .pre in
+    omega (arith, c .before .before .before .before .before .before .before .walk .kept .1 .1 .1 .1 .0, c .before .before .before .before .before .before .before .before .before .before .before .clear .kept .0)
+
+same-length-2 : tie.Need-same-length-2
+same-length-2 c = search needs
+
+returns : tie.Need-returns
+returns c = let s = c .before .before .before .before .before .before .before .before .before .before .before .before .before .before .before .before .before .before .before .before in
+    let a = s .args in
+    let p = s .pre in
+    best-ok (a .code) (a .m) (a .r) (a .q) (a .n) (a .size) (a .count) (a .row .now) (a .cs .now) (a .hs .now) (a .zs .now) (a .os .now) (a .t .now) (p .0) (p .1 .0) (c .before .before .before .before .before .before .before .walk .result .total) (c .before .before .before .before .before .before .before .walk .result .at) (c .before .before .before .before .before .before .before .walk .ensures .0) (c .before .before .before .before .before .before .before .walk .last .1 .1 .1 .1 .0) (c .before .before .trace-word .last .1 .1 .1 .1 .1 .1 .1 .1 .1 .0) (c .before .before .trace-word .ensures) (c .before .before .before .before .before .before .before .walk .ensures .1)
+
+pub best-word-spec : {M : Type 1} → statement M
+best-word-spec =
+    tie.close
+    (tie.spec clear-requires walk-requires trace-word-requires same-length same-length-2 returns)

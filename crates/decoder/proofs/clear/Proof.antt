@@ -1,0 +1,69 @@
+-- `decoder::clear` meets its contract.
+-- Assumes nothing.
+use Rattle.decoder.proofs.Searching.{set-all}
+use Rattle.decoder.specs.Within.{cap}
+use lib.ListN.{length-set}
+use lib.ListN.{length, getD}
+use native.Mathlib.Omega.{arith}
+use Prim.Native.Nat.{ℕ, suc, _<_, _≤_, _-_, _+_, _*_, _^_}
+use mathlib.Core.List.{List}
+use mathlib.Core.Path.{_≡_, sym, ap, ap₂, _∙_, subst, refl}
+use Rattle.decoder.proofs.clear.Statement.{statement}
+use Rattle.decoder.proofs.clear.Tie as tie
+
+abbrev Inv-loop : tie.InvT-loop
+Inv-loop g₀ i₀ g i = (length g ≡ length g₀) × ((k : ℕ) → k < i → getD g k 0 ≡ cap)
+
+abbrev μ-loop : tie.MeasureT-loop
+μ-loop g₀ i₀ g i = length g₀ - i
+
+loop-holds : tie.Need-loop-holds Inv-loop μ-loop
+loop-holds c = (refl, λ k h. absurd (omega arith))
+
+mul-g : tie.Need-mul-g Inv-loop μ-loop
+mul-g c = let s = c .before .before in
+    let t = c .before .loop in
+    let l : t .i < length (t .g) = c .loop-test .taken in
+    record { fits = omega (arith, s .good .0, t .inv .0) }
+
+slice-write-g : tie.Need-slice-write-g Inv-loop μ-loop
+slice-write-g c = omega arith
+
+add-i : tie.Need-add-i Inv-loop μ-loop
+add-i c = let s = c .before .before in
+    let t = c .before .loop in
+    let l : t .i < length (t .g) = c .loop-test .taken in
+    record { fits = omega (arith, s .good .0, t .inv .0) }
+
+loop-less : tie.Need-loop-less Inv-loop μ-loop
+loop-less c = let s = c .before .before in
+    let t = c .before .loop in
+    let l : t .i < length (t .g) = c .loop-test .taken in
+    omega (arith, t .inv .0)
+
+loop-again : tie.Need-loop-again Inv-loop μ-loop
+loop-again c = let s = c .before .before in
+    let t = c .before .loop in
+    let l : t .i < length (t .g) = c .loop-test .taken in
+    (length-set (t .g) (t .i) cap ∙ t .inv .0, set-all (t .g) (t .i) l (t .inv .1))
+
+same-length : tie.Need-same-length Inv-loop μ-loop
+same-length c = c .before .loop .inv .0
+
+returns : tie.Need-returns Inv-loop μ-loop
+returns c = let t = c .before .loop in (t .inv .0, λ k h. t .inv .1 k (omega arith))
+
+pub clear-spec : {M : Type 1} → statement M
+clear-spec =
+    tie.close
+    (tie.spec
+    Inv-loop
+    μ-loop
+    loop-holds
+    mul-g
+    slice-write-g
+    add-i
+    loop-less
+    loop-again
+    same-length
+    returns)

@@ -1,0 +1,30 @@
+-- `decoder::minus` meets its contract.
+-- Assumes nothing.
+use Rattle.decoder.proofs.Writing.{minus-is, minus-fits}
+use mir.Facts.{toZ-ofZ}
+use borrow.Author.Needs.{needs}
+use Rattle.decoder.proofs.minus.Statement.{statement}
+use Rattle.decoder.proofs.minus.Tie as tie
+
+cast-result : tie.Need-cast-result
+cast-result c = search needs
+
+cast-result-2 : tie.Need-cast-result-2
+cast-result-2 c = search needs
+
+sub-result : tie.Need-sub-result
+sub-result c = let a = c .args .a in
+    let b = c .args .b in
+    let e = minus-is a b (c .pre .0) (c .pre .1) in
+    let f = minus-fits a b (c .pre .0) (c .pre .1) in
+    rw e f
+
+returns : tie.Need-returns
+returns c = let a = c .args .a in
+    let b = c .args .b in
+    let e = minus-is a b (c .pre .0) (c .pre .1) in
+    let f = minus-fits a b (c .pre .0) (c .pre .1) in
+    rw e (toZ-ofZ f)
+
+pub minus-spec : {M : Type 1} → statement M
+minus-spec = tie.close (tie.spec cast-result cast-result-2 sub-result returns)

@@ -1,0 +1,36 @@
+-- `decoder::soft_from` meets its contract.
+-- Assumes nothing.
+use Rattle.decoder.proofs.Writing.{soft-fits, minus-fits}
+use mir.Facts.{toZ-ofZ}
+use lib.ListN.{length, getD}
+use native.Mathlib.Omega.{arith}
+use Prim.Native.Nat.{ℕ, suc, _<_, _≤_, _-_, _+_, _*_, _/_, _%_, _^_}
+use mathlib.Core.List.{List}
+use mathlib.Core.Path.{_≡_, sym, ap, ap₂, _∙_, subst, refl}
+use borrow.Author.Needs.{needs}
+use Rattle.decoder.proofs.soft_from.Statement.{statement}
+use Rattle.decoder.proofs.soft_from.Tie as tie
+
+mul-minus : tie.Need-mul-minus
+mul-minus c = search needs
+
+mul-minus-2 : tie.Need-mul-minus-2
+mul-minus-2 c = search needs
+
+minus-requires : tie.Need-minus-requires
+minus-requires c κs = search needs
+
+cast-result : tie.Need-cast-result
+cast-result c = let s = c .before in
+    let g = soft-fits (s .args .zero) (s .args .one) (s .pre .0) (s .pre .1) in
+    let h = minus-fits (2 * s .args .one) (2 * s .args .zero) (omega (arith, s .pre)) (omega (arith, s .pre)) in
+    rw (c .minus .ensures) (rw (toZ-ofZ h) g)
+
+returns : tie.Need-returns
+returns c = let s = c .before in
+    let g = soft-fits (s .args .zero) (s .args .one) (s .pre .0) (s .pre .1) in
+    let h = minus-fits (2 * s .args .one) (2 * s .args .zero) (omega (arith, s .pre)) (omega (arith, s .pre)) in
+    rw (c .minus .ensures) (rw (toZ-ofZ h) (toZ-ofZ g))
+
+pub soft-from-spec : {M : Type 1} → statement M
+soft-from-spec = tie.close (tie.spec mul-minus mul-minus-2 minus-requires cast-result returns)

@@ -1,0 +1,98 @@
+-- What a word costs by itself, added up symbol by symbol, and the sum of a row's sizes.
+-- Assumes nothing.
+use mathlib.Core.Path.{_≡_, refl, sym, ap, ap₂, _∙_, subst}
+use mathlib.Core.Bool.{true}
+use mathlib.Core.List.{List, [], _∷_}
+use Prim.Native.Nat.{ℕ, zero, suc, _+_, _-_, _*_, _/_, _%_, _^_, _≤_, _<_}
+use native.Mathlib.Nat.{suc-mul, mul-le-mul-right}
+use native.Mathlib.Omega.{arith}
+use native.Mathlib.Numerals.{add-one}
+use lib.ListN.{length, getD, drop}
+use lib.Seq.{drop-cons, drop-length}
+use lib.IntN.{ℤ, pos}
+use Rattle.field.specs.Field.{width-good}
+use Rattle.code.specs.Code.{long}
+use Rattle.code.specs.Bits.{row-long}
+use Rattle.split.specs.Split as P
+use Rattle.metric.specs.Row.{row-good}
+use Rattle.metric.specs.Cost.{costZero, costOne, weight-of, cost}
+use Rattle.metric.proofs.Bounds.{row-at, costs-le}
+use Rattle.trellis.specs.Trellis as T
+use Rattle.trellis.specs.Trellis.{pick}
+use Rattle.trellis.specs.Rows as R
+use Rattle.trellis.specs.Rows.{entry, lane, row}
+use Rattle.trellis.proofs.Rows as RR
+use Rattle.glue.specs.Walk.{sum4}
+use Rattle.search.specs.Search.{symbol-cost, word-cost, Own, Symbol, Spelt}
+use Rattle.search.proofs.Layering.{by-layers}
+
+pub pick-one : (b z o : ℕ) → (b ≡ 0 → ⊥) → o ≡ pick b z o
+pick-one zero z o n = absurd (n refl)
+pick-one (suc b) z o n = refl
+
+pub pick-le : (top b z o : ℕ) → z ≤ top → o ≤ top → pick b z o ≤ top
+pick-le top zero z o h k = h
+pick-le top (suc b) z o h k = k
+
+module _ (top : ℕ) (zs os word : List ℕ) (w : Own top zs os word) where
+  pub own-in : (i : ℕ) → i < length word → (i * 4 + 4 ≤ length zs) × (i * 4 + 4 ≤ length os)
+  own-in i l = (omega (arith, w .length-zs), omega (arith, w .length-os))
+
+  pub symbol-ok : (i : ℕ) → i < length word → Symbol top (row zs i) (row os i)
+  symbol-ok i l = record {
+    cost-z = λ j lj. rw (RR.row-at zs i j lj) (w .cost-zs i j l lj);
+    cost-o = λ j lj. rw (RR.row-at os i j lj) (w .cost-os i j l lj);
+    room = omega (arith, w .room, mul-le-mul-right (top * 4) l, suc-mul i (top * 4));
+  }
+
+  -- so far, and what is left
+  pub record Adding (i sum : ℕ) : Type 0 where
+    pub split : sum + word-cost zs os i (drop i word) ≡ word-cost zs os 0 word
+    pub small : sum ≤ i * (top * 4)
+
+  pub adding-fits : (i sum x : ℕ) → i < length word → Adding i sum → x ≤ top * 4 → sum + x < 2 ^ 32
+  adding-fits i sum x l a h = omega (arith, a .small, w .room, mul-le-mul-right (top * 4) l, suc-mul i (top * 4))
+
+  pub adding-more : (i sum x : ℕ) → i < length word → Adding i sum → x ≡ sum4 (λ j. pick (getD word i 0 / 2 ^ j % 2) (lane (row zs i) j) (lane (row os i) j)) → x ≤ top * 4 → Adding (i + 1) (sum + x)
+  unfolding word-cost
+  adding-more i sum x l a e h = record {
+    split =
+        let d : drop i word ≡ getD word i 0 ∷ drop (suc i) word = drop-cons word i 0 l in
+        let s : x ≡ symbol-cost zs os i (getD word i 0) =
+        e ∙ omega (arith, part 0 (omega arith), part 1 (omega arith), part 2 (omega arith), part 3 (omega arith)) in
+        rw add-one (omega (arith, a .split, s, ap (word-cost zs os i) d));
+    small = rw add-one (omega (arith, a .small, suc-mul i (top * 4)));
+  }
+    where
+      part : (j : ℕ) → j < 4 → pick (getD word i 0 / 2 ^ j % 2) (lane (row zs i) j) (lane (row os i) j) ≡ pick (getD word i 0 / 2 ^ j % 2) (entry zs i j) (entry os i j)
+      part j lj = ap₂ (pick (getD word i 0 / 2 ^ j % 2)) (RR.row-at zs i j lj) (RR.row-at os i j lj)
+
+  pub adding-end : (sum : ℕ) → Adding (length word) sum → sum ≡ word-cost zs os 0 word
+  unfolding word-cost
+  adding-end sum a = omega (arith, a .split, ap (word-cost zs os (length word)) (drop-length word))
+
+-- THE COST OF A WORD
+word-layers : (hs zs os : List ℕ) (i : ℕ) (ws : List ℕ) → word-cost zs os i ws ≡ sum4 (λ j. T.cost (R.layer hs zs os j) i (P.layer j ws))
+unfolding word-cost T.cost P.layer
+word-layers hs zs os i [] = refl
+word-layers hs zs os i (c ∷ cs) = omega (arith, word-layers hs zs os (suc i) cs)
+
+pub own-cost : (m r : ℕ) → width-good m ≡ true → (rs : List ℤ) (hs zs os : List ℕ) → Spelt m r rs hs zs os → length rs ≡ row-long m → (ws : List ℕ) → length ws ≡ long m →
+    word-cost zs os 0 ws ≡ cost m rs ws
+own-cost m r w rs hs zs os y l ws e = word-layers hs zs os 0 ws ∙ sym (by-layers m r w rs hs zs os y l ws e)
+
+-- the sum of a row's sizes
+pub record Weighing (rs : List ℤ) (i sum : ℕ) : Type 0 where
+  pub split : sum + weight-of (drop i rs) ≡ weight-of rs
+  pub small : sum ≤ i * 127
+
+pub weighing-more : (rs : List ℤ) (i sum x : ℕ) → i < length rs → Weighing rs i sum → x ≡ costZero (getD rs i (pos 0)) + costOne (getD rs i (pos 0)) → x ≤ 127 → Weighing rs (i + 1) (sum + x)
+unfolding weight-of
+weighing-more rs i sum x l a e h = record {
+  split = rw add-one (omega (arith, a .split, e, ap weight-of (drop-cons rs i (pos 0) l)));
+  small = omega (arith, a .small);
+}
+
+pub weighing-end : (rs : List ℤ) (sum : ℕ) → Weighing rs (length rs) sum → sum ≡ weight-of rs
+unfolding weight-of
+weighing-end rs sum a = omega (arith, a .split, ap weight-of (drop-length rs))

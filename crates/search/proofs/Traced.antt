@@ -1,0 +1,93 @@
+-- The traced word: its layers are the traces of each layer, so it is a codeword that has the cost of its configuration.
+-- Assumes nothing.
+use mathlib.Core.Path.{_≡_, refl, sym, ap, ap₂, _∙_, subst}
+use mathlib.Core.Bool.{Bool, true, false, cond}
+use mathlib.Core.List.{List, [], _∷_}
+use Prim.Native.Nat.{ℕ, zero, suc, _+_, _-_, _*_, _^_, _≤_, _<_, min}
+use native.Mathlib.Omega.{arith}
+use native.Mathlib.Decide.{decLe}
+use borrow.Author.Tests.{le-leb, le-ltb}
+use lib.Dec.{leb}
+use lib.ListN.{length, getD}
+use lib.IntN.{ℤ, pos}
+use Rattle.field.specs.Field.{xor}
+use Rattle.field.proofs.Xor as X
+use Rattle.code.specs.Code.{code-good, width, roots, long, is-codeword}
+use Rattle.code.specs.Bits.{row-long}
+use Rattle.code.proofs.Words.{Below}
+use Rattle.configurations.specs.Configurations.{configurations}
+use Rattle.metric.specs.Cost.{costZero, cost}
+use Rattle.trellis.specs.Trellis.{Column, Columns, pick, step, either, back, free, final, bit, choice, trace}
+use Rattle.trellis.specs.Rows as R
+use Rattle.trellis.specs.Rows.{lane, lanes, chosen, symbol, traced}
+use Rattle.trellis.proofs.Trellis.{Attains, reaches}
+use Rattle.trellis.proofs.Trellis as TT
+use Rattle.glue.proofs.Engine.{over}
+use Rattle.search.specs.Search.{Spelt}
+use Rattle.search.proofs.Weave.{merge, weave}
+use Rattle.search.proofs.Bridge.{conf, table, Lane, woven, free-two, conf-high}
+
+-- the four layers' traces, woven
+pub traced-weave : (big : ℕ) (hs zs os : List ℕ) (i k : ℕ) (s : List ℕ) →
+    traced big hs zs os i k s ≡ weave (λ j. trace (R.layer hs zs os j) (final big) i k (lane s j))
+unfolding traced trace chosen weave merge
+traced-weave big hs zs os i zero s = refl
+traced-weave big hs zs os i (suc k) s =
+    ap₂ (λ (x : ℕ) (xs : List ℕ). x ∷ xs) (nested (chosen big hs zs os i k s 0) (chosen big hs zs os i k s 1) (chosen big hs zs os i k s 2) (chosen big hs zs os i k s 3))
+    (traced-weave big hs zs os (suc i) k (lanes (λ j. xor (lane s j) (pick (chosen big hs zs os i k s j) 0 (getD hs i 0)))))
+  where
+    nested : (a b c d : ℕ) → a + 2 * b + 4 * c + 8 * d ≡ a + 2 * (b + 2 * (c + 2 * d))
+    nested a b c d = omega arith
+
+-- a layer that costs nothing is traced as zeros
+module _ (col : Columns) (big n : ℕ) (free-zero : (p : ℕ) → p < n → col p .c0 ≡ 0) where
+  back-zero : (i k : ℕ) → i + k ≤ n → back free col (final big) i k 0 ≡ 0
+  unfolding back step
+  back-zero i zero h = refl
+  back-zero i (suc k) h = omega (arith, back-zero (suc i) k (omega arith), free-zero i (omega arith))
+
+  trace-zero : (i k : ℕ) → i + k ≤ n → Below 1 (trace col (final big) i k 0)
+  unfolding trace choice
+  trace-zero i zero h = tt
+  trace-zero i (suc k) h =
+      let v : ℕ → ℕ = back free col (final big) (suc i) k in
+      let e : bit (leb (v 0 + col i .c0) (v (xor 0 (col i .h)) + col i .c1)) ≡ 0 =
+      ap bit (le-leb (v 0 + col i .c0) (v (xor 0 (col i .h)) + col i .c1) (omega (arith, back-zero (suc i) k (omega arith), free-zero i (omega arith)))) in
+      rw e (omega arith, rw (X.zero-r 0) (trace-zero (suc i) k (omega arith)))
+
+module _ (c : ℕ) (g : code-good c ≡ true) (rs : List ℤ) (l : length rs ≡ row-long (width c)) (hs zs os : List ℕ) (y : Spelt (width c) (roots c) rs hs zs os) (big : ℕ) where
+  abbrev L : ℕ → Columns
+  L = R.layer hs zs os
+
+  abbrev F : ℕ → ℕ → ℕ
+  F = table c g rs l hs zs os y big (λ j. free)
+
+  -- THE TRACED WORD of a configuration that costs less than big
+  pub word : (k : ℕ) → k < configurations c → over F (conf c k) < big → (s : List ℕ) → ((j : ℕ) → j < 4 → lane s j ≡ conf c k j) →
+      (is-codeword (width c) (roots c) (traced big hs zs os 0 (length hs) s) ≡ true) × (cost (width c) rs (traced big hs zs os 0 (length hs) s) ≡ over F (conf c k))
+  word k lk h s e =
+      let t = woven c g rs l hs zs os y big (λ j. free) (λ j. free-two) (λ j u. refl) k lk (λ j. trace (L j) (final big) 0 (length hs) (lane s j)) each in
+      rw (traced-weave big hs zs os 0 (length hs) s) (t .0, t .2)
+    where
+      small : (j : ℕ) → j < 4 → F j (conf c k j) < big
+      small zero lj = omega arith
+      small (suc zero) lj = omega arith
+      small (suc (suc zero)) lj = omega arith
+      small (suc (suc (suc zero))) lj = omega arith
+      small (suc (suc (suc (suc j)))) lj = absurd (omega arith)
+
+      costless : (j : ℕ) → j < 4 → width c ≤ j → (p : ℕ) → p < long (width c) → L j p .c0 ≡ 0
+      costless j lj u p lp = y .zeros p j lp lj ∙ ap (λ (t : Bool). costZero (cond t (getD rs (p * width c + j) (pos 0)) (pos 0))) (le-ltb j (width c) u)
+
+      each : (j : ℕ) → j < 4 → Lane c g rs l hs zs os y big (λ j. free) (λ j. free-two) (λ j u. refl) k j (trace (L j) (final big) 0 (length hs) (lane s j))
+      each j lj =
+          let a : Attains (L j) (final big) free 0 (length hs) (conf c k j) (trace (L j) (final big) 0 (length hs) (conf c k j)) = TT.traced (L j) (final big) 0 (length hs) (conf c k j) in
+          let r = reaches (L j) big free 0 (length hs) (conf c k j) (trace (L j) (final big) 0 (length hs) (conf c k j)) a (small j lj) in
+          rw (e j lj) (record {
+            count = a .count ∙ y .count;
+            two = free-two 0 (trace (L j) (final big) 0 (length hs) (conf c k j)) (a .held);
+            sum = r .0;
+            held = a .held;
+            costs = r .1;
+            high = λ u. rw (conf-high c g k lk j u) (trace-zero (L j) big (long (width c)) (costless j lj u) 0 (length hs) (omega (arith, y .count)));
+          })
