@@ -1,0 +1,202 @@
+-- Words that hold items, for any form: what was written is accepted and read back, and what was accepted is written back.
+-- Assumes nothing.
+use mathlib.Core.Path.{_≡_, refl, sym, ap, ap₂, _∙_, subst}
+use mathlib.Core.Logic.{_⊎_, inl, inr}
+use mathlib.Core.Bool.{Bool, true, false, _&&_, not, cond, false≢true}
+use mathlib.Core.List.{List, [], _∷_, _++_, append-nil}
+use Prim.Native.Nat.{ℕ, zero, suc, _+_, _*_, _-_, _/_, _%_, _^_, _<_, _≤_, min}
+use native.Mathlib.Nat.{div-eq-of-lt, lt-of-lt-of-le, min-eq-left, min-eq-right, mul-suc, le-trans, pow-le-pow-right, min-le-left, min-zero, zero-sub, mul-zero, sub-eq-zero-of-le}
+use native.Mathlib.Omega.{arith}
+use borrow.Author.Tests.{eqb-true, eq-eqb, not-false, leb-true, leb-false}
+use lib.Dec.{eqb, leb}
+use lib.ListN.{length, getD, take, drop, length-append, length-take, length-drop, take-append-drop, drop-of-length-le}
+use lib.Seq.{take-all, take-at, drop-at}
+use Rattle.code.proofs.Words.{Below}
+use Rattle.sheet.specs.declared.Form.{Form}
+use Rattle.sheet.specs.Sheet.{digits, packed, worded, kind, body, used, items, unused, items-words, first, word-refusal, items-refusal, items-in}
+use Rattle.sheet.proofs.Digits.{digits-length, digits-below, digits-packed, packed-digits, packed-lt}
+
+-- what a passed test leaves
+pub passed : (t : Bool) (a x : ℕ) → cond t (suc a) x ≡ 0 → (t ≡ false) × (x ≡ 0)
+passed true a x e = absurd (omega arith)
+passed false a x e = (refl, e)
+
+pub held : (t : Bool) (a x : ℕ) → cond t x (suc a) ≡ 0 → (t ≡ true) × (x ≡ 0)
+held true a x e = (refl, e)
+held false a x e = absurd (omega arith)
+
+pub first-none : (a b : ℕ) → first a b ≡ 0 → (a ≡ 0) × (b ≡ 0)
+unfolding first
+first-none zero b e = (refl, e)
+first-none (suc a) b e = absurd (omega arith)
+
+pub both : (a b : Bool) → (a && b) ≡ true → (a ≡ true) × (b ≡ true)
+both true b e = (refl, e)
+both false b e = absurd (false≢true e)
+
+pub le-or-lt : (a b : ℕ) → (a ≤ b) ⊎ (b < a)
+le-or-lt a b = by (leb a b) refl
+  where
+    by : (t : Bool) → leb a b ≡ t → (a ≤ b) ⊎ (b < a)
+    by true e = inl (leb-true a b e)
+    by false e = inr (leb-false a b e)
+
+-- a word's kind and body
+pub kind-worded : (k v : ℕ) → v < 2 ^ 28 → kind (worded k v) ≡ k
+unfolding kind worded
+kind-worded k v h = omega arith
+
+pub body-worded : (k v : ℕ) → v < 2 ^ 28 → body (worded k v) ≡ v
+unfolding body worded
+body-worded k v h = omega arith
+
+pub worded-again : (w : ℕ) → worded (kind w) (body w) ≡ w
+unfolding kind body worded
+worded-again w = omega arith
+
+pub below-parts : (b n : ℕ) (ds : List ℕ) → Below b ds → Below b (take n ds) × Below b (drop n ds)
+below-parts b zero ds g = (tt, g)
+below-parts b (suc n) [] g = (tt, tt)
+below-parts b (suc n) (d ∷ ds) g = let r = below-parts b n ds (g .1) in ((g .0, r .0), r .1)
+
+pub below-join : (b : ℕ) (ds es : List ℕ) → Below b ds → Below b es → Below b (ds ++ es)
+below-join b [] es g h = h
+below-join b (d ∷ ds) es g h = (g .0, below-join b ds es (g .1) h)
+
+pub items-words-length : (f : Form) (k : ℕ) (ds : List ℕ) → length (items-words f k ds) ≡ k
+unfolding items-words
+items-words-length f zero ds = refl
+items-words-length f (suc k) ds = ap suc (items-words-length f k (drop (f .each) ds))
+
+-- a form, the refusal that a bad item meets, and what is asked of items
+pub record Tested (f : Form) (good : List ℕ → Bool) : Type 0 where
+  pub some : 0 < f .base
+  pub fits : f .base ^ f .each ≤ 2 ^ 28
+  pub none : good [] ≡ true
+  pub splits : (a b : List ℕ) → good (a ++ b) ≡ (good a && good b)
+
+-- what an accepted run of words holds
+pub record Held (f : Form) (good : List ℕ → Bool) (k n : ℕ) (ws : List ℕ) : Type 0 where
+  pub enough : k ≤ length ws
+  pub again : items-words f k (items-in f k n ws) ≡ take k ws
+  pub fine : good (items-in f k n ws) ≡ true
+  pub inside : Below (f .base) (items-in f k n ws)
+
+module _ (f : Form) where
+  items-length : (n w : ℕ) → length (items f n w) ≡ used f n
+  unfolding items
+  items-length n w = digits-length (f .base) (used f n) (body w)
+
+  no-items : (k : ℕ) (ws : List ℕ) → items-in f k 0 ws ≡ []
+  unfolding items-in items used digits
+  no-items zero ws = refl
+  no-items (suc k) ws =
+      ap₂ _++_ (ap (λ (x : ℕ). digits (f .base) x (body (getD ws 0 0))) (min-zero (f .each)))
+      (ap (λ (x : ℕ). items-in f k x (drop 1 ws)) (zero-sub (f .each)) ∙ no-items k (drop 1 ws))
+
+  -- the first word takes the first items
+  part : (n w k : ℕ) (ws : List ℕ) →
+      (take (f .each) (items f n w ++ items-in f k (n - f .each) ws) ≡ items f n w)
+      × (drop (f .each) (items f n w ++ items-in f k (n - f .each) ws) ≡ items-in f k (n - f .each) ws)
+  unfolding used
+  part n w k ws = by (le-or-lt (f .each) n)
+    where
+      by : (f .each ≤ n) ⊎ (n < f .each) →
+          (take (f .each) (items f n w ++ items-in f k (n - f .each) ws) ≡ items f n w)
+          × (drop (f .each) (items f n w ++ items-in f k (n - f .each) ws) ≡ items-in f k (n - f .each) ws)
+      by (inl h) =
+          let l : length (items f n w) ≡ f .each = items-length n w ∙ min-eq-left h in
+          (take-at (items f n w) (items-in f k (n - f .each) ws) (f .each) l, drop-at (items f n w) (items-in f k (n - f .each) ws) (f .each) l)
+      by (inr h) =
+          let l : length (items f n w) ≤ f .each = omega (arith, items-length n w) in
+          let z : items-in f k (n - f .each) ws ≡ [] = ap (λ (x : ℕ). items-in f k x ws) (sub-eq-zero-of-le (omega arith)) ∙ no-items k ws in
+          (rw (z, append-nil) (take-all (f .each) (items f n w) l), rw (z, append-nil) (drop-of-length-le (items f n w) l))
+
+  pub items-in-length : (k n : ℕ) (ws : List ℕ) → n ≤ f .each * k → length (items-in f k n ws) ≡ n
+  unfolding items-in used
+  items-in-length zero n ws l = omega (arith, mul-zero (f .each))
+  items-in-length (suc k) n ws l =
+      omega (
+        arith,
+        length-append (items f n (getD ws 0 0)) (items-in f k (n - f .each) (drop 1 ws)),
+        items-length n (getD ws 0 0),
+        items-in-length k (n - f .each) (drop 1 ws) (omega (arith, mul-suc (f .each) k)),
+      )
+
+-- a written word
+record Word (f : Form) (ds : List ℕ) (w : ℕ) : Type 0 where
+  small : packed (f .base) (take (f .each) ds) < 2 ^ 28
+  right : kind w ≡ f .kind
+  clear : unused f (length ds) w ≡ 0
+  same : items f (length ds) w ≡ take (f .each) ds
+
+module _ (f : Form) (good : List ℕ → Bool) (t : Tested f good) where
+  word : (ds : List ℕ) → Below (f .base) ds → Word f ds (worded (f .kind) (packed (f .base) (take (f .each) ds)))
+  unfolding used unused items
+  word ds g =
+      let v : ℕ = packed (f .base) (take (f .each) ds) in
+      let b : Below (f .base) (take (f .each) ds) = below-parts (f .base) (f .each) ds g .0 in
+      let l : length (take (f .each) ds) ≡ min (f .each) (length ds) = length-take (f .each) ds in
+      let n : v < f .base ^ min (f .each) (length ds) = subst (λ (x : ℕ). v < f .base ^ x) l (packed-lt (f .base) (take (f .each) ds) b) in
+      let m : v < 2 ^ 28 = lt-of-lt-of-le n (le-trans (pow-le-pow-right (t .some) (min-le-left (f .each) (length ds))) (t .fits)) in
+      let e : body (worded (f .kind) v) ≡ v = body-worded (f .kind) v m in
+      record {
+        small = m;
+        right = kind-worded (f .kind) v m;
+        clear = rw e (div-eq-of-lt n);
+        same = rw e (rw (← l) (digits-packed (f .base) (t .some) (take (f .each) ds) b));
+      }
+
+  pub items-words-below : f .kind < 16 → (k : ℕ) (ds : List ℕ) → Below (f .base) ds → Below (2 ^ 32) (items-words f k ds)
+  unfolding items-words worded
+  items-words-below h zero ds g = tt
+  items-words-below h (suc k) ds g =
+      (omega (arith, word ds g .small), items-words-below h k (drop (f .each) ds) (below-parts (f .base) (f .each) ds g .1))
+
+  fine-parts : (ds : List ℕ) → good ds ≡ true → (good (take (f .each) ds) ≡ true) × (good (drop (f .each) ds) ≡ true)
+  fine-parts ds h =
+      both (good (take (f .each) ds)) (good (drop (f .each) ds))
+      (sym (t .splits (take (f .each) ds) (drop (f .each) ds)) ∙ ap good (take-append-drop (f .each) ds) ∙ h)
+
+  pub written-accepted : (e k : ℕ) (ds rest : List ℕ) → Below (f .base) ds → good ds ≡ true →
+      items-refusal f e good k (length ds) (items-words f k ds ++ rest) ≡ 0
+  unfolding items-refusal word-refusal first items-words
+  written-accepted e zero ds rest g h = refl
+  written-accepted e (suc k) ds rest g h =
+      let w = word ds g in
+      rw (w .right, eq-eqb (f .kind) (f .kind) refl, w .clear, w .same, fine-parts ds h .0, ← length-drop (f .each) ds)
+      (written-accepted e k (drop (f .each) ds) rest (below-parts (f .base) (f .each) ds g .1) (fine-parts ds h .1))
+
+  pub written-back : (k : ℕ) (ds rest : List ℕ) → Below (f .base) ds → length ds ≤ f .each * k →
+      items-in f k (length ds) (items-words f k ds ++ rest) ≡ ds
+  unfolding items-in items-words
+  written-back zero [] rest g l = refl
+  written-back zero (d ∷ ds) rest g l = absurd (omega (arith, mul-zero (f .each)))
+  written-back (suc k) ds rest g l =
+      let w = word ds g in
+      rw (w .same, ← length-drop (f .each) ds)
+      (ap (λ (x : List ℕ). take (f .each) ds ++ x)
+      (written-back k (drop (f .each) ds) rest (below-parts (f .base) (f .each) ds g .1) (omega (arith, length-drop (f .each) ds, mul-suc (f .each) k)))
+      ∙ take-append-drop (f .each) ds)
+
+  pub accepted-back : (e k n : ℕ) (ws : List ℕ) → items-refusal f (suc e) good k n ws ≡ 0 → Held f good k n ws
+  unfolding items-refusal word-refusal items-words items-in items unused
+  accepted-back e zero n ws h = record { enough = omega arith; again = refl; fine = t .none; inside = tt }
+  accepted-back e (suc k) n [] h = absurd (omega arith)
+  accepted-back e (suc k) n (w ∷ ws) h =
+      let o = first-none (word-refusal f (suc e) good n w) (items-refusal f (suc e) good k (n - f .each) ws) h in
+      let a = passed (not (eqb (kind w) (f .kind))) 9 _ (o .0) in
+      let b = passed (not (eqb (unused f n w) 0)) 10 _ (a .1) in
+      let d = held (good (items f n w)) e 0 (b .1) in
+      more (eqb-true (kind w) (f .kind) (not-false _ (a .0))) (eqb-true (unused f n w) 0 (not-false _ (b .0))) (d .0)
+      (accepted-back e k (n - f .each) ws (o .1))
+    where
+      more : kind w ≡ f .kind → unused f n w ≡ 0 → good (items f n w) ≡ true → Held f good k (n - f .each) ws → Held f good (suc k) n (w ∷ ws)
+      more right clear fine r = record {
+        enough = omega (arith, r .enough);
+        again =
+            rw (part f n w k ws .0, part f n w k ws .1)
+            (ap₂ _∷_ (ap₂ worded (sym right) (packed-digits (f .base) (used f n) (body w) clear) ∙ worded-again w) (r .again));
+        fine = t .splits (items f n w) (items-in f k (n - f .each) ws) ∙ ap₂ _&&_ fine (r .fine);
+        inside = below-join (f .base) (items f n w) (items-in f k (n - f .each) ws) (digits-below (f .base) (t .some) (used f n) (body w)) (r .inside);
+      }

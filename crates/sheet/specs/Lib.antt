@@ -1,0 +1,4 @@
+pub mod Sheet
+pub mod Steps
+pub mod Calls
+pub mod Promise

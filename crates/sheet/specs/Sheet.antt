@@ -1,0 +1,222 @@
+-- The sheet format (document 01, 'Sheets'): what a question list is written as, what a sheet is refused by, and the questions that it holds.
+-- Assumes nothing: these are definitions.
+use mathlib.Core.Bool.{Bool, true, _&&_, not, cond}
+use mathlib.Core.List.{List, [], _∷_, _++_, map}
+use Prim.Native.Nat.{ℕ, zero, suc, _+_, _*_, _-_, _/_, _%_, _^_, min}
+use lib.Dec.{ltb, leb, eqb}
+use lib.ListN.{length, getD, take, drop}
+use lib.IntN.{ℤ, pos, negsuc}
+use Rattle.code.specs.Code.{code-good, width, long, symbols-good}
+use Rattle.code.specs.Bits.{row-long}
+use Rattle.metric.specs.Row.{row-good}
+use Rattle.sheet.specs.declared.Form.{Form}
+
+-- the kinds of the words that begin a question and end a sheet
+unfoldable pub head-kind : ℕ
+head-kind = 1
+
+unfoldable pub end-kind : ℕ
+end-kind = 15
+
+-- a kind of word that holds items: how many, and below what each is. Kind 2: three reliabilities of 8 bits
+unfoldable pub reliabilities : Form
+reliabilities = record { kind = 2; each = 3; base = 2 ^ 8 }
+
+-- kind 3: six 4-bit symbols
+unfoldable pub symbols : Form
+symbols = record { kind = 3; each = 6; base = 2 ^ 4 }
+
+-- at most 200 questions; a question number and a count have 24 bits
+unfoldable pub most : ℕ
+most = 200
+
+unfoldable pub numbers : ℕ
+numbers = 2 ^ 24
+
+pub record Question : Type 0 where
+  pub code : ℕ
+  pub number : ℕ
+  pub row : List ℤ
+  pub word : List ℕ
+
+-- n digits to a base, the first lowest; and the number that has these digits
+unfoldable pub digits : (base n : ℕ) → ℕ → List ℕ
+digits b zero v = []
+digits b (suc n) v = (v % b) ∷ digits b n (v / b)
+
+unfoldable pub packed : (base : ℕ) → List ℕ → ℕ
+packed b [] = 0
+packed b (d ∷ ds) = d + b * packed b ds
+
+-- two's complement
+unfoldable pub unsigned-of : (base : ℕ) → ℤ → ℕ
+unsigned-of b (pos n) = n
+unsigned-of b (negsuc n) = b - 1 - n
+
+unfoldable pub signed-of : (base : ℕ) → ℕ → ℤ
+signed-of b d = cond (ltb d (b / 2)) (pos d) (negsuc (b - 1 - d))
+
+-- a row as the items of its words, and back
+unfoldable pub row-items : (row : List ℤ) → List ℕ
+row-items rs = map (unsigned-of (reliabilities .base)) rs
+
+unfoldable pub row-of : (items : List ℕ) → List ℤ
+row-of ds = map (signed-of (reliabilities .base)) ds
+
+-- a word is 32 bits, the top four the kind
+unfoldable pub worded : (kind body : ℕ) → ℕ
+worded k v = k * 2 ^ 28 + v
+
+unfoldable pub kind : (word : ℕ) → ℕ
+kind w = w / 2 ^ 28
+
+unfoldable pub body : (word : ℕ) → ℕ
+body w = w % 2 ^ 28
+
+-- the code of a head, in bits 27..24, and the low 24 bits: its question number, or the count of an end
+unfoldable pub head-code : (word : ℕ) → ℕ
+head-code w = body w / numbers
+
+unfoldable pub low : (word : ℕ) → ℕ
+low w = body w % numbers
+
+-- how many words so many items take
+unfoldable pub count : Form → (items : ℕ) → ℕ
+count f n = (n + (f .each - 1)) / f .each
+
+unfoldable pub row-words : (m : ℕ) → ℕ
+row-words m = count reliabilities (row-long m)
+
+unfoldable pub symbol-words : (m : ℕ) → ℕ
+symbol-words m = count symbols (long m)
+
+-- WRITING
+unfoldable pub items-words : Form → (words : ℕ) → (items : List ℕ) → List ℕ
+items-words f zero ds = []
+items-words f (suc k) ds = worded (f .kind) (packed (f .base) (take (f .each) ds)) ∷ items-words f k (drop (f .each) ds)
+
+-- a question is a head, its n·m reliabilities, then the n symbols handed in
+unfoldable pub question-words : Question → List ℕ
+question-words q =
+    let m = width (q .code) in
+    worded head-kind (q .code * numbers + q .number)
+    ∷ items-words reliabilities (row-words m) (row-items (q .row)) ++ items-words symbols (symbol-words m) (q .word)
+
+unfoldable pub all-words : List Question → List ℕ
+all-words [] = []
+all-words (q ∷ qs) = question-words q ++ all-words qs
+
+-- low byte first
+unfoldable pub as-bytes : (words : List ℕ) → List ℕ
+as-bytes [] = []
+as-bytes (w ∷ ws) = digits (2 ^ 8) 4 w ++ as-bytes ws
+
+-- the sheet of a question list
+unfoldable pub written : List Question → List ℕ
+written qs = as-bytes (all-words qs ++ worded end-kind (length qs) ∷ [])
+
+-- READING
+unfoldable pub words-from : (words : ℕ) → (bytes : List ℕ) → List ℕ
+words-from zero bs = []
+words-from (suc n) bs = packed (2 ^ 8) (take 4 bs) ∷ words-from n (drop 4 bs)
+
+unfoldable pub as-words : (bytes : List ℕ) → List ℕ
+as-words bs = words-from (length bs / 4) bs
+
+-- how many of n items stand in the next word, those items, and what stands above them
+unfoldable pub used : Form → (left : ℕ) → ℕ
+used f n = min (f .each) n
+
+unfoldable pub items : Form → (left word : ℕ) → List ℕ
+items f n w = digits (f .base) (used f n) (body w)
+
+unfoldable pub unused : Form → (left word : ℕ) → ℕ
+unused f n w = body w / f .base ^ used f n
+
+-- what refuses first
+unfoldable pub first : ℕ → ℕ → ℕ
+first zero e = e
+first (suc d) e = suc d
+
+-- a word of which n items are left: wrong kind 10, unused bits not zero 11, then the refusal that a bad item meets
+unfoldable pub word-refusal : Form → (bad : ℕ) → (good : List ℕ → Bool) → (left word : ℕ) → ℕ
+word-refusal f e good n w =
+    cond (not (eqb (kind w) (f .kind))) 10 (cond (not (eqb (unused f n w) 0)) 11 (cond (good (items f n w)) 0 e))
+
+-- n items in so many words; words run out 9
+unfoldable pub items-refusal : Form → (bad : ℕ) → (good : List ℕ → Bool) → (words left : ℕ) → List ℕ → ℕ
+items-refusal f e good zero n ws = 0
+items-refusal f e good (suc k) n [] = 9
+items-refusal f e good (suc k) n (w ∷ ws) = first (word-refusal f e good n w) (items-refusal f e good k (n - f .each) ws)
+
+-- the items; a word that is not there counts as 0
+unfoldable pub items-in : Form → (words left : ℕ) → List ℕ → List ℕ
+items-in f zero n ws = []
+items-in f (suc k) n ws = items f n (getD ws 0 0) ++ items-in f k (n - f .each) (drop 1 ws)
+
+unfoldable pub row-refusal : (m : ℕ) → List ℕ → ℕ
+row-refusal m ws = items-refusal reliabilities 5 (λ ds. row-good (row-of ds)) (row-words m) (row-long m) ws
+
+unfoldable pub symbol-refusal : (m : ℕ) → List ℕ → ℕ
+symbol-refusal m ws = items-refusal symbols 6 (symbols-good m) (symbol-words m) (long m) ws
+
+-- what follows a head of width m: the row, the word, then the rest
+unfoldable pub after-row : (m : ℕ) → List ℕ → List ℕ
+after-row m ws = drop (row-words m) ws
+
+unfoldable pub after : (m : ℕ) → List ℕ → List ℕ
+after m ws = drop (symbol-words m) (after-row m ws)
+
+unfoldable pub question-refusal : (code : ℕ) → List ℕ → ℕ
+question-refusal c ws = cond (not (code-good c)) 1 (first (row-refusal (width c) ws) (symbol-refusal (width c) (after-row (width c) ws)))
+
+-- an end word after so many questions, with so many words after it
+unfoldable pub end-refusal : (seen word after : ℕ) → ℕ
+end-refusal n w k = cond (not (eqb (head-code w) 0)) 11 (cond (not (eqb (low w) n)) 12 (cond (eqb k 0) 0 13))
+
+-- the next word after so many questions is an end, or a head that `asked` judges with what follows it: words run out 9, wrong kind 10
+unfoldable pub next-refusal : (seen : ℕ) → (asked : (code : ℕ) → List ℕ → ℕ) → List ℕ → ℕ
+next-refusal n asked [] = 9
+next-refusal n asked (w ∷ ws) =
+    cond (eqb (kind w) end-kind) (end-refusal n w (length ws)) (cond (eqb (kind w) head-kind) (asked (head-code w) ws) 10)
+
+-- the rest of a sheet in which so many heads are still allowed; one more is 12
+unfoldable pub rest-refusal : (left : ℕ) → List ℕ → ℕ
+rest-refusal zero ws = next-refusal most (λ c vs. 12) ws
+rest-refusal (suc k) ws = next-refusal (most - suc k) (λ c vs. first (question-refusal c vs) (rest-refusal k (after (width c) vs))) ws
+
+-- 0, or the refusal of a sheet: the byte count first, then the first offending word
+unfoldable pub sheet-refusal : (sheet : List ℕ) → ℕ
+sheet-refusal bs = cond (eqb (length bs % 4) 0) (rest-refusal most (as-words bs)) 9
+
+-- the question of a head and of what follows it
+unfoldable pub question-in : (head : ℕ) → (follows : List ℕ) → Question
+question-in w ws =
+    let m = width (head-code w) in
+    record {
+      code = head-code w;
+      number = low w;
+      row = row-of (items-in reliabilities (row-words m) (row-long m) ws);
+      word = items-in symbols (symbol-words m) (long m) (after-row m ws);
+    }
+
+unfoldable pub questions-from : (left : ℕ) → List ℕ → List Question
+questions-from zero ws = []
+questions-from (suc k) [] = []
+questions-from (suc k) (w ∷ ws) =
+    cond (eqb (kind w) head-kind) (question-in w ws ∷ questions-from k (after (width (head-code w)) ws)) []
+
+-- the questions of an accepted sheet
+unfoldable pub questions : (sheet : List ℕ) → List Question
+questions bs = questions-from most (as-words bs)
+
+-- a question that a sheet can hold
+unfoldable pub question-good : Question → Bool
+question-good q =
+    let m = width (q .code) in
+    (code-good (q .code) && ltb (q .number) numbers)
+    && ((eqb (length (q .row)) (row-long m) && row-good (q .row)) && (eqb (length (q .word)) (long m) && symbols-good m (q .word)))
+
+unfoldable pub all-good : List Question → Bool
+all-good [] = true
+all-good (q ∷ qs) = question-good q && all-good qs

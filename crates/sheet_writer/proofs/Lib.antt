@@ -1,0 +1,4 @@
+pub mod Lists
+pub mod Packing
+pub mod Questions
+pub mod Writing

@@ -1,0 +1,117 @@
+-- One turn of each loop that checks a question list.
+-- Assumes nothing.
+use mathlib.Core.Path.{_≡_, refl, sym, ap, ap₂, _∙_}
+use mathlib.Core.Bool.{Bool, true, false, _&&_, not, cond}
+use mathlib.Core.List.{List, [], _∷_}
+use Prim.Native.Nat.{ℕ, zero, suc, _+_, _*_, _-_, _^_, _<_, _≤_}
+use native.Mathlib.Nat.{add-assoc}
+use native.Mathlib.Numerals.{add-one}
+use native.Mathlib.Omega.{arith}
+use borrow.Author.Tests.{eqb-true, leb-true, not-false, eq-eqb, ne-eqb, lt-ltb, le-ltb}
+use lib.Dec.{ltb, leb, eqb}
+use lib.ListN.{length, getD, take, drop, length-drop, drop-of-length-le}
+use lib.Seq.{drop-cons, drop-drop}
+use lib.IntN.{ℤ, pos}
+use Rattle.code.specs.Code.{code-good, width, long, symbols-good}
+use Rattle.code.specs.Bits.{row-long}
+use Rattle.metric.specs.Row.{reliability-good, row-good}
+use Rattle.sheet.specs.Sheet.{numbers, first, row-words, symbol-words}
+use Rattle.sheet.proofs.Items.{passed}
+use Rattle.sheet.proofs.Judging.{width-fine, row-words-le, symbol-words-le}
+use Rattle.sheet_writer.specs.Calls.{fits, parts-refusal, asked-refusal, list-refusal}
+use Rattle.sheet_writer.specs.Steps.{words-needed}
+
+pub row-step : (rs : List ℤ) (i : ℕ) → i < length rs → row-good (drop i rs) ≡ (reliability-good (getD rs i (pos 0)) && row-good (drop (i + 1) rs))
+unfolding row-good
+row-step rs i h = rw (add-one, drop-cons rs i (pos 0) h)
+
+pub row-end : (rs : List ℤ) (i : ℕ) → length rs ≤ i → row-good (drop i rs) ≡ true
+unfolding row-good
+row-end rs i h = rw (drop-of-length-le rs h)
+
+pub symbol-step : (m : ℕ) (ws : List ℕ) (i : ℕ) → i < length ws → symbols-good m (drop i ws) ≡ (ltb (getD ws i 0) (2 ^ m) && symbols-good m (drop (i + 1) ws))
+unfolding symbols-good
+symbol-step m ws i h = rw (add-one, drop-cons ws i 0 h)
+
+pub symbol-end : (m : ℕ) (ws : List ℕ) (i : ℕ) → length ws ≤ i → symbols-good m (drop i ws) ≡ true
+unfolding symbols-good
+symbol-end m ws i h = rw (drop-of-length-le ws h)
+
+pub fits-last : (k l n : ℕ) → k ≡ 0 → fits k l n ≡ eqb l n
+unfolding fits
+fits-last k l n e = rw e
+
+pub fits-more : (k l n : ℕ) → (k ≡ 0 → ⊥) → fits k l n ≡ leb n l
+unfolding fits
+fits-more zero l n h = absurd (h refl)
+fits-more (suc k) l n h = refl
+
+pub needed-step : (cs : List ℕ) (i : ℕ) → i < length cs →
+    words-needed (drop i cs) ≡ 1 + (row-words (width (getD cs i 0)) + symbol-words (width (getD cs i 0))) + words-needed (drop (i + 1) cs)
+unfolding words-needed
+needed-step cs i h = rw (add-one, drop-cons cs i 0 h)
+
+pub needed-le : (cs : List ℕ) → words-needed cs ≤ 24 * length cs
+unfolding words-needed
+needed-le [] = omega arith
+needed-le (c ∷ cs) =
+    omega (arith, needed-le cs, row-words-le (width c) (width-fine c), symbol-words-le (width c) (width-fine c))
+
+-- the row and the word, test by test
+module _ (m k : ℕ) (rs : List ℤ) (ws : List ℕ) where
+  pub row-misfit : fits k (length rs) (row-long m) ≡ false → parts-refusal m k rs ws ≡ 2
+  unfolding parts-refusal
+  row-misfit a = rw a
+
+  pub word-misfit : fits k (length rs) (row-long m) ≡ true → fits k (length ws) (long m) ≡ false → parts-refusal m k rs ws ≡ 3
+  unfolding parts-refusal
+  word-misfit a b = rw (a, b)
+
+  pub row-bad : fits k (length rs) (row-long m) ≡ true → fits k (length ws) (long m) ≡ true → row-good (take (row-long m) rs) ≡ false → parts-refusal m k rs ws ≡ 5
+  unfolding parts-refusal
+  row-bad a b d = rw (a, b, d)
+
+  pub word-last : fits k (length rs) (row-long m) ≡ true → fits k (length ws) (long m) ≡ true → row-good (take (row-long m) rs) ≡ true →
+      parts-refusal m k rs ws ≡ cond (symbols-good m (take (long m) ws)) 0 6
+  unfolding parts-refusal
+  word-last a b d = rw (a, b, d)
+
+pub enough : (k l n : ℕ) → fits k l n ≡ true → n ≤ l
+unfolding fits
+enough zero l n e = omega (arith, eqb-true l n e)
+enough (suc k) l n e = leb-true n l e
+
+pub code-unknown : (c n k : ℕ) (rs : List ℤ) (ws : List ℕ) → code-good c ≡ false → asked-refusal c n k rs ws ≡ 1
+unfolding asked-refusal
+code-unknown c n k rs ws a = rw a
+
+pub number-large : (c n k : ℕ) (rs : List ℤ) (ws : List ℕ) → code-good c ≡ true → 2 ^ 24 ≤ n → asked-refusal c n k rs ws ≡ 11
+unfolding asked-refusal numbers
+number-large c n k rs ws a b = rw (a, le-ltb n (2 ^ 24) b)
+
+pub parts-next : (c n k : ℕ) (rs : List ℤ) (ws : List ℕ) → code-good c ≡ true → n < 2 ^ 24 → asked-refusal c n k rs ws ≡ parts-refusal (width c) k rs ws
+unfolding asked-refusal numbers
+parts-next c n k rs ws a b = rw (a, lt-ltb n (2 ^ 24) b)
+
+-- an accepted question leaves what is left of the rows and of the words
+pub room : (c n k : ℕ) (rs : List ℤ) (ws : List ℕ) → asked-refusal c n k rs ws ≡ 0 → (row-long (width c) ≤ length rs) × (long (width c) ≤ length ws)
+unfolding asked-refusal parts-refusal
+room c n k rs ws h =
+    let m = width c in
+    let a = passed (not (code-good c)) 0 _ h in
+    let b = passed (not (ltb n numbers)) 10 _ (a .1) in
+    let d = passed (not (fits k (length rs) (row-long m))) 1 _ (b .1) in
+    let e = passed (not (fits k (length ws) (long m))) 2 _ (d .1) in
+    (enough k (length rs) (row-long m) (not-false _ (d .0)), enough k (length ws) (long m) (not-false _ (e .0)))
+
+module _ (cs ns : List ℕ) (i : ℕ) (rs : List ℤ) (ws : List ℕ) where
+  pub list-step : i < length cs → i < length ns →
+      list-refusal (drop i cs) (drop i ns) rs ws
+      ≡ first (asked-refusal (getD cs i 0) (getD ns i 0) (length cs - (i + 1)) rs ws)
+      (list-refusal (drop (i + 1) cs) (drop (i + 1) ns) (drop (row-long (width (getD cs i 0))) rs) (drop (long (width (getD cs i 0))) ws))
+  unfolding list-refusal
+  list-step h l = rw (← length-drop (i + 1) cs, add-one, drop-cons cs i 0 h, drop-cons ns i 0 l)
+
+  pub list-end : length cs ≤ i → list-refusal (drop i cs) (drop i ns) rs ws ≡ cond (not (eqb (length rs) 0)) 2 (cond (eqb (length ws) 0) 0 3)
+  unfolding list-refusal
+  list-end h = rw (drop-of-length-le cs h)

@@ -1,0 +1,197 @@
+-- Reliabilities and symbols as numbers, one digit a turn; words stored as bytes.
+-- Assumes nothing.
+use mathlib.Core.Path.{_≡_, refl, sym, ap, ap₂, _∙_, subst}
+use mathlib.Core.Bool.{Bool, true, false, _&&_}
+use mathlib.Core.List.{List, [], _∷_, _++_, map, append-assoc, append-nil}
+use Prim.Native.Nat.{ℕ, zero, suc, _+_, _*_, _-_, _/_, _%_, _^_, _<_, _≤_, min}
+use native.Mathlib.Nat.{le-trans, lt-of-lt-of-le, pow-le-pow-right, add-zero}
+use native.Mathlib.Numerals.{add-one}
+use native.Mathlib.Omega.{arith}
+use borrow.Author.Tests.{ltb-true, leb-true, le-ltb}
+use lib.Dec.{T, ltb, lit<, lit≤}
+use lib.ListN.{length, getD, take, drop, set, length-set, length-take, length-drop, length-append, drop-of-length-le, List·getD-map}
+use lib.Seq.{drop-cons, sets, sets-eq, getD-take, take-suc, take-at, drop-at, drop-drop, drop-append-add, take-all, length-take-le}
+use lib.IntN.{ℤ, pos, negsuc, natAbs, _+ℤ_}
+use lib.Signed.{ltZ, nonNeg}
+use mir.Syntax.{w16, w32}
+use mir.Val.{SFits, Fits, toZ, ofZ}
+use mir.Facts.{toZ-ofZ}
+use Rattle.code.specs.Code.{symbols-good}
+use Rattle.code.proofs.Words.{Below, below, good, widen}
+use Rattle.field.proofs.Tests.{to-T}
+use Rattle.metric.specs.Row.{bound, reliability-good, row-good}
+use Rattle.sheet.specs.Sheet.{digits, packed, unsigned-of, row-items, reliabilities, as-bytes}
+use Rattle.sheet.proofs.Digits.{packed-lt, digits-length}
+use Rattle.sheet.proofs.Items.{both, below-parts}
+use Rattle.sheet.proofs.Forms.{unsigned-lt, items-below, row-items-length}
+use Rattle.sheet.proofs.Bytes.{bytes-length}
+use Rattle.sheet_writer.specs.Steps.{begun}
+
+-- two's complement, as the code computes it
+module _ (r : ℤ) (f : SFits w16 r) (g : reliability-good r ≡ true) where
+  plain : toZ w16 (ofZ w16 r) ≡ r
+  plain = toZ-ofZ f
+
+  shifted : (r : ℤ) → reliability-good r ≡ true → ltZ r (pos 0) ≡ true → r +ℤ pos 256 ≡ pos (unsigned-of 256 r)
+  unfolding unsigned-of reliability-good bound
+  shifted (pos n) g e = absurd (omega (arith, ltb-true n 0 e))
+  shifted (negsuc n) g e =
+      let h : suc n ≤ 127 = leb-true (suc n) 127 g in
+      rw (le-ltb 256 (suc n) (omega arith)) (ap pos (omega arith))
+
+  below-sum : ltZ (toZ w16 (ofZ w16 r)) (pos 0) ≡ true → toZ w16 (ofZ w16 r) +ℤ pos 256 ≡ pos (unsigned-of 256 r)
+  below-sum e = rw plain (shifted r g (rw plain at e))
+
+  pub below-fits : ltZ (toZ w16 (ofZ w16 r)) (pos 0) ≡ true → SFits w16 (toZ w16 (ofZ w16 r) +ℤ pos 256)
+  below-fits e = rw (below-sum e) (record { sfits = omega (arith, unsigned-lt r g) })
+
+  below-is : ltZ (toZ w16 (ofZ w16 r)) (pos 0) ≡ true → toZ w16 (ofZ w16 (toZ w16 (ofZ w16 r) +ℤ pos 256)) ≡ pos (unsigned-of 256 r)
+  below-is e = toZ-ofZ (below-fits e) ∙ below-sum e
+
+  pub below-cast : ltZ (toZ w16 (ofZ w16 r)) (pos 0) ≡ true →
+      T (nonNeg (toZ w16 (ofZ w16 (toZ w16 (ofZ w16 r) +ℤ pos 256)))) × Fits w32 (natAbs (toZ w16 (ofZ w16 (toZ w16 (ofZ w16 r) +ℤ pos 256))))
+  below-cast e = rw (below-is e) (tt, record { fits = omega (arith, unsigned-lt r g) })
+
+  pub below-value : ltZ (toZ w16 (ofZ w16 r)) (pos 0) ≡ true → natAbs (toZ w16 (ofZ w16 (toZ w16 (ofZ w16 r) +ℤ pos 256))) ≡ unsigned-of 256 r
+  below-value e = rw (below-is e)
+
+  as-is : (r : ℤ) → ltZ r (pos 0) ≡ false → r ≡ pos (unsigned-of 256 r)
+  unfolding unsigned-of
+  as-is (pos n) e = refl
+  as-is (negsuc n) e = absurd (subst T e tt)
+
+  above-is : ltZ (toZ w16 (ofZ w16 r)) (pos 0) ≡ false → toZ w16 (ofZ w16 r) ≡ pos (unsigned-of 256 r)
+  above-is e = plain ∙ as-is r (rw plain at e)
+
+  pub above-cast : ltZ (toZ w16 (ofZ w16 r)) (pos 0) ≡ false → T (nonNeg (toZ w16 (ofZ w16 r))) × Fits w32 (natAbs (toZ w16 (ofZ w16 r)))
+  above-cast e = rw (above-is e) (tt, record { fits = omega (arith, unsigned-lt r g) })
+
+  pub above-value : ltZ (toZ w16 (ofZ w16 r)) (pos 0) ≡ false → natAbs (toZ w16 (ofZ w16 r)) ≡ unsigned-of 256 r
+  above-value e = rw (above-is e)
+
+-- one digit more
+pub packed-step : (b : ℕ) (ds : List ℕ) (i : ℕ) → i < length ds → packed b (drop i ds) ≡ getD ds i 0 + b * packed b (drop (i + 1) ds)
+unfolding packed
+packed-step b ds i h = rw (add-one, drop-cons ds i 0 h)
+
+pub packed-end : (b : ℕ) (ds : List ℕ) (i : ℕ) → length ds ≤ i → packed b (drop i ds) ≡ 0
+unfolding packed
+packed-end b ds i h = rw (drop-of-length-le ds h)
+
+pub packed-le : (b : ℕ) (ds : List ℕ) (i n : ℕ) → 0 < b → Below b ds → length ds ≤ n → packed b (drop i ds) < b ^ n
+packed-le b ds i n some g h =
+    lt-of-lt-of-le (packed-lt b (drop i ds) (below-parts b i ds g .1)) (pow-le-pow-right some (omega (arith, length-drop i ds)))
+
+pub digit-turn : (b k : ℕ) (ds : List ℕ) (i : ℕ) → 0 < i → i ≤ length (take k ds) →
+    packed b (drop (i - 1) (take k ds)) ≡ getD ds (i - 1) 0 + b * packed b (drop i (take k ds))
+digit-turn b k ds i some h =
+    let e : i - 1 + 1 ≡ i = omega arith in
+    let l : i - 1 < k = omega (arith, length-take k ds) in
+    packed-step b (take k ds) (i - 1) (omega arith)
+    ∙ ap₂ (λ (x y : ℕ). x + b * packed b (drop y (take k ds))) (getD-take k ds (i - 1) 0 l) e
+
+pub digit-bound : (b k : ℕ) (ds : List ℕ) (i : ℕ) → 0 < b → Below b ds → packed b (drop i (take k ds)) < b ^ k
+digit-bound b k ds i some g = packed-le b (take k ds) i k some (below-parts b k ds g .0) (omega (arith, length-take k ds))
+
+pub row-below : (rs : List ℤ) → row-good rs ≡ true → Below 256 (row-items rs)
+unfolding reliabilities
+row-below rs g = items-below rs g
+
+pub symbol-below : (ws : List ℕ) → symbols-good 4 ws ≡ true → Below 16 ws
+symbol-below ws g = below 4 ws (to-T g)
+
+-- a row's items
+pub row-items-at : (rs : List ℤ) (i : ℕ) → getD (row-items rs) i 0 ≡ unsigned-of 256 (getD rs i (pos 0))
+unfolding row-items reliabilities unsigned-of
+row-items-at rs i = List·getD-map (unsigned-of 256) rs i (pos 0)
+
+pub row-items-drop : (n : ℕ) (rs : List ℤ) → row-items (drop n rs) ≡ drop n (row-items rs)
+unfolding row-items
+row-items-drop zero rs = refl
+row-items-drop (suc n) [] = refl
+row-items-drop (suc n) (r ∷ rs) = row-items-drop n rs
+
+pub row-good-drop : (n : ℕ) (rs : List ℤ) → row-good rs ≡ true → row-good (drop n rs) ≡ true
+unfolding row-good
+row-good-drop zero rs g = g
+row-good-drop (suc n) [] g = refl
+row-good-drop (suc n) (r ∷ rs) g = row-good-drop n rs (both (reliability-good r) (row-good rs) g .1)
+
+pub row-good-at : (rs : List ℤ) (i : ℕ) → row-good rs ≡ true → i < length rs → reliability-good (getD rs i (pos 0)) ≡ true
+unfolding row-good
+row-good-at [] i g h = absurd (omega arith)
+row-good-at (r ∷ rs) zero g h = both (reliability-good r) (row-good rs) g .0
+row-good-at (r ∷ rs) (suc i) g h = row-good-at rs i (both (reliability-good r) (row-good rs) g .1) (omega arith)
+
+-- symbols
+pub symbols-four : (m : ℕ) (ws : List ℕ) → m ≤ 4 → symbols-good m ws ≡ true → symbols-good 4 ws ≡ true
+symbols-four m ws h g = good 4 ws (widen (pow-le-pow-right (lit< tt) h) ws (below m ws (to-T g)))
+
+pub symbols-drop : (n : ℕ) (ws : List ℕ) → symbols-good 4 ws ≡ true → symbols-good 4 (drop n ws) ≡ true
+symbols-drop n ws g = good 4 (drop n ws) (below-parts 16 n ws (below 4 ws (to-T g)) .1)
+
+-- four stores are a word
+pub four-stores : (l : List ℕ) (n w : ℕ) → n + 4 ≤ length l →
+    set (set (set (set l n (w % 256)) (n + 1) (w / 256 % 256)) (n + 2) (w / 256 / 256 % 256)) (n + 3) (w / 256 / 256 / 256 % 256)
+    ≡ take n l ++ (digits 256 4 w ++ drop (n + 4) l)
+unfolding digits
+four-stores l n w h =
+    let two : n + 2 ≡ suc (suc n) = omega arith in
+    let three : n + 3 ≡ suc (suc (suc n)) = omega arith in
+    let vs : List ℕ = (w % 256) ∷ (w / 256 % 256) ∷ (w / 256 / 256 % 256) ∷ (w / 256 / 256 / 256 % 256) ∷ [] in
+    rw (add-one n, two, three) (sets-eq vs l n h ∙ append-assoc (take n l) vs (drop (n + 4) l))
+
+-- an output whose first words were written
+as-bytes-append : (a b : List ℕ) → as-bytes (a ++ b) ≡ as-bytes a ++ as-bytes b
+unfolding as-bytes
+as-bytes-append [] b = refl
+as-bytes-append (w ∷ ws) b = ap (λ (x : List ℕ). digits 256 4 w ++ x) (as-bytes-append ws b) ∙ sym (append-assoc (digits 256 4 w) (as-bytes ws) (as-bytes b))
+
+pub begun-none : (o : List ℕ) → begun [] o ≡ o
+unfolding begun as-bytes
+begun-none o = refl
+
+pub begun-length : (ws o : List ℕ) → 4 * length ws ≤ length o → length (begun ws o) ≡ length o
+unfolding begun
+begun-length ws o h = omega (arith, length-append (as-bytes ws) (drop (4 * length ws) o), bytes-length ws, length-drop (4 * length ws) o)
+
+begun-take : (ws o : List ℕ) → take (4 * length ws) (begun ws o) ≡ as-bytes ws
+unfolding begun
+begun-take ws o = take-at (as-bytes ws) (drop (4 * length ws) o) (4 * length ws) (bytes-length ws)
+
+begun-drop : (ws o : List ℕ) → drop (4 * length ws) (begun ws o) ≡ drop (4 * length ws) o
+unfolding begun
+begun-drop ws o = drop-at (as-bytes ws) (drop (4 * length ws) o) (4 * length ws) (bytes-length ws)
+
+-- more words after them
+pub begun-join : (a b o : List ℕ) → take (4 * length a) (begun a o) ++ begun b (drop (4 * length a) (begun a o)) ≡ begun (a ++ b) o
+unfolding begun
+begun-join a b o =
+    let e : 4 * length a + 4 * length b ≡ 4 * length (a ++ b) = omega (arith, length-append a b) in
+    ap₂ (λ (x y : List ℕ). x ++ (as-bytes b ++ drop (4 * length b) y)) (begun-take a o) (begun-drop a o)
+    ∙ ap (λ (x : List ℕ). as-bytes a ++ (as-bytes b ++ x)) (drop-drop (4 * length b) (4 * length a) o ∙ ap (λ (x : ℕ). drop x o) e)
+    ∙ sym (append-assoc (as-bytes a) (as-bytes b) (drop (4 * length (a ++ b)) o))
+    ∙ ap (λ (x : List ℕ). x ++ drop (4 * length (a ++ b)) o) (sym (as-bytes-append a b))
+
+begun-one : (w : ℕ) (l : List ℕ) → digits 256 4 w ++ drop 4 l ≡ begun (w ∷ []) l
+unfolding begun as-bytes
+begun-one w l = ap (λ (x : List ℕ). x ++ drop 4 l) (sym (append-nil (digits 256 4 w)))
+
+pub begun-word : (ws o : List ℕ) (w : ℕ) →
+    take (4 * length ws) (begun ws o) ++ (digits 256 4 w ++ drop (4 * length ws + 4) (begun ws o)) ≡ begun (ws ++ w ∷ []) o
+begun-word ws o w =
+    ap (λ (x : List ℕ). take (4 * length ws) (begun ws o) ++ (digits 256 4 w ++ x)) (sym (drop-drop 4 (4 * length ws) (begun ws o)))
+    ∙ ap (λ (x : List ℕ). take (4 * length ws) (begun ws o) ++ x) (begun-one w (drop (4 * length ws) (begun ws o)))
+    ∙ begun-join ws (w ∷ []) o
+
+pub begun-all : (ws o : List ℕ) → length o ≡ 4 * length ws → begun ws o ≡ as-bytes ws
+unfolding begun
+begun-all ws o h = rw (drop-of-length-le o {i = 4 * length ws} (omega arith), append-nil)
+
+pub begun-next : (ws o : List ℕ) (j : ℕ) → j < length ws →
+    take (4 * j) (begun (take j ws) o) ++ (digits 256 4 (getD ws j 0) ++ drop (4 * j + 4) (begun (take j ws) o)) ≡ begun (take (j + 1) ws) o
+begun-next ws o j h =
+    let e : length (take j ws) ≡ j = length-take-le j ws (omega arith) in
+    subst (λ (n : ℕ). take (4 * n) (begun (take j ws) o) ++ (digits 256 4 (getD ws j 0) ++ drop (4 * n + 4) (begun (take j ws) o)) ≡ begun (take j ws ++ getD ws j 0 ∷ []) o) e
+    (begun-word (take j ws) o (getD ws j 0))
+    ∙ ap (λ (l : List ℕ). begun l o) (sym (ap (λ (x : ℕ). take x ws) (add-one j) ∙ take-suc ws j 0 h))

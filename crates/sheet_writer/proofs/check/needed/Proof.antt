@@ -1,0 +1,82 @@
+-- `sheet_writer::needed` meets its contract.
+-- Assumes nothing.
+use mathlib.Core.Path.{_≡_, refl, sym, ap, _∙_}
+use mathlib.Core.List.{List}
+use Prim.Native.Nat.{ℕ, _+_, _-_, _≤_}
+use lib.ListN.{length, getD, drop, drop-of-length-le, length-drop}
+use lib.Seq.{drop-length}
+use denote.Ref.{now}
+use Rattle.code.specs.Code.{width}
+use Rattle.sheet.specs.Sheet.{row-words, symbol-words}
+use Rattle.sheet.proofs.Judging.{width-fine, row-words-le, symbol-words-le}
+use Rattle.sheet_writer.specs.Steps.{words-needed}
+use Rattle.sheet_writer.proofs.Lists.{needed-step, needed-le}
+use borrow.Author.Needs.{needs}
+use native.Mathlib.Omega.{arith}
+use Rattle.sheet_writer.proofs.check.needed.Statement.{statement}
+use Rattle.sheet_writer.proofs.check.needed.Tie as tie
+
+abbrev Inv-loop : tie.InvT-loop
+Inv-loop codes total₀ i₀ total i = (i ≤ length codes) × (total ≡ words-needed (drop i codes))
+
+abbrev μ-loop : tie.MeasureT-loop
+μ-loop codes total₀ i₀ total i = i
+
+few : (c : tie.After-question-words-of Inv-loop μ-loop) → c .question-words-of .result ≤ 23
+few c =
+    let a = c .before .before .before in
+    let k : ℕ = width (getD (now (a .before .before .args .codes)) (a .loop .i - 1) 0) in
+    omega (arith, c .question-words-of .ensures, row-words-le k (width-fine (getD (now (a .before .before .args .codes)) (a .loop .i - 1) 0)), symbol-words-le k (width-fine (getD (now (a .before .before .args .codes)) (a .loop .i - 1) 0)))
+
+loop-holds : tie.Need-loop-holds Inv-loop μ-loop
+unfolding words-needed
+loop-holds c = (search needs, rw (drop-length (now (c .before .args .codes))))
+
+sub-i : tie.Need-sub-i Inv-loop μ-loop
+sub-i c = search needs
+
+mul-question-words-of : tie.Need-mul-question-words-of Inv-loop μ-loop
+mul-question-words-of c = search needs
+
+shared-slice-read-question-words-of : tie.Need-shared-slice-read-question-words-of Inv-loop μ-loop
+shared-slice-read-question-words-of c = search needs
+
+question-words-of-requires : tie.Need-question-words-of-requires Inv-loop μ-loop
+question-words-of-requires c κs = search needs
+
+add-total : tie.Need-add-total Inv-loop μ-loop
+add-total c = omega (arith, few c)
+
+add-total-2 : tie.Need-add-total-2 Inv-loop μ-loop
+add-total-2 c = let a = c .before .before .before in let cs : List ℕ = now (a .before .before .args .codes) in
+    omega (arith, few c, a .loop .inv .1, needed-le (drop (a .loop .i) cs), length-drop (a .loop .i) cs, a .before .before .pre)
+
+loop-less : tie.Need-loop-less Inv-loop μ-loop
+loop-less c = search needs
+
+loop-again : tie.Need-loop-again Inv-loop μ-loop
+loop-again c = let a = c .before .before .before in let cs : List ℕ = now (a .before .before .args .codes) in
+    let e : a .loop .i - 1 + 1 ≡ a .loop .i = omega arith in (
+      omega (arith, a .loop .inv .0),
+      sym (needed-step cs (a .loop .i - 1) (omega (arith, a .loop .inv .0)) ∙ rw e (omega (arith, c .question-words-of .ensures, a .loop .inv .1))),
+    )
+
+returns : tie.Need-returns Inv-loop μ-loop
+returns c = let a = c .before in let z : a .loop .i ≡ 0 = omega arith in a .loop .inv .1 ∙ ap (λ (x : ℕ). words-needed (drop x (now (a .before .before .args .codes)))) z
+
+pub needed-spec : {M : Type 1} → statement M
+needed-spec =
+    tie.close
+    (tie.spec
+    Inv-loop
+    μ-loop
+    loop-holds
+    sub-i
+    mul-question-words-of
+    shared-slice-read-question-words-of
+    question-words-of-requires
+    add-total
+    add-total-2
+    loop-less
+    loop-again
+    returns)

@@ -1,0 +1,211 @@
+-- `sheet_writer::refused_list` meets its contract.
+-- Assumes nothing.
+use mathlib.Core.Path.{_≡_, refl, sym, ap, ap₂, _∙_}
+use mathlib.Core.Bool.{true, not, cond}
+use mathlib.Core.List.{List}
+use Prim.Native.Nat.{ℕ, _+_, _-_, _<_, _≤_}
+use borrow.Author.Tests.{eq-eqb, ne-eqb}
+use lib.Dec.{eqb}
+use lib.ListN.{length, getD, take, drop, length-drop}
+use lib.Seq.{take-all, drop-drop}
+use lib.IntN.{ℤ}
+use denote.Ref.{now}
+use Rattle.field.specs.Field.{width-good}
+use Rattle.code.specs.Code.{width, long}
+use Rattle.code.specs.Bits.{row-long}
+use Rattle.sheet.specs.Sheet.{first}
+use Rattle.sheet.proofs.Judging.{width-fine, row-long-le, long-le}
+use Rattle.sheet.proofs.Scan.{first-some, first-next}
+use Rattle.sheet_writer.specs.Calls.{asked-refusal, list-refusal}
+use Rattle.sheet_writer.proofs.Lists.{room, list-step, list-end}
+use borrow.Author.Needs.{needs}
+use native.Mathlib.Omega.{arith}
+use Rattle.sheet_writer.proofs.check.refused_list.Statement.{statement}
+use Rattle.sheet_writer.proofs.check.refused_list.Tie as tie
+
+abbrev Inv-loop : tie.InvT-loop
+Inv-loop codes numbers rows words i₀ row₀ word₀ i row word =
+    (row ≤ length rows) × (word ≤ length words)
+    × (list-refusal codes numbers rows words ≡ list-refusal (drop i codes) (drop i numbers) (drop row rows) (drop word words))
+
+abbrev μ-loop : tie.MeasureT-loop
+μ-loop codes numbers rows words i₀ row₀ word₀ i row word = length codes - i
+
+asked : (c : tie.After-refused-question Inv-loop μ-loop) →
+    let a = c .before .before .before .before .before .before in let s = a .before .before .before .before .args in
+    c .refused-question .result
+    ≡ asked-refusal (getD (now (s .codes)) (a .loop .i) 0) (getD (now (s .numbers)) (a .loop .i) 0) (length (now (s .codes)) - (a .loop .i + 1))
+    (drop (a .loop .row) (now (s .rows))) (drop (a .loop .word) (now (s .words)))
+asked c =
+    let a = c .before .before .before .before .before .before in let s = a .before .before .before .before .args in
+    c .refused-question .ensures
+    ∙ ap₂ (asked-refusal (getD (now (s .codes)) (a .loop .i) 0) (getD (now (s .numbers)) (a .loop .i) 0) (length (now (s .codes)) - (a .loop .i + 1)))
+    (take-all (length (now (s .rows)) - a .loop .row) (drop (a .loop .row) (now (s .rows))) (omega (arith, length-drop (a .loop .row) (now (s .rows)))))
+    (take-all (length (now (s .words)) - a .loop .word) (drop (a .loop .word) (now (s .words))) (omega (arith, length-drop (a .loop .word) (now (s .words)))))
+
+-- a question, then the rest
+turn : (c : tie.After-refused-question Inv-loop μ-loop) →
+    let a = c .before .before .before .before .before .before in let s = a .before .before .before .before .args in
+    let m : ℕ = width (getD (now (s .codes)) (a .loop .i) 0) in
+    list-refusal (now (s .codes)) (now (s .numbers)) (now (s .rows)) (now (s .words))
+    ≡ first (c .refused-question .result)
+    (list-refusal (drop (a .loop .i + 1) (now (s .codes))) (drop (a .loop .i + 1) (now (s .numbers)))
+    (drop (row-long m) (drop (a .loop .row) (now (s .rows)))) (drop (long m) (drop (a .loop .word) (now (s .words)))))
+turn c =
+    let a = c .before .before .before .before .before .before in let s = a .before .before .before .before .args in
+    let m : ℕ = width (getD (now (s .codes)) (a .loop .i) 0) in
+    let t = c .before .before .before .before .before .loop-test .taken in
+    a .loop .inv .2
+    ∙ list-step (now (s .codes)) (now (s .numbers)) (a .loop .i) (drop (a .loop .row) (now (s .rows))) (drop (a .loop .word) (now (s .words))) t (omega (arith, t, a .before .before .before .before .pre))
+    ∙ ap (λ (x : ℕ). first x
+    (list-refusal (drop (a .loop .i + 1) (now (s .codes))) (drop (a .loop .i + 1) (now (s .numbers)))
+    (drop (row-long m) (drop (a .loop .row) (now (s .rows)))) (drop (long m) (drop (a .loop .word) (now (s .words)))))) (sym (asked c))
+
+fine : (c : tie.After-width-of Inv-loop μ-loop) → width-good (c .width-of .result) ≡ true
+fine c = ap width-good (c .width-of .ensures) ∙ width-fine _
+
+-- what is left over after the last question
+over : (c : tie.After-loop Inv-loop μ-loop) →
+    let a = c .before in let s = a .before .before .before .before .args in
+    list-refusal (now (s .codes)) (now (s .numbers)) (now (s .rows)) (now (s .words))
+    ≡ cond (not (eqb (length (drop (a .loop .row) (now (s .rows)))) 0)) 2 (cond (eqb (length (drop (a .loop .word) (now (s .words)))) 0) 0 3)
+over c =
+    let a = c .before in let s = a .before .before .before .before .args in
+    a .loop .inv .2 ∙ list-end (now (s .codes)) (now (s .numbers)) (a .loop .i) (drop (a .loop .row) (now (s .rows))) (drop (a .loop .word) (now (s .words))) (c .loop-test .left)
+
+loop-holds : tie.Need-loop-holds Inv-loop μ-loop
+loop-holds c = (search needs, search needs, refl)
+
+mul-code : tie.Need-mul-code Inv-loop μ-loop
+mul-code c = search needs
+
+shared-slice-read-code : tie.Need-shared-slice-read-code Inv-loop μ-loop
+shared-slice-read-code c = search needs
+
+mul-refused-question : tie.Need-mul-refused-question Inv-loop μ-loop
+mul-refused-question c = search needs
+
+shared-slice-read-refused-question : tie.Need-shared-slice-read-refused-question Inv-loop μ-loop
+shared-slice-read-refused-question c = search needs
+
+add-refused-question : tie.Need-add-refused-question Inv-loop μ-loop
+add-refused-question c = search needs
+
+sub-refused-question : tie.Need-sub-refused-question Inv-loop μ-loop
+sub-refused-question c = search needs
+
+mul-refused-question-2 : tie.Need-mul-refused-question-2 Inv-loop μ-loop
+mul-refused-question-2 c = search needs
+
+sub-refused-question-2 : tie.Need-sub-refused-question-2 Inv-loop μ-loop
+sub-refused-question-2 c = search needs
+
+part-refused-question-start : tie.Need-part-refused-question-start Inv-loop μ-loop
+part-refused-question-start c = search needs
+
+part-refused-question-end : tie.Need-part-refused-question-end Inv-loop μ-loop
+part-refused-question-end c = search needs
+
+sub-refused-question-3 : tie.Need-sub-refused-question-3 Inv-loop μ-loop
+sub-refused-question-3 c = search needs
+
+part-refused-question-start-2 : tie.Need-part-refused-question-start-2 Inv-loop μ-loop
+part-refused-question-start-2 c = search needs
+
+part-refused-question-end-2 : tie.Need-part-refused-question-end-2 Inv-loop μ-loop
+part-refused-question-end-2 c = search needs
+
+refused-question-requires : tie.Need-refused-question-requires Inv-loop μ-loop
+refused-question-requires c κs = search needs
+
+returns : tie.Need-returns Inv-loop μ-loop
+returns c = sym (turn (c .before) ∙ first-some (c .before .refused-question .result) _ (c .if1 .taken))
+
+width-of-requires : tie.Need-width-of-requires Inv-loop μ-loop
+width-of-requires c κs = search needs
+
+row-long-of-requires : tie.Need-row-long-of-requires Inv-loop μ-loop
+row-long-of-requires c κs = fine c
+
+add-row : tie.Need-add-row Inv-loop μ-loop
+add-row c = let a = c .before .before .before .before .before .before .before .before .before in
+    omega (arith, a .loop .inv .0, c .row-long-of .ensures, row-long-le (c .before .width-of .result) (fine (c .before)))
+
+long-of-requires : tie.Need-long-of-requires Inv-loop μ-loop
+long-of-requires c κs = fine (c .before)
+
+add-word : tie.Need-add-word Inv-loop μ-loop
+add-word c = let a = c .before .before .before .before .before .before .before .before .before .before in
+    omega (arith, a .loop .inv .1, c .long-of .ensures, long-le (c .before .before .width-of .result) (fine (c .before .before)))
+
+add-i : tie.Need-add-i Inv-loop μ-loop
+add-i c = search needs
+
+loop-less : tie.Need-loop-less Inv-loop μ-loop
+loop-less c = search needs
+
+loop-again : tie.Need-loop-again Inv-loop μ-loop
+loop-again c = let w = c .before .before in let r = w .before .before in let a = r .before .before .before .before .before .before in let s = a .before .before .before .before .args in
+    let k : ℕ = getD (now (s .codes)) (a .loop .i) 0 in
+    let n : c .before .row-long-of .result ≡ row-long (width k) = c .before .row-long-of .ensures ∙ ap row-long (w .width-of .ensures) in
+    let m : c .long-of .result ≡ long (width k) = c .long-of .ensures ∙ ap long (w .width-of .ensures) in
+    let f = room k (getD (now (s .numbers)) (a .loop .i) 0) (length (now (s .codes)) - (a .loop .i + 1)) (drop (a .loop .row) (now (s .rows))) (drop (a .loop .word) (now (s .words)))
+    (sym (asked r) ∙ w .before .if1 .left) in (
+      omega (arith, a .loop .inv .0, n, f .0, length-drop (a .loop .row) (now (s .rows))),
+      omega (arith, a .loop .inv .1, m, f .1, length-drop (a .loop .word) (now (s .words))),
+      turn r ∙ first-next (r .refused-question .result) _ (w .before .if1 .left)
+          ∙ ap₂ (list-refusal (drop (a .loop .i + 1) (now (s .codes))) (drop (a .loop .i + 1) (now (s .numbers))))
+          (drop-drop (row-long (width k)) (a .loop .row) (now (s .rows)) ∙ ap (λ (x : ℕ). drop (a .loop .row + x) (now (s .rows))) (sym n))
+          (drop-drop (long (width k)) (a .loop .word) (now (s .words)) ∙ ap (λ (x : ℕ). drop (a .loop .word + x) (now (s .words))) (sym m)),
+    )
+
+returns-2 : tie.Need-returns-2 Inv-loop μ-loop
+returns-2 c = let e = c .before in let a = e .before in let s = a .before .before .before .before .args in
+    let z : length (drop (a .loop .row) (now (s .rows))) ≡ 0 → ⊥ = λ h. omega (arith, h, length-drop (a .loop .row) (now (s .rows)), c .if2 .taken) in
+    sym (over e ∙ rw (ne-eqb (length (drop (a .loop .row) (now (s .rows)))) 0 z))
+
+returns-3 : tie.Need-returns-3 Inv-loop μ-loop
+returns-3 c = let e = c .before .before in let a = e .before in let s = a .before .before .before .before .args in
+    let y : length (drop (a .loop .row) (now (s .rows))) ≡ 0 = omega (arith, length-drop (a .loop .row) (now (s .rows)), c .before .if2 .left) in
+    let z : length (drop (a .loop .word) (now (s .words))) ≡ 0 → ⊥ = λ h. omega (arith, h, length-drop (a .loop .word) (now (s .words)), c .if3 .taken) in
+    sym (over e ∙ rw (eq-eqb (length (drop (a .loop .row) (now (s .rows)))) 0 y, ne-eqb (length (drop (a .loop .word) (now (s .words)))) 0 z))
+
+returns-4 : tie.Need-returns-4 Inv-loop μ-loop
+returns-4 c = let e = c .before .before in let a = e .before in let s = a .before .before .before .before .args in
+    let y : length (drop (a .loop .row) (now (s .rows))) ≡ 0 = omega (arith, length-drop (a .loop .row) (now (s .rows)), c .before .if2 .left) in
+    let z : length (drop (a .loop .word) (now (s .words))) ≡ 0 = omega (arith, length-drop (a .loop .word) (now (s .words)), c .if3 .left) in
+    sym (over e ∙ rw (eq-eqb (length (drop (a .loop .row) (now (s .rows)))) 0 y, eq-eqb (length (drop (a .loop .word) (now (s .words)))) 0 z))
+
+pub refused-list-spec : {M : Type 1} → statement M
+refused-list-spec =
+    tie.close
+    (tie.spec
+    Inv-loop
+    μ-loop
+    loop-holds
+    mul-code
+    shared-slice-read-code
+    mul-refused-question
+    shared-slice-read-refused-question
+    add-refused-question
+    sub-refused-question
+    mul-refused-question-2
+    sub-refused-question-2
+    part-refused-question-start
+    part-refused-question-end
+    sub-refused-question-3
+    part-refused-question-start-2
+    part-refused-question-end-2
+    refused-question-requires
+    returns
+    width-of-requires
+    row-long-of-requires
+    add-row
+    long-of-requires
+    add-word
+    add-i
+    loop-less
+    loop-again
+    returns-2
+    returns-3
+    returns-4)

@@ -1,0 +1,63 @@
+-- `sheet_writer::symbol_word` meets its contract.
+-- Assumes nothing.
+use mathlib.Core.Path.{_≡_, sym, ap, _∙_, subst}
+use mathlib.Core.List.{List}
+use Prim.Native.Nat.{ℕ, _+_, _*_, _-_, _<_}
+use lib.Dec.{lit<}
+use lib.ListN.{length, take, drop, length-drop}
+use lib.Seq.{take-all}
+use lib.IntN.{ℤ}
+use denote.Ref.{now}
+use Rattle.code.specs.Code.{symbols-good}
+use Rattle.metric.specs.Row.{row-good}
+use Rattle.sheet.specs.Sheet.{packed, row-items}
+use Rattle.sheet_writer.proofs.Packing.{digit-bound, row-below, symbol-below, row-items-drop, row-good-drop, symbols-drop}
+use native.Mathlib.Omega.{arith}
+use borrow.Author.Needs.{needs}
+use Rattle.sheet_writer.proofs.pack.symbol_word.Statement.{statement}
+use Rattle.sheet_writer.proofs.pack.symbol_word.Tie as tie
+
+whole : (l : List ℕ) (n : ℕ) → take (length l - n) (drop n l) ≡ drop n l
+whole l n = take-all (length l - n) (drop n l) (omega (arith, length-drop n l))
+
+is : (c : tie.After-packed-symbols) → let s = c .before .before .before .args in c .packed-symbols .result ≡ packed 16 (take 6 (drop (6 * s .k) (now (s .word))))
+is c = let s = c .before .before .before .args in c .packed-symbols .ensures ∙ ap (λ (l : List ℕ). packed 16 (take 6 l)) (whole (now (s .word)) (6 * s .k))
+
+mul-from : tie.Need-mul-from
+mul-from c = search needs
+
+mul-result : tie.Need-mul-result
+mul-result c = search needs
+
+sub-packed-symbols : tie.Need-sub-packed-symbols
+sub-packed-symbols c = search needs
+
+part-packed-symbols-start : tie.Need-part-packed-symbols-start
+part-packed-symbols-start c = search needs
+
+part-packed-symbols-end : tie.Need-part-packed-symbols-end
+part-packed-symbols-end c = search needs
+
+packed-symbols-requires : tie.Need-packed-symbols-requires
+packed-symbols-requires c κs = let s = c .before .before in let l : List ℕ = drop (6 * s .args .k) (now (s .args .word)) in
+    ap (symbols-good 4) (whole (now (s .args .word)) (6 * s .args .k)) ∙ symbols-drop (6 * s .args .k) (now (s .args .word)) (s .pre .0)
+
+add-result : tie.Need-add-result
+add-result c = let s = c .before .before .before in let l : List ℕ = drop (6 * s .args .k) (now (s .args .word)) in
+    omega (arith, is c, digit-bound 16 6 l 0 (lit< tt) (symbol-below l (symbols-drop (6 * s .args .k) (now (s .args .word)) (s .pre .0))))
+
+returns : tie.Need-returns
+returns c = ap (λ (x : ℕ). 805306368 + x) (is c)
+
+pub symbol-word-spec : {M : Type 1} → statement M
+symbol-word-spec =
+    tie.close
+    (tie.spec
+    mul-from
+    mul-result
+    sub-packed-symbols
+    part-packed-symbols-start
+    part-packed-symbols-end
+    packed-symbols-requires
+    add-result
+    returns)
