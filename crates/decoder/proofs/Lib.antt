@@ -1,3 +1,5 @@
 pub mod Tabling
 pub mod Searching
 pub mod Writing
+pub mod Refusals
+pub mod Decodings

@@ -66,7 +66,7 @@ conf-in c g k lk j = go (decLe (width c) j)
         rw (padded-in (configuration c k) j (omega (arith, v .count)))
         (at-below (cosets (width c) (roots c)) (configuration c k) j (SL.below (cosets (width c) (roots c)) (configuration c k) (to-T (v .syndromes))) (omega (arith, v .count)))
 
-row-le : (c : ℕ) → code-good c ≡ true → row-long (width c) ≤ 60
+pub row-le : (c : ℕ) → code-good c ≡ true → row-long (width c) ≤ 60
 unfolding width long row-long
 row-le = codes (λ c. row-long (width c) ≤ 60) (omega arith) (omega arith) (omega arith)
 

@@ -98,3 +98,18 @@ pub record Written (m at : ℕ) (z o : List ℕ) (before soft : List ℤ) : Type
   pub long : length soft ≡ length before
   pub done : (j : ℕ) → j < m → getD soft (at + j) (pos 0) ≡ pos (2 * lane o j) -ℤ pos (2 * lane z j)
   pub kept : (i : ℕ) → i < at → getD soft i (pos 0) ≡ getD before i (pos 0)
+
+-- buffers for the soft outputs and the word
+pub record Outputs (m n size : ℕ) (g zero one word : List ℕ) (soft : List ℤ) : Type 0 where
+  pub length-g : length g ≡ size * 4
+  pub length-zero : length zero ≡ n * 4
+  pub length-one : length one ≡ n * 4
+  pub length-word : length word ≡ n
+  pub length-soft : length soft ≡ n * m
+
+-- an accepted call
+pub record Accepted (code : ℕ) (row : List ℤ) (word soft : ℕ) : Type 0 where
+  pub long-row : length row ≡ row-long (width code)
+  pub good-row : row-good row ≡ true
+  pub long-word : word ≡ long (width code)
+  pub long-soft : soft ≡ row-long (width code)

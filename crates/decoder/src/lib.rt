@@ -4,8 +4,11 @@ ghost use mathlib.Core.Path.{_≡_};
 ghost use Prim.Native.Nat.{_+_, _*_, _^_, _<_, _≤_};
 ghost use lib.ListN.{length};
 ghost use Rattle.decoder.specs.Calls.{decode-refusal, Decode-says, mark-refusal, Mark-says};
-ghost use Rattle.decoder.specs.Within.{cap, Input, Buffers, Tabled, Best, Softs, All, big, SoftRow, Written, SoftRows, Softened};
+ghost use Rattle.decoder.specs.Within.{cap, Input, Buffers, Tabled, Best, Softs, All, big, SoftRow, Written, SoftRows, Softened, Outputs, Accepted};
 ghost use lib.IntN.{pos, _-ℤ_};
+ghost use Rattle.code.specs.Code.{width, roots};
+ghost use Rattle.metric.specs.Row.{row-good};
+ghost use Rattle.metric.specs.Metric.{Decoded};
 ghost use Rattle.glue.specs.Walk.{Marginals};
 
 // 0 and the best metric, or the number of a refusal and 0.
@@ -165,4 +168,105 @@ fn soft_rows(m: u32, n: usize, zero: &[u32], one: &[u32], soft: &mut [i16])
         at += w;
         i += 1;
     }
+}
+
+// A decoding, with every buffer lent.
+fn decode_with(
+    code: u32,
+    m: u32,
+    r: u32,
+    q: u32,
+    n: usize,
+    size: usize,
+    count: usize,
+    row: &[i16],
+    cs: &[u16],
+    hs: &mut [u16],
+    zs: &mut [u32],
+    os: &mut [u32],
+    t: &mut [u32],
+    g: &mut [u32],
+    zero: &mut [u32],
+    one: &mut [u32],
+    word: &mut [u8],
+    soft: &mut [i16],
+) -> i32
+    requires { ⌜ Input code m r q n size count (now row) (now cs) ⌝ }
+    requires { ⌜ Buffers n size (now hs) (now zs) (now os) (now t) ⌝ }
+    requires { ⌜ Outputs m n size (now g) (now zero) (now one) (now word) (now soft) ⌝ }
+    ensures { λ x. ⌜ Decoded (width code) (roots code) (now (row .entry)) (now (word .exit)) x (now (soft .exit)) ⌝ }
+{
+    tables(code, m, r, q, n, size, count, row, cs, hs, zs, os, t);
+    let least = best_word(
+        code,
+        m,
+        r,
+        q,
+        n,
+        size,
+        count,
+        row,
+        cs,
+        hs,
+        zs,
+        os,
+        t,
+        g,
+        word,
+    );
+    soft_costs(
+        code,
+        m,
+        r,
+        q,
+        n,
+        size,
+        count,
+        row,
+        cs,
+        hs,
+        zs,
+        os,
+        t,
+        g,
+        zero,
+        one,
+    );
+    soft_rows(m, n, zero, one, soft);
+    minus(search::weight(row), 2 * least)
+}
+
+// Whether every entry of a row is a reliability.
+fn is_row(row: &[i16]) -> bool
+    ensures { λ r. ⌜ r ≡ row-good (now (row .entry)) ⌝ }
+{
+    let mut i = 0;
+    while i < row.len() {
+        let r = row[i];
+        if !metric::is_reliability(r) {
+            return false;
+        }
+        i += 1;
+    }
+    true
+}
+
+fn decode_refusal(code: u32, row: &[i16], word: usize, soft: usize) -> u32
+    ensures { λ r. ⌜ r ≡ decode-refusal code (now (row .entry)) word soft ⌝ }
+{
+    if !code::is_code(code) {
+        return 1;
+    }
+    let m = code::width_of(code);
+    let long = code::row_long_of(m);
+    if row.len() != long {
+        return 2;
+    }
+    if word != code::long_of(m) {
+        return 4;
+    }
+    if soft != long {
+        return 4;
+    }
+    if is_row(row) { 0 } else { 5 }
 }

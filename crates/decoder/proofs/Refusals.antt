@@ -1,0 +1,115 @@
+-- The refusals, test by test, and what an accepted call has passed.
+-- Assumes nothing.
+use mathlib.Core.Path.{_≡_, refl, sym, ap, ap₂, _∙_, subst}
+use mathlib.Core.Bool.{Bool, true, false, _&&_, not, cond, false≢true}
+use mathlib.Core.List.{List, [], _∷_}
+use Prim.Native.Nat.{ℕ, zero, suc, _≤_, _<_}
+use native.Mathlib.Omega.{arith}
+use borrow.Author.Tests.{eq-eqb, ne-eqb, eqb-true}
+use lib.Dec.{eqb}
+use lib.ListN.{length, getD, drop}
+use lib.Seq.{drop-cons, drop-length}
+use lib.IntN.{ℤ, pos}
+use Rattle.code.specs.Code.{code-good, width, roots, long, symbols-good}
+use Rattle.code.specs.Bits.{row-long}
+use Rattle.metric.specs.Row.{reliability-good, row-good}
+use Rattle.decoder.specs.Calls.{decode-refusal, mark-refusal}
+use Rattle.decoder.specs.Within.{Accepted}
+
+-- ---- a row, entry by entry
+pub row-bad : (rs : List ℤ) (i : ℕ) → i < length rs → reliability-good (getD rs i (pos 0)) ≡ false → row-good rs ≡ row-good (drop i rs) → false ≡ row-good rs
+unfolding row-good
+row-bad rs i l e f = sym (f ∙ ap row-good (drop-cons rs i (pos 0) l) ∙ ap (λ (b : Bool). b && row-good (drop (suc i) rs)) e)
+
+pub row-next : (rs : List ℤ) (i : ℕ) → i < length rs → reliability-good (getD rs i (pos 0)) ≡ true → row-good rs ≡ row-good (drop i rs) → row-good rs ≡ row-good (drop (suc i) rs)
+unfolding row-good
+row-next rs i l e f = f ∙ ap row-good (drop-cons rs i (pos 0) l) ∙ ap (λ (b : Bool). b && row-good (drop (suc i) rs)) e
+
+pub row-end : (rs : List ℤ) → row-good rs ≡ row-good (drop (length rs) rs) → true ≡ row-good rs
+unfolding row-good
+row-end rs f = sym (f ∙ ap row-good (drop-length rs))
+
+-- ---- the decoder's
+module _ (c : ℕ) (rs : List ℤ) (a b : ℕ) where
+  pub decode-1 : code-good c ≡ false → 1 ≡ decode-refusal c rs a b
+  unfolding decode-refusal
+  decode-1 g = rw g
+
+  module _ (g : code-good c ≡ true) where
+    pub decode-2 : (length rs ≡ row-long (width c) → ⊥) → 2 ≡ decode-refusal c rs a b
+    unfolding decode-refusal
+    decode-2 n = rw (g, ne-eqb (length rs) (row-long (width c)) n)
+
+    module _ (l : length rs ≡ row-long (width c)) where
+      pub decode-4 : (a ≡ long (width c) → ⊥) → 4 ≡ decode-refusal c rs a b
+      unfolding decode-refusal
+      decode-4 n = rw (g, eq-eqb (length rs) (row-long (width c)) l, ne-eqb a (long (width c)) n)
+
+      module _ (e : a ≡ long (width c)) where
+        pub decode-4' : (b ≡ row-long (width c) → ⊥) → 4 ≡ decode-refusal c rs a b
+        unfolding decode-refusal
+        decode-4' n = rw (g, eq-eqb (length rs) (row-long (width c)) l, eq-eqb a (long (width c)) e, ne-eqb b (row-long (width c)) n)
+
+        pub decode-5 : b ≡ row-long (width c) → (x : Bool) → row-good rs ≡ x → cond x 0 5 ≡ decode-refusal c rs a b
+        unfolding decode-refusal
+        decode-5 f x r = rw (g, eq-eqb (length rs) (row-long (width c)) l, eq-eqb a (long (width c)) e, eq-eqb b (row-long (width c)) f, r)
+
+  -- what is accepted
+  pub decode-accepted : decode-refusal c rs a b ≡ 0 → (code-good c ≡ true) × Accepted c rs a b
+  unfolding decode-refusal
+  decode-accepted z = go (code-good c) refl (eqb (length rs) (row-long (width c))) refl (eqb a (long (width c))) refl (eqb b (row-long (width c))) refl (row-good rs) refl z
+    where
+      go : (p : Bool) → code-good c ≡ p → (q : Bool) → eqb (length rs) (row-long (width c)) ≡ q → (s : Bool) → eqb a (long (width c)) ≡ s → (t : Bool) → eqb b (row-long (width c)) ≡ t → (u : Bool) → row-good rs ≡ u →
+          _≡_ {A = ℕ} (cond (not p) 1 (cond (not q) 2 (cond (not (s && t)) 4 (cond u 0 5)))) 0 → (code-good c ≡ true) × Accepted c rs a b
+      go false gp q eq s es t et u eu z = absurd (omega arith)
+      go true gp false eq s es t et u eu z = absurd (omega arith)
+      go true gp true eq false es t et u eu z = absurd (omega arith)
+      go true gp true eq true es false et u eu z = absurd (omega arith)
+      go true gp true eq true es true et false eu z = absurd (omega arith)
+      go true gp true eq true es true et true eu z =
+          (gp, record { long-row = eqb-true _ _ eq; good-row = eu; long-word = eqb-true _ _ es; long-soft = eqb-true _ _ et })
+
+-- ---- the marker's
+module _ (c : ℕ) (rs : List ℤ) (ws : List ℕ) where
+  pub mark-1 : code-good c ≡ false → 1 ≡ mark-refusal c rs ws
+  unfolding mark-refusal
+  mark-1 g = rw g
+
+  module _ (g : code-good c ≡ true) where
+    pub mark-2 : (length rs ≡ row-long (width c) → ⊥) → 2 ≡ mark-refusal c rs ws
+    unfolding mark-refusal
+    mark-2 n = rw (g, ne-eqb (length rs) (row-long (width c)) n)
+
+    module _ (l : length rs ≡ row-long (width c)) where
+      pub mark-3 : (length ws ≡ long (width c) → ⊥) → 3 ≡ mark-refusal c rs ws
+      unfolding mark-refusal
+      mark-3 n = rw (g, eq-eqb (length rs) (row-long (width c)) l, ne-eqb (length ws) (long (width c)) n)
+
+      module _ (e : length ws ≡ long (width c)) where
+        pub mark-5 : row-good rs ≡ false → 5 ≡ mark-refusal c rs ws
+        unfolding mark-refusal
+        mark-5 r = rw (g, eq-eqb (length rs) (row-long (width c)) l, eq-eqb (length ws) (long (width c)) e, r)
+
+        pub mark-6 : row-good rs ≡ true → (x : Bool) → symbols-good (width c) ws ≡ x → cond x 0 6 ≡ mark-refusal c rs ws
+        unfolding mark-refusal
+        mark-6 r x s = rw (g, eq-eqb (length rs) (row-long (width c)) l, eq-eqb (length ws) (long (width c)) e, r, s)
+
+  pub record Mark-taken : Type 0 where
+    pub code-is : code-good c ≡ true
+    pub long-row : length rs ≡ row-long (width c)
+    pub long-word : length ws ≡ long (width c)
+    pub good-row : row-good rs ≡ true
+    pub symbols : symbols-good (width c) ws ≡ true
+
+  pub mark-accepted : mark-refusal c rs ws ≡ 0 → Mark-taken
+  unfolding mark-refusal
+  mark-accepted z = go (code-good c) refl (eqb (length rs) (row-long (width c))) refl (eqb (length ws) (long (width c))) refl (row-good rs) refl (symbols-good (width c) ws) refl z
+    where
+      go : (p : Bool) → code-good c ≡ p → (q : Bool) → eqb (length rs) (row-long (width c)) ≡ q → (s : Bool) → eqb (length ws) (long (width c)) ≡ s → (t : Bool) → row-good rs ≡ t → (u : Bool) → symbols-good (width c) ws ≡ u →
+          _≡_ {A = ℕ} (cond (not p) 1 (cond (not q) 2 (cond (not s) 3 (cond (not t) 5 (cond u 0 6))))) 0 → Mark-taken
+      go false gp q eq s es t et u eu z = absurd (omega arith)
+      go true gp false eq s es t et u eu z = absurd (omega arith)
+      go true gp true eq false es t et u eu z = absurd (omega arith)
+      go true gp true eq true es false et u eu z = absurd (omega arith)
+      go true gp true eq true es true et false eu z = absurd (omega arith)
+      go true gp true eq true es true et true eu z = record { code-is = gp; long-row = eqb-true _ _ eq; long-word = eqb-true _ _ es; good-row = et; symbols = eu }
