@@ -4,7 +4,7 @@ use mathlib.Core.Path.{_≡_, refl, sym, ap, _∙_}
 use mathlib.Core.Bool.{Bool, true, false, cond}
 use mathlib.Core.List.{List, [], _∷_, _++_}
 use Prim.Native.Nat.{ℕ, zero, suc, _+_, _*_, _-_, _≤_, _<_}
-use native.Mathlib.Nat.{zero-add, add-zero, add-suc, suc-add, not-suc-le-zero, le-of-suc-le-suc, mul-zero, mul-suc}
+use native.Mathlib.Nat.{zero-add, add-zero, add-suc, suc-add, not-suc-le-zero, le-of-suc-le-suc, mul-zero}
 use native.Mathlib.Omega.{arith}
 use lib.Dec.{eqb, lit<, lit≤}
 use lib.ListN.{length, getD, take, drop, set, replicate, length-append, length-replicate, List·getD-append}
@@ -12,6 +12,7 @@ use lib.Seq.{getD-append-add, take-all}
 use Rattle.code.specs.Code.{code-good}
 use Rattle.code.proofs.Promise.{codes}
 use Rattle.split.proofs.Steps.{copy-more}
+use Rattle.configurations.specs.Promise.{Listed-right}
 use Rattle.configurations.specs.Configurations.{configuration, configurations, of-code-1, of-code-2, of-code-3, listed-from, listed, filled}
 use Rattle.split.specs.Split.{padded}
 
@@ -48,6 +49,10 @@ from-length (suc n) k c = rw (length-append) (omega (arith, four-places c k, fro
 pub listed-length : (c : ℕ) → length (listed c) ≡ 4 * configurations c
 unfolding listed
 listed-length c = from-length (configurations c) 0 c
+
+pub listed-right : Listed-right
+unfolding Listed-right
+listed-right c = (listed-length c, listed-at c)
 
 -- the four places of code 3 as the table has them
 pub row-3 : (k : ℕ) → k < 256 →

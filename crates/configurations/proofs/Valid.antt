@@ -2,19 +2,20 @@
 -- free come first.
 -- Assumes nothing.
 use mathlib.Core.Path.{_≡_, refl, sym, ap, ap₂, _∙_, subst}
-use mathlib.Core.Bool.{Bool, true, false, _&&_, _||_, not, cond}
+use mathlib.Core.Bool.{Bool, true, false, _&&_, _||_, not}
 use mathlib.Core.List.{List, [], _∷_}
-use Prim.Native.Nat.{ℕ, zero, suc, _+_, _*_, _/_, _%_, _^_, _<_, _≤_}
+use Prim.Native.Nat.{ℕ, zero, suc, _+_, _*_, _/_, _%_, _<_, _≤_}
 use mathlib.Core.Logic.{_⊎_, inl, inr}
 use native.Mathlib.Nat.{eq-or-lt-of-le}
 use native.Mathlib.Omega.{arith}
-use lib.Dec.{T, eqb, leb, ltb, eqb→eq, ltb→lt, lit≤}
+use lib.Dec.{T, eqb, eqb→eq, lit≤}
 use lib.ListN.{length}
+use borrow.Author.Tests.{eq-eqb}
 use Rattle.field.specs.Field.{width-good, xor, times, times-from, doubled, alpha, square}
-use Rattle.code.specs.Code.{code-good, width, roots, long, symbols-good, is-codeword}
+use Rattle.code.specs.Code.{code-good, width, roots, long, is-codeword}
 use Rattle.code.specs.Promise.{Codes-inside}
 use Rattle.split.specs.Split.{layer, number, numbered, cosets, syndromes, syndromes-from, layer-value, glued, valid, valid-at, all-below}
-use Rattle.configurations.specs.Configurations.{Configuration, configurations, configuration, of-code-1, of-code-2, of-code-3, leading, Configurations-right}
+use Rattle.configurations.specs.Configurations.{Configuration, configurations, configuration, of-code-1, of-code-2, of-code-3, leading}
 use Rattle.split.specs.Promise.{Glued-right, Syndrome-inside}
 use Rattle.configurations.specs.Promise.{Configurations, Codewords-configured}
 use Rattle.field.proofs.Tests.{all, at, eq-below, and-l, and-r, to-T, from-T}
@@ -81,12 +82,16 @@ rest-1 a b d ha hb hd v =
     (rule3 (λ a b d. not (valid 3 2 (a ∷ b ∷ d ∷ [])) || (eqb (times 3 (alpha 3 4) a) b && eqb (times 3 (alpha 3 2) a) d)) tt a b d ha hb hd) v)
 
 -- CODE 2: at α^3 the first two places decide the third; at α all are 0
-rest-2 : (a b d : ℕ) → a < 8 → b < 8 → d < 8 → valid 3 4 (8 * a ∷ 8 * b ∷ 8 * d ∷ []) ≡ true → xor (times 3 (alpha 3 5) a) (times 3 (alpha 3 6) b) ≡ d
-unfolding layer-value glued valid valid-at xor times times-from doubled alpha square numbered
+abbrev cubes : (a b d : ℕ) → ℕ
+cubes a b d = glued 0 3 3 (8 * a ∷ 8 * b ∷ 8 * d ∷ [])
+
+rest-2 : (a b d : ℕ) → a < 8 → b < 8 → d < 8 → cubes a b d ≡ 0 → xor (times 3 (alpha 3 5) a) (times 3 (alpha 3 6) b) ≡ d
+unfolding layer-value glued xor times times-from doubled alpha square numbered
 rest-2 a b d ha hb hd v =
     eqb→eq (xor (times 3 (alpha 3 5) a) (times 3 (alpha 3 6) b)) d
-    (so (valid 3 4 (8 * a ∷ 8 * b ∷ 8 * d ∷ [])) _
-    (rule3 (λ a b d. not (valid 3 4 (8 * a ∷ 8 * b ∷ 8 * d ∷ [])) || eqb (xor (times 3 (alpha 3 5) a) (times 3 (alpha 3 6) b)) d) tt a b d ha hb hd) v)
+    (so (eqb (cubes a b d) 0) _
+    (rule3 (λ a b d. not (eqb (cubes a b d) 0) || eqb (xor (times 3 (alpha 3 5) a) (times 3 (alpha 3 6) b)) d) tt a b d ha hb hd)
+    (eq-eqb (cubes a b d) 0 v))
 
 -- the sums at α, α^2 and α^4 are zero
 abbrev zero-sums : (x y z : ℕ) → Bool
@@ -187,7 +192,7 @@ missing-2 (x ∷ y ∷ z ∷ []) n l v =
     let ez : z ≡ 8 * (z / 8) = omega arith in
     let w : valid 3 4 (8 * (x / 8) ∷ 8 * (y / 8) ∷ 8 * (z / 8) ∷ []) ≡ true = rw (← ex, ← ey, ← ez) v in
     let e : xor (times 3 (alpha 3 5) (x / 8)) (times 3 (alpha 3 6) (y / 8)) ≡ z / 8 =
-    rest-2 (x / 8) (y / 8) (z / 8) (omega arith) (omega arith) (omega arith) w in
+    rest-2 (x / 8) (y / 8) (z / 8) (omega arith) (omega arith) (omega arith) (root-at 3 4 3 (8 * (x / 8) ∷ 8 * (y / 8) ∷ 8 * (z / 8) ∷ []) w (lit≤ tt) (lit≤ tt)) in
     let h : (8 * (x / 8) + y / 8) / 8 ≡ x / 8 = omega arith in
     let g : (8 * (x / 8) + y / 8) % 8 ≡ y / 8 = omega arith in
     (8 * (x / 8) + y / 8, omega arith, rw (h, g, e, ← ex, ← ey, ← ez) refl)

@@ -1,4 +1,7 @@
-// The valid configurations of the three codes, by number, ascending with the first place as the leading digit.
+// The valid configurations of the three codes: how many, one by its number, and all of a code in order. A configuration is an
+// array of four syndromes by value; with m = 3 the fourth is 0. The promises cite specs/Configurations.antt, whose
+// `Configurations-right` says that each is valid, none is missing, and that they ascend with the first place as the leading
+// digit. All functions are for the crates above; a walk over all takes `all_of`.
 mod table;
 
 use table::CONFIGURATIONS_3;
@@ -55,7 +58,7 @@ fn of_code_2(k: u8) -> [u16; 4]
 }
 
 // Code 3: the whole table.
-pub fn table_3() -> [u16; 1024]
+fn table_3() -> [u16; 1024]
     ensures { λ r. ⌜ r ≡ listed 3 ⌝ }
 {
     CONFIGURATIONS_3

@@ -136,6 +136,16 @@ module _ (c m r q n size count : ℕ) (row : List ℤ) (cs hs zs os t : List ℕ
     cap-small = omega arith;
   }
 
+  pub hs-is : length hs ≤ 15
+  hs-is = few
+
+  -- the least total is the least cost
+  pub least-is : Least (width c) (roots c) row (least-total cap t cs count)
+  least-is =
+      rw (ap (least-total cap t cs) (z .count-is)
+      ∙ least-same (λ k. total t (tuple cs k)) (λ k. over F (conf c k)) cap (configurations c) (λ k h. total-is k (omega (arith, z .count-is))))
+      (S.least c g row l hs zs os y big cap light (omega arith))
+
   -- after the walk
   module _ (x : ℕ) (at : List ℕ) (w : Walked count cap t cs x at) where
     best-is : x ≡ S.best c g row l hs zs os y big cap light
@@ -166,7 +176,7 @@ module _ (c m r q n size count : ℕ) (row : List ℤ) (cs hs zs os t : List ℕ
         record {
           codeword = ap (is-codeword (width c) (roots c)) e ∙ p .0;
           costs = ap (cost (width c) row) e ∙ p .1 ∙ o;
-          is-least = rw best-is (S.least c g row l hs zs os y big cap light (omega arith));
+          is-least = rw (w .least) least-is;
           marginals = mg;
         }
 

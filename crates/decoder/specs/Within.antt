@@ -113,3 +113,15 @@ pub record Accepted (code : ℕ) (row : List ℤ) (word soft : ℕ) : Type 0 whe
   pub good-row : row-good row ≡ true
   pub long-word : word ≡ long (width code)
   pub long-soft : soft ≡ row-long (width code)
+
+-- a word's cost is the least cost of a codeword and x
+pub record Short (code : ℕ) (row : List ℤ) (word : List ℕ) (x : ℕ) : Type 0 where
+  pub least : ℕ
+  pub is-least : Least (width code) (roots code) row least
+  pub own : cost (width code) row word ≡ least + x
+
+-- an accepted row and a codeword
+pub record Judged (code : ℕ) (row : List ℤ) (word : List ℕ) : Type 0 where
+  pub long-row : length row ≡ row-long (width code)
+  pub good-row : row-good row ≡ true
+  pub codeword : is-codeword (width code) (roots code) word ≡ true

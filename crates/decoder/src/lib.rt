@@ -4,9 +4,11 @@ ghost use mathlib.Core.Path.{_≡_};
 ghost use Prim.Native.Nat.{_+_, _*_, _^_, _<_, _≤_};
 ghost use lib.ListN.{length};
 ghost use Rattle.decoder.specs.Calls.{decode-refusal, Decode-says, mark-refusal, Mark-says};
-ghost use Rattle.decoder.specs.Within.{cap, Input, Buffers, Tabled, Best, Softs, All, big, SoftRow, Written, SoftRows, Softened, Outputs, Accepted};
+ghost use Rattle.decoder.specs.Verdict.{Verdict};
+ghost use Rattle.decoder.specs.Within.{cap, Input, Buffers, Tabled, Best, Softs, All, big, SoftRow, Written, SoftRows, Softened, Outputs, Accepted, Short, Judged};
 ghost use lib.IntN.{pos, _-ℤ_};
-ghost use Rattle.code.specs.Code.{width, roots};
+ghost use mathlib.Core.Bool.{true};
+ghost use Rattle.code.specs.Code.{code-good, width, roots, is-codeword};
 ghost use Rattle.metric.specs.Row.{row-good};
 ghost use Rattle.metric.specs.Metric.{Decoded};
 ghost use Rattle.glue.specs.Walk.{Marginals};
@@ -269,4 +271,338 @@ fn decode_refusal(code: u32, row: &[i16], word: usize, soft: usize) -> u32
         return 4;
     }
     if is_row(row) { 0 } else { 5 }
+}
+
+// Buffers.
+fn zeros_256() -> [u32; 256]
+    ensures { λ r. ⌜ length r ≡ 256 ⌝ }
+{
+    [0u32; 256]
+}
+
+fn zeros_1024() -> [u32; 1024]
+    ensures { λ r. ⌜ length r ≡ 1024 ⌝ }
+{
+    [0u32; 1024]
+}
+
+fn zeros_2048() -> [u32; 2048]
+    ensures { λ r. ⌜ length r ≡ 2048 ⌝ }
+{
+    [0u32; 2048]
+}
+
+// Each code with buffers of its own sizes: n + 1 tables of four layers, 2^q rows each.
+fn decode_1(row: &[i16], word: &mut [u8], soft: &mut [i16]) -> i32
+    requires { ⌜ Accepted 1 (now row) (length (now word)) (length (now soft)) ⌝ }
+    ensures { λ x. ⌜ Decoded (width 1) (roots 1) (now (row .entry)) (now (word .exit)) x (now (soft .exit)) ⌝ }
+{
+    let all = configurations::all_of(1);
+    let mut hs = [0u16; 7];
+    let mut zs = [0u32; 28];
+    let mut os = [0u32; 28];
+    let mut zero = [0u32; 28];
+    let mut one = [0u32; 28];
+    let mut t = zeros_256();
+    let mut g = [0u32; 32];
+    decode_with(
+        1,
+        3,
+        2,
+        3,
+        7,
+        8,
+        8,
+        row,
+        &all[..32],
+        &mut hs,
+        &mut zs,
+        &mut os,
+        &mut t,
+        &mut g,
+        &mut zero,
+        &mut one,
+        word,
+        soft,
+    )
+}
+
+fn decode_2(row: &[i16], word: &mut [u8], soft: &mut [i16]) -> i32
+    requires { ⌜ Accepted 2 (now row) (length (now word)) (length (now soft)) ⌝ }
+    ensures { λ x. ⌜ Decoded (width 2) (roots 2) (now (row .entry)) (now (word .exit)) x (now (soft .exit)) ⌝ }
+{
+    let all = configurations::all_of(2);
+    let mut hs = [0u16; 7];
+    let mut zs = [0u32; 28];
+    let mut os = [0u32; 28];
+    let mut zero = [0u32; 28];
+    let mut one = [0u32; 28];
+    let mut t = zeros_2048();
+    let mut g = zeros_256();
+    decode_with(
+        2,
+        3,
+        4,
+        6,
+        7,
+        64,
+        64,
+        row,
+        &all[..256],
+        &mut hs,
+        &mut zs,
+        &mut os,
+        &mut t,
+        &mut g,
+        &mut zero,
+        &mut one,
+        word,
+        soft,
+    )
+}
+
+fn decode_3(row: &[i16], word: &mut [u8], soft: &mut [i16]) -> i32
+    requires { ⌜ Accepted 3 (now row) (length (now word)) (length (now soft)) ⌝ }
+    ensures { λ x. ⌜ Decoded (width 3) (roots 3) (now (row .entry)) (now (word .exit)) x (now (soft .exit)) ⌝ }
+{
+    let all = configurations::all_of(3);
+    let mut hs = [0u16; 15];
+    let mut zs = [0u32; 60];
+    let mut os = [0u32; 60];
+    let mut zero = [0u32; 60];
+    let mut one = [0u32; 60];
+    let mut t = zeros_1024();
+    let mut g = [0u32; 64];
+    decode_with(
+        3,
+        4,
+        2,
+        4,
+        15,
+        16,
+        256,
+        row,
+        &all[..1024],
+        &mut hs,
+        &mut zs,
+        &mut os,
+        &mut t,
+        &mut g,
+        &mut zero,
+        &mut one,
+        word,
+        soft,
+    )
+}
+
+// The decoder: a best word, its metric and the soft outputs of a row.
+pub fn decode(code: u32, row: &[i16], word: &mut [u8], soft: &mut [i16]) -> Decoding
+    ensures { λ r. ⌜ Decode-says code (now (row .entry)) r (now (word .entry)) (now (word .exit)) (now (soft .entry)) (now (soft .exit)) ⌝ }
+{
+    let number = decode_refusal(code, row, word.len(), soft.len());
+    if number != 0 {
+        return Decoding { number, metric: 0 };
+    }
+    if code == 1 {
+        let x = decode_1(row, word, soft);
+        return Decoding {
+            number: 0,
+            metric: x,
+        };
+    }
+    if code == 2 {
+        let x = decode_2(row, word, soft);
+        return Decoding {
+            number: 0,
+            metric: x,
+        };
+    }
+    let x = decode_3(row, word, soft);
+    Decoding {
+        number: 0,
+        metric: x,
+    }
+}
+
+fn mark_refusal(code: u32, row: &[i16], word: &[u8]) -> u32
+    ensures { λ r. ⌜ r ≡ mark-refusal code (now (row .entry)) (now (word .entry)) ⌝ }
+{
+    if !code::is_code(code) {
+        return 1;
+    }
+    let m = code::width_of(code);
+    if row.len() != code::row_long_of(m) {
+        return 2;
+    }
+    if word.len() != code::long_of(m) {
+        return 3;
+    }
+    if !is_row(row) {
+        return 5;
+    }
+    if code::symbols_good(m, word) { 0 } else { 6 }
+}
+
+// What a codeword costs more than the least, with every buffer lent. It needs no marginals.
+fn excess_with(
+    code: u32,
+    m: u32,
+    r: u32,
+    q: u32,
+    n: usize,
+    size: usize,
+    count: usize,
+    row: &[i16],
+    cs: &[u16],
+    hs: &mut [u16],
+    zs: &mut [u32],
+    os: &mut [u32],
+    t: &mut [u32],
+    word: &[u8],
+) -> u32
+    requires { ⌜ Input code m r q n size count (now row) (now cs) ⌝ }
+    requires { ⌜ Buffers n size (now hs) (now zs) (now os) (now t) ⌝ }
+    requires { ⌜ is-codeword (width code) (roots code) (now word) ≡ true ⌝ }
+    ensures { λ x. ⌜ Short code (now (row .entry)) (now (word .entry)) x ⌝ }
+{
+    tables(code, m, r, q, n, size, count, row, cs, hs, zs, os, t);
+    let least = glue::least_of(t, size, cs, count, CAP);
+    let own = search::word_cost(TOP, zs, os, word);
+    own - least
+}
+
+fn excess_1(row: &[i16], word: &[u8]) -> u32
+    requires { ⌜ Judged 1 (now row) (now word) ⌝ }
+    ensures { λ x. ⌜ Short 1 (now (row .entry)) (now (word .entry)) x ⌝ }
+{
+    let all = configurations::all_of(1);
+    let mut hs = [0u16; 7];
+    let mut zs = [0u32; 28];
+    let mut os = [0u32; 28];
+    let mut t = zeros_256();
+    excess_with(
+        1,
+        3,
+        2,
+        3,
+        7,
+        8,
+        8,
+        row,
+        &all[..32],
+        &mut hs,
+        &mut zs,
+        &mut os,
+        &mut t,
+        word,
+    )
+}
+
+fn excess_2(row: &[i16], word: &[u8]) -> u32
+    requires { ⌜ Judged 2 (now row) (now word) ⌝ }
+    ensures { λ x. ⌜ Short 2 (now (row .entry)) (now (word .entry)) x ⌝ }
+{
+    let all = configurations::all_of(2);
+    let mut hs = [0u16; 7];
+    let mut zs = [0u32; 28];
+    let mut os = [0u32; 28];
+    let mut t = zeros_2048();
+    excess_with(
+        2,
+        3,
+        4,
+        6,
+        7,
+        64,
+        64,
+        row,
+        &all[..256],
+        &mut hs,
+        &mut zs,
+        &mut os,
+        &mut t,
+        word,
+    )
+}
+
+fn excess_3(row: &[i16], word: &[u8]) -> u32
+    requires { ⌜ Judged 3 (now row) (now word) ⌝ }
+    ensures { λ x. ⌜ Short 3 (now (row .entry)) (now (word .entry)) x ⌝ }
+{
+    let all = configurations::all_of(3);
+    let mut hs = [0u16; 15];
+    let mut zs = [0u32; 60];
+    let mut os = [0u32; 60];
+    let mut t = zeros_1024();
+    excess_with(
+        3,
+        4,
+        2,
+        4,
+        15,
+        16,
+        256,
+        row,
+        &all[..1024],
+        &mut hs,
+        &mut zs,
+        &mut os,
+        &mut t,
+        word,
+    )
+}
+
+fn excess(code: u32, row: &[i16], word: &[u8]) -> u32
+    requires { ⌜ code-good code ≡ true ⌝ }
+    requires { ⌜ Judged code (now row) (now word) ⌝ }
+    ensures { λ x. ⌜ Short code (now (row .entry)) (now (word .entry)) x ⌝ }
+{
+    if code == 1 {
+        return excess_1(row, word);
+    }
+    if code == 2 {
+        return excess_2(row, word);
+    }
+    excess_3(row, word)
+}
+
+// The verdict on a codeword, from what it costs more than the least.
+fn verdict_on(x: u32) -> Mark
+    requires { ⌜ x < 2 ^ 30 ⌝ }
+    ensures { λ r. ⌜ Verdict x r ⌝ }
+{
+    if x == 0 {
+        return Mark {
+            number: 0,
+            verdict: 2,
+            shortfall: 0,
+        };
+    }
+    Mark {
+        number: 0,
+        verdict: 1,
+        shortfall: minus(2 * x, 0),
+    }
+}
+
+// The marker: none, short by exactly what is lacking, or best.
+pub fn judge_word(code: u32, row: &[i16], word: &[u8]) -> Mark
+    ensures { λ r. ⌜ Mark-says code (now (row .entry)) (now (word .entry)) r ⌝ }
+{
+    let number = mark_refusal(code, row, word);
+    if number != 0 {
+        return Mark {
+            number,
+            verdict: 0,
+            shortfall: 0,
+        };
+    }
+    if !code::is_codeword(code::width_of(code), code::roots_of(code), word) {
+        return Mark {
+            number: 0,
+            verdict: 0,
+            shortfall: 0,
+        };
+    }
+    verdict_on(excess(code, row, word))
 }

@@ -58,7 +58,7 @@ line-short q t h l =
     let g = good-parts q h in
     rw (l .text-is) (line-fits (q .number) (q .code) (q .row) (l .word) (q .word) (l .best) (l .soft) (l .verdict) (l .shortfall) (g .small) (fine q g) (l .decoded) (l .marked))
 
-lines-short : (qs : List Question) (t : List ℕ) → all-good qs ≡ true → Lines qs t → length t ≤ length qs * line-most
+pub lines-short : (qs : List Question) (t : List ℕ) → all-good qs ≡ true → Lines qs t → length t ≤ length qs * line-most
 unfolding Lines all-good
 lines-short [] t h l = rw l (omega arith)
 lines-short (q ∷ qs) t h l =
@@ -67,7 +67,7 @@ lines-short (q ∷ qs) t h l =
     let b = lines-short qs (l .1) (p .1) (l .3) in
     rw (l .4, length-append, suc-mul) (omega arith)
 
-count-short : (n : ℕ) → n ≤ 200 → length (count-line n) ≤ length (count-line most)
+pub count-short : (n : ℕ) → n ≤ 200 → length (count-line n) ≤ length (count-line most)
 unfolding most decimal decimal-from
 count-short n h =
     let e : length (decimal 200) ≡ 3 = refl in
@@ -86,11 +86,11 @@ small-refusal : (bs : List ℕ) → sheet-refusal bs < 100
 unfolding judged
 small-refusal bs = small (sheet-refusal bs) (length (questions bs)) (judged-large bs)
 
-header-length : length header ≡ 44
+pub header-length : length header ≡ 44
 unfolding header line question-word code-word best-word verdict-word short-word bits-word least-word
 header-length = refl
 
-few-is : most ≡ 200
+pub few-is : most ≡ 200
 unfolding most
 few-is = refl
 

@@ -1,13 +1,12 @@
 -- Cosets: a syndrome is below their number, and two words with the same syndrome have a sum with syndrome 0.
 -- Assumes nothing.
-use mathlib.Core.Path.{_≡_, refl, sym, ap, ap₂, _∙_, subst}
+use mathlib.Core.Path.{_≡_, refl, sym, ap, _∙_, subst}
 use mathlib.Core.Bool.{Bool, true, false, _&&_, cond}
 use mathlib.Core.List.{List}
 use Prim.Native.Nat.{ℕ, _+_, _*_, _/_, _%_, _^_, _<_, _≤_}
 use native.Mathlib.Nat.{mul-le-mul-left, mul-suc}
 use native.Mathlib.Omega.{arith}
 use lib.Dec.{T, eqb, leb, leb→le, le→leb, eqb→eq, lit<}
-use lib.Pow.{pow-pos}
 use Rattle.field.specs.Field.{xor, width-good}
 use Rattle.code.specs.Code.{value-at}
 use Rattle.split.specs.Split.{number, numbered, syndrome, cosets, Binary, sum}

@@ -1,20 +1,19 @@
 -- A word is a codeword exactly when its layers' syndromes are a valid configuration: a syndrome holds a layer's value at every root.
 -- Assumes nothing.
 use mathlib.Core.Path.{_≡_, refl, sym, ap, ap₂, _∙_, subst}
-use mathlib.Core.Bool.{Bool, true, false, _&&_, cond}
+use mathlib.Core.Bool.{Bool, true, _&&_, cond}
 use mathlib.Core.List.{List, [], _∷_}
 use Prim.Native.Nat.{ℕ, zero, suc, _+_, _*_, _/_, _%_, _^_, _<_, _≤_}
 use native.Mathlib.Nat.{mul-comm, add-comm, not-suc-le-zero}
 use native.Mathlib.Omega.{arith}
 use lib.Arith.{digits-div, digits-mod}
-use lib.Dec.{T, eqb, leb, le→leb}
+use lib.Dec.{eqb, leb, le→leb}
 use lib.ListN.{length}
 use Rattle.field.specs.Field.{xor, times, times-from, doubled, alpha, width-good, square}
 use Rattle.code.specs.Code.{long, value-at, vanishes, is-codeword}
 use Rattle.split.specs.Split.{layer, number, numbered, syndrome, syndromes, syndromes-from, layer-value, glued, valid, valid-at}
 use Rattle.split.specs.Promise.{Glued-right}
 use Rattle.field.proofs.Tests.{widths, eq-below, to-T, from-T}
-use Rattle.field.proofs.Field as F
 use Rattle.field.proofs.Field.{sum}
 use Rattle.code.proofs.Words as W
 use Rattle.code.proofs.Words.{Below, horner, eqb-true}

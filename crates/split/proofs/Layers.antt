@@ -4,15 +4,18 @@ use mathlib.Core.Path.{_≡_, refl, sym, ap, ap₂, _∙_, fun-ext}
 use mathlib.Core.Bool.{Bool, true, _&&_}
 use mathlib.Core.List.{List, [], _∷_}
 use Prim.Native.Nat.{ℕ, zero, suc, _+_, _*_, _/_, _%_, _^_, _<_, _≤_}
-use native.Mathlib.Nat.{mod-lt, zero-lt-suc, not-suc-le-zero, le-of-suc-le-suc}
+use native.Mathlib.Nat.{mod-lt, zero-lt-suc, not-suc-le-zero, le-of-suc-le-suc, zero-mul, suc-mul, div-one, pow-succ', div-div-eq-div-mul}
 use native.Mathlib.Omega.{arith}
 use lib.Dec.{T, lit≤, ltb, ltb→lt, lt→ltb}
 use lib.Pow.{pow-pos}
-use lib.ListN.{length, getD}
+use lib.ListN.{length, getD, List·getD-append}
+use lib.Seq.{getD-append-add}
 use Rattle.field.specs.Field.{xor, times, alpha, width-good, square}
 use Rattle.code.specs.Code.{long, value-at}
+use Rattle.code.specs.Bits.{bits-of, all-bits, bit-at}
 use Rattle.split.specs.Split.{layer, all-below, Binary}
 use Rattle.split.specs.Split as S
+use Rattle.split.specs.Promise.{Layer-bits}
 use Rattle.field.proofs.Tests.{widths, and-l, and-r, to-T, from-T}
 use Rattle.field.proofs.Xor as X
 use Rattle.field.proofs.Field as F
@@ -66,6 +69,30 @@ sum-below (b ∷ bs) (d ∷ ds) p q = (X.below 1 b d (p .0) (q .0), sum-below bs
 
 pub width-small : (m : ℕ) → width-good m ≡ true → m ≤ 4
 width-small = widths (λ (m : ℕ). m ≤ 4) (lit≤ tt) (lit≤ tt)
+
+-- BITS: those of a symbol are the layers' at its position
+at-bits : (k j x : ℕ) → j < k → getD (bits-of k x) j 0 ≡ x / 2 ^ j % 2
+unfolding bits-of
+at-bits zero j x h = absurd (not-suc-le-zero h)
+at-bits (suc k) zero x h = sym (ap (λ (y : ℕ). y % 2) (div-one x))
+at-bits (suc k) (suc j) x h =
+    at-bits k j (x / 2) (le-of-suc-le-suc h) ∙ sym (ap (λ (y : ℕ). y % 2) (ap (λ (y : ℕ). x / y) (pow-succ' 2 j) ∙ sym (div-div-eq-div-mul x 2 (2 ^ j))))
+
+pub bits-length : (n k : ℕ) → length (bits-of n k) ≡ n
+unfolding bits-of
+bits-length zero k = refl
+bits-length (suc n) k = ap suc (bits-length n (k / 2))
+
+pub layer-bits : Layer-bits
+unfolding Layer-bits bit-at all-bits layer
+layer-bits m j i [] h = refl
+layer-bits m j zero (c ∷ cs) h =
+    let e : 0 * m + j ≡ j = omega (arith, zero-mul m) in
+    let l : j < length (bits-of m c) = rw (bits-length m c) h in
+    rw (e, List·getD-append (bits-of m c) (all-bits m cs) 0 j l) (at-bits m j c h)
+layer-bits m j (suc i) (c ∷ cs) h =
+    let e : suc i * m + j ≡ length (bits-of m c) + (i * m + j) = omega (arith, suc-mul i m, bits-length m c) in
+    rw (e, getD-append-add (bits-of m c) (all-bits m cs) (i * m + j) 0) (layer-bits m j i cs h)
 
 -- sums over layers
 sum-add : (k j : ℕ) (f g : ℕ → ℕ) → xor (sum k j f) (sum k j g) ≡ sum k j (λ i. xor (f i) (g i))

@@ -5,10 +5,10 @@ use mathlib.Core.Path.{_≡_, refl, sym, ap, ap₂, _∙_, subst}
 use mathlib.Core.Bool.{Bool, true, false, _&&_, not, cond}
 use mathlib.Core.List.{List, [], _∷_}
 use mathlib.Core.Logic.{_⊎_, inl, inr}
-use Prim.Native.Nat.{ℕ, zero, suc, _+_, _*_, _/_, _%_, _^_, _<_, _≤_}
+use Prim.Native.Nat.{ℕ, zero, suc, _+_, _*_, _/_, _%_, _<_, _≤_}
 use native.Mathlib.Omega.{arith}
 use lib.Dec.{T, eqb, leb, eqb→eq, leb→le, nleb→lt}
-use lib.ListN.{length, getD}
+use lib.ListN.{length, getD, set, replicate}
 use Rattle.field.specs.Field.{width-good, xor, times, times-from, doubled, alpha}
 use Rattle.code.specs.Code.{code-good, width, roots, long, value-from, value-at}
 use Rattle.code.specs.Promise.{Codes-inside}
@@ -39,13 +39,8 @@ unfolding bits-of
 bits-below zero k = tt
 bits-below (suc n) k = (omega arith, bits-below n (k / 2))
 
-pub bits-length : (n k : ℕ) → length (bits-of n k) ≡ n
-unfolding bits-of
-bits-length zero k = refl
-bits-length (suc n) k = ap suc (bits-length n (k / 2))
-
 bits-binary : (m k : ℕ) → Binary m (bits-of (long m) k)
-bits-binary m k = record { count = bits-length (long m) k; bits = L.all-of 2 (bits-of (long m) k) (bits-below (long m) k) }
+bits-binary m k = record { count = L.bits-length (long m) k; bits = L.all-of 2 (bits-of (long m) k) (bits-below (long m) k) }
 
 -- a test at every binary word of length n and weight t or less
 unfoldable pub words : (n t : ℕ) → (List ℕ → Bool) → Bool
@@ -122,26 +117,22 @@ module _ (m r t : ℕ) (ls : List ℕ) (p : T (perfect m r t ls)) where
       let k : Leader m r s (led m ls s) = leader-at s h in
       only-light s bs (l .binary) (l .of-coset) (omega (arith, led-light s h, l .least (led m ls s) (k .binary) (k .of-coset)))
 
--- the tables of src/lib.rt: the leaders of each code by syndrome, the bit of weight 2^i that of position i
-abbrev pub leaders-1 : List ℕ
-leaders-1 = 0 ∷ 1 ∷ 2 ∷ 8 ∷ 4 ∷ 64 ∷ 16 ∷ 32 ∷ []
-
-abbrev pub leaders-2 : List ℕ
-leaders-2 =
-    0 ∷ 104 ∷ 81 ∷ 70 ∷ 35 ∷ 52 ∷ 13 ∷ 26 ∷ 22 ∷ 1 ∷ 56 ∷ 80 ∷ 74 ∷ 34 ∷ 100 ∷ 12 ∷ 69 ∷ 82 ∷ 20 ∷ 3 ∷ 25 ∷ 14 ∷ 72 ∷ 32 ∷ 44 ∷ 68 ∷ 2 ∷ 21 ∷ 112 ∷ 24 ∷ 33 ∷ 73 ∷ 49 ∷ 38 ∷ 96 ∷ 8 ∷ 18 ∷ 5 ∷ 67 ∷ 84 ∷ 88 ∷ 48 ∷ 9 ∷ 97 ∷ 4 ∷ 19 ∷ 42 ∷ 66 ∷ 11 ∷ 28 ∷ 37 ∷ 50 ∷ 40 ∷ 64 ∷ 6 ∷ 17 ∷ 98 ∷ 10 ∷ 76 ∷ 36 ∷ 65 ∷ 41 ∷ 16 ∷ 7 ∷ []
-
-abbrev pub leaders-3 : List ℕ
-leaders-3 = 0 ∷ 1 ∷ 2 ∷ 16 ∷ 4 ∷ 256 ∷ 32 ∷ 1024 ∷ 8 ∷ 16384 ∷ 512 ∷ 128 ∷ 64 ∷ 8192 ∷ 2048 ∷ 4096 ∷ []
-
-abbrev table : (code : ℕ) → List ℕ
-table c = cond (eqb c 1) leaders-1 (cond (eqb c 2) leaders-2 leaders-3)
-
 -- the greatest weight of a leader
 unfoldable pub heaviest : (code : ℕ) → ℕ
 heaviest c = cond (eqb c 2) 3 1
 
+-- the table of a code's leaders: the number of each word of weight t or less, at its syndrome
+unfoldable pub gather : (n t : ℕ) → (List ℕ → List ℕ → List ℕ) → (so-far : List ℕ) → List ℕ
+gather zero t f xs = f [] xs
+gather (suc n) zero f xs = gather n zero (λ ds. f (0 ∷ ds)) xs
+gather (suc n) (suc t) f xs = gather n t (λ ds. f (1 ∷ ds)) (gather n (suc t) (λ ds. f (0 ∷ ds)) xs)
+
+unfoldable pub table : (code : ℕ) → List ℕ
+table c =
+    gather (long (width c)) (heaviest c) (λ ds xs. set xs (syndrome (width c) (roots c) ds) (mask ds)) (replicate (cosets (width c) (roots c)) 0)
+
 all-perfect : (c : ℕ) → code-good c ≡ true → T (perfect (width c) (roots c) (heaviest c) (table c))
-unfolding width roots long cosets number syndrome value-from value-at xor times times-from doubled alpha weight mask bits-of words heaviest
+unfolding width roots long cosets number syndrome value-from value-at xor times times-from doubled alpha weight mask bits-of words heaviest gather table
 all-perfect = codes (λ c. T (perfect (width c) (roots c) (heaviest c) (table c))) tt tt tt
 
 -- THE leader of a coset

@@ -7,3 +7,4 @@ pub mod Syndromes
 pub mod Steps
 pub mod Whole
 pub mod Worked
+pub mod Columns

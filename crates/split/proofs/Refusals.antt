@@ -14,7 +14,6 @@ use Rattle.code.specs.Bits.{row-long}
 use Rattle.code.specs.Calls.{Outcome}
 use Rattle.code.specs.Promise.{Codes-inside}
 use Rattle.code.proofs.Promise.{codes, codes-inside}
-use Rattle.split.specs.declared.Splitting.{Splitting}
 use Rattle.split.specs.Calls.{split-refusal, Split-right, Split-says}
 
 pub a-code : (c : ℕ) (b : Bool) → b ≡ code-good c → not b ≡ false → code-good c ≡ true

@@ -1,8 +1,8 @@
 -- One turn of the loops that copy a list to the front of another.
 -- Assumes nothing.
-use mathlib.Core.Path.{_≡_, refl, sym, ap, ap₂, _∙_, subst}
+use mathlib.Core.Path.{_≡_, refl, sym, ap, _∙_}
 use mathlib.Core.List.{List, [], _∷_, _++_, append-nil}
-use Prim.Native.Nat.{ℕ, zero, suc, _+_, _-_, _*_, _/_, _%_, _^_, _≤_, _<_}
+use Prim.Native.Nat.{ℕ, zero, suc, _+_, _-_, _/_, _%_, _^_, _≤_, _<_}
 use native.Mathlib.Nat.{not-suc-le-zero, le-of-suc-le-suc}
 use native.Mathlib.Numerals.{add-one}
 use native.Mathlib.Omega.{arith}
@@ -12,7 +12,6 @@ use Rattle.field.specs.Field.{xor}
 use Rattle.code.specs.Bits.{bits-of}
 use Rattle.split.specs.Split.{layer, sum}
 use Rattle.split.proofs.Layers as L
-use Rattle.split.proofs.Leaders.{bits-length}
 
 copy-suc : (to d : List ℕ) (n : ℕ) → n < length d → n < length to → set (take n to ++ drop n d) n (getD to n 0) ≡ take (suc n) to ++ drop (suc n) d
 copy-suc to [] n h l = absurd (not-suc-le-zero h)
@@ -55,7 +54,7 @@ with-leader j ws k = sum (layer j ws) (bits-of (length ws) k)
 module _ (j : ℕ) (ws : List ℕ) where
   pub with-length : (k : ℕ) → length (with-leader j ws k) ≡ length ws
   unfolding with-leader
-  with-length k = L.sum-length (layer j ws) (bits-of (length ws) k) (L.layer-length j ws ∙ sym (bits-length (length ws) k)) ∙ bits-length (length ws) k
+  with-length k = L.sum-length (layer j ws) (bits-of (length ws) k) (L.layer-length j ws ∙ sym (L.bits-length (length ws) k)) ∙ L.bits-length (length ws) k
 
   pub one-position : (k i : ℕ) → i < length ws →
       sum (layer j (drop i ws)) (bits-of (length ws - i) k) ≡ xor (getD ws i 0 / 2 ^ j % 2) (k % 2) ∷ sum (layer j (drop (i + 1) ws)) (bits-of (length ws - (i + 1)) (k / 2))

@@ -1,18 +1,18 @@
 -- The syndromes of a word as the program computes them, for up to four roots.
 -- Assumes nothing.
 use mathlib.Core.Path.{_≡_, refl, sym, ap, _∙_}
-use mathlib.Core.Bool.{Bool, true, false, _&&_, cond}
-use mathlib.Core.List.{List, [], _∷_, _++_}
+use mathlib.Core.Bool.{true, false}
+use mathlib.Core.List.{List, _++_}
 use Prim.Native.Nat.{ℕ, zero, suc, _+_, _*_, _-_, _^_, _≤_, _<_}
-use native.Mathlib.Nat.{mul-zero, add-zero, zero-add, add-suc, suc-add, mul-le-mul-right, not-suc-le-zero, le-of-suc-le-suc}
+use native.Mathlib.Nat.{mul-zero, mul-one, add-zero, zero-add, add-suc, suc-add, mul-le-mul-right, not-suc-le-zero, le-of-suc-le-suc}
 use native.Mathlib.Omega.{arith}
-use lib.Dec.{leb, eqb, lit≤}
+use lib.Dec.{leb, lit≤}
 use lib.ListN.{length, getD, take, drop, replicate}
 use lib.Seq.{take-all}
 use borrow.Author.Tests.{le-leb, lt-leb}
-use Rattle.field.specs.Field.{width-good}
+use Rattle.field.specs.Field.{width-good, alpha}
 use Rattle.code.specs.Code.{value-at}
-use Rattle.split.specs.Split.{layer, number, syndrome, syndromes, syndromes-from, padded}
+use Rattle.split.specs.Split.{layer, syndrome, column, syndromes, syndromes-from, padded}
 use Rattle.field.proofs.Tests.{widths}
 
 pub one-value : (m r : ℕ) (bs : List ℕ) → r < 3 → value-at m 1 bs ≡ syndrome m r bs
@@ -28,6 +28,21 @@ two-values m r bs l h =
     let p : leb 3 r ≡ true = le-leb 3 r l in
     let q : leb 5 r ≡ false = lt-leb 5 r (omega arith) in
     rw (p, q) (simp (mul-zero, add-zero))
+
+-- the same of a column
+pub one-power : (m r i : ℕ) → r < 3 → alpha m i ≡ column m r i
+unfolding column
+one-power m r i h =
+    let p : leb 3 r ≡ false = lt-leb 3 r h in
+    let q : leb 5 r ≡ false = lt-leb 5 r (omega arith) in
+    rw (p, q) (simp (mul-zero, add-zero, mul-one))
+
+pub two-powers : (m r i : ℕ) → 3 ≤ r → r ≤ 4 → alpha m i + 2 ^ m * alpha m (i * 3) ≡ column m r i
+unfolding column
+two-powers m r i l h =
+    let p : leb 3 r ≡ true = le-leb 3 r l in
+    let q : leb 5 r ≡ false = lt-leb 5 r (omega arith) in
+    rw (p, q) (simp (mul-zero, add-zero, mul-one))
 
 -- a pair of values fits sixteen bits
 pub size-small : (m : ℕ) → width-good m ≡ true → 2 ^ m ≤ 16

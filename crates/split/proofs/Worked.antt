@@ -2,8 +2,7 @@
 -- Assumes nothing.
 use mathlib.Core.Path.{_≡_, refl}
 use mathlib.Core.Bool.{true}
-use mathlib.Core.List.{List, [], _∷_}
-use Prim.Native.Nat.{ℕ}
+use mathlib.Core.List.{[], _∷_}
 use Rattle.field.specs.Field.{xor, times, times-from, doubled, alpha}
 use Rattle.code.specs.Code.{width, roots, long, value-from, value-at, vanishes, symbols-good, is-codeword}
 use Rattle.split.specs.Split.{layer, number, syndrome, syndromes, syndromes-from}

@@ -3,13 +3,17 @@
 use mathlib.Core.Path.{_≡_}
 use mathlib.Core.Bool.{true}
 use mathlib.Core.List.{List}
-use Prim.Native.Nat.{ℕ, _*_, _≤_, _<_}
-use lib.ListN.{length, take, drop}
+use Prim.Native.Nat.{ℕ, _+_, _*_, _≤_, _<_}
+use lib.ListN.{length, getD, take, drop}
 use Rattle.field.specs.Field.{width-good}
 use Rattle.code.specs.Code.{code-good, width, roots, long, symbols-good, is-codeword}
-use Rattle.code.specs.Bits.{row-long}
-use Rattle.split.specs.Split.{layer, syndrome, syndromes, cosets, valid, Binary, Leader, sum}
+use Rattle.code.specs.Bits.{bit-at, row-long}
+use Rattle.split.specs.Split.{layer, syndrome, columns-from, syndromes, cosets, valid, Binary, Leader, sum}
 use Rattle.split.specs.Calls.{Split-right}
+
+-- (Layers) bit number i·m + j of a word is the bit of layer j at position i
+unfoldable pub Layer-bits : Type 0
+Layer-bits = (m j i : ℕ) (ws : List ℕ) → j < m → bit-at m (i * m + j) ws ≡ getD (layer j ws) i 0
 
 -- (Glue) a word is a codeword exactly when its layers' syndromes are a valid configuration
 unfoldable pub Glued-right : Type 0
@@ -20,6 +24,10 @@ Glued-right =
 -- (Cosets) the syndrome of a binary word is below the number of cosets
 unfoldable pub Syndrome-inside : Type 0
 Syndrome-inside = (m r : ℕ) (bs : List ℕ) → width-good m ≡ true → Binary m bs → syndrome m r bs < cosets m r
+
+-- (Columns) the syndrome of a binary word is the sum of the columns of its 1 bits
+unfoldable pub Syndrome-columns : Type 0
+Syndrome-columns = (m r : ℕ) (bs : List ℕ) → width-good m ≡ true → Binary m bs → syndrome m r bs ≡ columns-from m r 0 bs
 
 -- (Leaders) each coset of the three codes has a leader, and no other
 unfoldable pub Leader-there : Type 0

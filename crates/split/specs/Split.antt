@@ -29,6 +29,16 @@ syndrome m r bs =
     value-at m 1 bs
     + 2 ^ m * (cond (leb 3 r) (value-at m 3 bs) 0 + 2 ^ m * cond (leb 5 r && eqb m 4) (number (value-at m 5 bs)) 0)
 
+-- what a 1 at position i adds to the syndrome: a column of the BCH code's parity checks
+unfoldable pub column : (m r i : ℕ) → ℕ
+column m r i =
+    alpha m (i * 1) + 2 ^ m * (cond (leb 3 r) (alpha m (i * 3)) 0 + 2 ^ m * cond (leb 5 r && eqb m 4) (number (alpha m (i * 5))) 0)
+
+-- the sum of the columns of the 1 bits, from position i on
+unfoldable pub columns-from : (m r i : ℕ) → (binary : List ℕ) → ℕ
+columns-from m r i [] = 0
+columns-from m r i (b ∷ bs) = xor (cond (eqb b 0) 0 (column m r i)) (columns-from m r (suc i) bs)
+
 -- how many syndromes there are, and so cosets: a syndrome is a number below this
 unfoldable pub cosets : (m r : ℕ) → ℕ
 cosets m r = 2 ^ m * (cond (leb 3 r) (2 ^ m) 1 * cond (leb 5 r && eqb m 4) 4 1)

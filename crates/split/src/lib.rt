@@ -1,4 +1,12 @@
-// Splitting a codeword into its binary layers.
+// A word as m binary layers: their syndromes, the leaders of their cosets, and the split of a codeword.
+// `split` is offered to callers: it takes any input and promises what specs/Calls.antt says, by the definitions of
+// specs/Split.antt. `leader`, `column_of` and `syndromes_of` are for the crates above. Which configurations are valid, and all of them by
+// number, is left to the crate `configurations`; words and codes are the crate `code`'s.
+mod tables;
+
+use tables::LEADERS_1;
+use tables::LEADERS_2;
+use tables::LEADERS_3;
 ghost use mathlib.Core.Path.{_≡_};
 ghost use mathlib.Core.Bool.{true};
 ghost use Prim.Native.Nat.{_/_, _%_, _^_, _≤_, _<_};
@@ -6,8 +14,8 @@ ghost use lib.ListN.{length};
 ghost use Rattle.field.specs.Field.{width-good};
 ghost use Rattle.code.specs.Code.{width, roots, long, value-at};
 ghost use Rattle.code.specs.Bits.{bits-of};
-ghost use Rattle.split.specs.Split.{layer, syndrome, syndromes, padded, Leader, sum};
-ghost use Rattle.split.specs.Within.{Coset, Layer-of, Layers-of, Layered};
+ghost use Rattle.split.specs.Split.{layer, syndrome, column, syndromes, padded, Leader, sum};
+ghost use Rattle.split.specs.Within.{Coset, Position-of, Layer-of, Layers-of, Layered};
 ghost use Rattle.split.specs.Calls.{split-refusal, Split-right, Split-says};
 
 // The number of a refusal, or 0 with the configuration of the word.
@@ -15,95 +23,6 @@ pub struct Splitting {
     pub number: u32,
     pub configuration: [u16; 4],
 }
-
-// The leaders of each code by syndrome: bit i is the bit at position i.
-const LEADERS_1: [u16; 8] = [0, 1, 2, 8, 4, 64, 16, 32];
-
-const LEADERS_2: [u16; 64] = [
-    0,
-    104,
-    81,
-    70,
-    35,
-    52,
-    13,
-    26,
-    22,
-    1,
-    56,
-    80,
-    74,
-    34,
-    100,
-    12,
-    69,
-    82,
-    20,
-    3,
-    25,
-    14,
-    72,
-    32,
-    44,
-    68,
-    2,
-    21,
-    112,
-    24,
-    33,
-    73,
-    49,
-    38,
-    96,
-    8,
-    18,
-    5,
-    67,
-    84,
-    88,
-    48,
-    9,
-    97,
-    4,
-    19,
-    42,
-    66,
-    11,
-    28,
-    37,
-    50,
-    40,
-    64,
-    6,
-    17,
-    98,
-    10,
-    76,
-    36,
-    65,
-    41,
-    16,
-    7,
-];
-
-const LEADERS_3: [u16; 16] = [
-    0,
-    1,
-    2,
-    16,
-    4,
-    256,
-    32,
-    1024,
-    8,
-    16384,
-    512,
-    128,
-    64,
-    8192,
-    2048,
-    4096,
-];
 
 // The leader of a coset, bit i at position i.
 pub fn leader(code: u32, s: u16) -> u16
@@ -156,6 +75,18 @@ fn size(m: u32) -> u16
     ensures { λ r. ⌜ r ≡ 2 ^ m ⌝ }
 {
     if m == 3 { 8 } else { 16 }
+}
+
+// What a 1 at position i adds to the syndrome.
+pub fn column_of(m: u32, r: u32, i: u32) -> u16
+    requires { ⌜ Position-of m r i ⌝ }
+    ensures { λ x. ⌜ x ≡ column m r i ⌝ }
+{
+    let first = wide(field::power(m, i));
+    if r < 3 {
+        return first;
+    }
+    first + size(m) * wide(field::power(m, i * 3))
 }
 
 // The syndrome of layer j of a word.

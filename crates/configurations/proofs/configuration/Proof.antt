@@ -1,8 +1,7 @@
 -- `configurations::configuration` meets its contract.
 -- Assumes nothing.
-use mathlib.Core.Path.{_≡_, refl, subst}
+use mathlib.Core.Path.{_≡_, subst}
 use Prim.Native.Nat.{ℕ, _<_}
-use native.Mathlib.Omega.{arith}
 use borrow.Author.Needs.{needs}
 use Rattle.split.proofs.Leaders.{last-code}
 use Rattle.configurations.specs.Configurations.{configurations, configuration}

@@ -1,7 +1,7 @@
 -- `configurations::configurations_of` meets its contract.
 -- Assumes nothing.
 use mathlib.Core.Path.{refl}
-use borrow.Author.Tests.{eq-eqb, ne-eqb}
+use borrow.Author.Tests.{ne-eqb}
 use Rattle.configurations.specs.Configurations.{configurations}
 use Rattle.configurations.proofs.configurations_of.Statement.{statement}
 use Rattle.configurations.proofs.configurations_of.Tie as tie

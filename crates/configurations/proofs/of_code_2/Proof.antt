@@ -1,5 +1,6 @@
 -- `configurations::of_code_2` meets its contract.
 -- Assumes nothing.
+use mathlib.Core.Path.{refl}
 use borrow.Author.Needs.{needs}
 use Rattle.configurations.specs.Configurations.{of-code-2}
 use Rattle.split.specs.Split.{padded}
@@ -35,7 +36,8 @@ mul-t12 c = search needs
 
 returns : tie.Need-returns
 unfolding padded of-code-2
-returns c = cc
+returns c =
+    rw (c .wide3 .ensures, c .before .wide2 .ensures, c .before .before .wide .ensures, c .before .before .before .add .ensures, c .before .before .before .before .scaled2 .ensures, c .before .before .before .before .before .scaled .ensures) refl
 
 pub of-code-2-spec : {M : Type 1} → statement M
 of-code-2-spec =

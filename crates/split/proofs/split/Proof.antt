@@ -1,7 +1,7 @@
 -- `split::split` meets its contract: a refused call answers at once; else the configuration is the tuple of syndromes and the pieces are written.
 -- Assumes nothing.
 use borrow.Author.Needs.{needs}
-use mathlib.Core.Path.{_≡_, refl, sym, ap, ap₂, _∙_}
+use mathlib.Core.Path.{sym, ap, ap₂, _∙_}
 use lib.ListN.{length}
 use Rattle.code.specs.Code.{long}
 use Rattle.split.specs.Split.{syndromes, padded}

@@ -1,8 +1,6 @@
 -- `split::syndrome_of` meets its contract.
 -- Assumes nothing.
 use borrow.Author.Needs.{needs}
-use mathlib.Core.Path.{_≡_, refl, sym, ap, _∙_}
-use Prim.Native.Nat.{_+_, _*_, _<_, _≤_, _^_}
 use native.Mathlib.Omega.{arith}
 use Rattle.split.specs.Split.{layer}
 use Rattle.split.proofs.Layers as L

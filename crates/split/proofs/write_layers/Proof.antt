@@ -2,12 +2,12 @@
 -- Assumes nothing.
 use mathlib.Core.Path.{_≡_, refl, sym, ap, _∙_}
 use mathlib.Core.List.{_++_}
-use Prim.Native.Nat.{_+_, _-_, _*_, _<_, _≤_}
+use Prim.Native.Nat.{_-_, _*_, _≤_}
 use native.Mathlib.Nat.{zero-mul}
 use native.Mathlib.Omega.{arith}
 use borrow.Author.Needs.{needs}
 use lib.ListN.{length, take, drop, length-take, length-drop}
-use Rattle.code.specs.Code.{width, roots}
+use Rattle.code.specs.Code.{width}
 use Rattle.code.proofs.Loops.{next-exponent}
 use Rattle.split.proofs.Layers as L
 use Rattle.split.proofs.Refusals.{its-width}

@@ -1,0 +1,90 @@
+-- `decoder::decode` meets its contract.
+-- Assumes nothing.
+use Rattle.decoder.proofs.Joins.{decode-refused, good-code, accepted, decode-done, third}
+use mir.Facts.{toZ-ofZ}
+use mathlib.Core.Path.{_≡_, sym, ap, ap₂, _∙_, subst, refl}
+use borrow.Author.Needs.{needs}
+use Rattle.decoder.proofs.decode.Statement.{statement}
+use Rattle.decoder.proofs.decode.Tie as tie
+
+decode-refusal-requires : tie.Need-decode-refusal-requires
+decode-refusal-requires c κs = search needs
+
+returns : tie.Need-returns
+returns c = let s = c .before .before .before in
+    let a = s .args in
+    let d = c .before .decode-refusal in
+    decode-refused (a .code) (a .row .now) (a .word .now) (a .soft .now) (d .result) (d .ensures) (c .if1 .taken)
+
+decode-1-requires : tie.Need-decode-1-requires
+decode-1-requires c κs = let s = c .before .before .before .before .before .before in
+    let a = s .args in
+    let d = c .before .before .before .before .decode-refusal in
+    accepted (a .code) (a .row .now) (a .word .now) (a .soft .now) (d .result) (d .ensures) (c .before .before .before .if1 .left) 1 (c .before .before .if2 .taken)
+
+same-length : tie.Need-same-length
+same-length c = search needs
+
+same-length-2 : tie.Need-same-length-2
+same-length-2 c = search needs
+
+returns-2 : tie.Need-returns-2
+returns-2 c = let s = c .before .before .before .before .before .before .before .before .before .before in
+    let a = s .args in
+    let d = c .before .before .before .before .before .before .before .before .decode-refusal in
+    decode-done (a .code) (a .row .now) (a .word .now) (a .soft .now) (d .result) (d .ensures) (c .before .before .before .before .before .before .before .if1 .left) 1 (c .before .before .before .before .before .before .if2 .taken) (c .before .before .before .decode-1 .result) _ (c .before .before .before .decode-1 .last .1 .0) (c .before .before .before .decode-1 .last .1 .1 .0) (toZ-ofZ (record { sfits = c .before .before .before .decode-1 .ok })) (c .before .before .before .decode-1 .ensures)
+
+decode-2-requires : tie.Need-decode-2-requires
+decode-2-requires c κs = let s = c .before .before .before .before .before .before .before in
+    let a = s .args in
+    let d = c .before .before .before .before .before .decode-refusal in
+    accepted (a .code) (a .row .now) (a .word .now) (a .soft .now) (d .result) (d .ensures) (c .before .before .before .before .if1 .left) 2 (c .before .before .if3 .taken)
+
+same-length-3 : tie.Need-same-length-3
+same-length-3 c = search needs
+
+same-length-4 : tie.Need-same-length-4
+same-length-4 c = search needs
+
+returns-3 : tie.Need-returns-3
+returns-3 c = let s = c .before .before .before .before .before .before .before .before .before .before .before in
+    let a = s .args in
+    let d = c .before .before .before .before .before .before .before .before .before .decode-refusal in
+    decode-done (a .code) (a .row .now) (a .word .now) (a .soft .now) (d .result) (d .ensures) (c .before .before .before .before .before .before .before .before .if1 .left) 2 (c .before .before .before .before .before .before .if3 .taken) (c .before .before .before .decode-2 .result) _ (c .before .before .before .decode-2 .last .1 .0) (c .before .before .before .decode-2 .last .1 .1 .0) (toZ-ofZ (record { sfits = c .before .before .before .decode-2 .ok })) (c .before .before .before .decode-2 .ensures)
+
+decode-3-requires : tie.Need-decode-3-requires
+decode-3-requires c κs = let s = c .before .before .before .before .before .before .before in
+    let a = s .args in
+    let d = c .before .before .before .before .before .decode-refusal in
+    accepted (a .code) (a .row .now) (a .word .now) (a .soft .now) (d .result) (d .ensures) (c .before .before .before .before .if1 .left) 3 (third (a .code) (good-code (a .code) (a .row .now) (a .word .now) (a .soft .now) (d .result) (d .ensures) (c .before .before .before .before .if1 .left)) (c .before .before .before .if2 .left) (c .before .before .if3 .left))
+
+same-length-5 : tie.Need-same-length-5
+same-length-5 c = search needs
+
+same-length-6 : tie.Need-same-length-6
+same-length-6 c = search needs
+
+returns-4 : tie.Need-returns-4
+returns-4 c = let s = c .before .before .before .before .before .before .before .before .before .before .before in
+    let a = s .args in
+    let d = c .before .before .before .before .before .before .before .before .before .decode-refusal in
+    decode-done (a .code) (a .row .now) (a .word .now) (a .soft .now) (d .result) (d .ensures) (c .before .before .before .before .before .before .before .before .if1 .left) 3 (third (a .code) (good-code (a .code) (a .row .now) (a .word .now) (a .soft .now) (d .result) (d .ensures) (c .before .before .before .before .before .before .before .before .if1 .left)) (c .before .before .before .before .before .before .before .if2 .left) (c .before .before .before .before .before .before .if3 .left)) (c .before .before .before .decode-3 .result) _ (c .before .before .before .decode-3 .last .1 .0) (c .before .before .before .decode-3 .last .1 .1 .0) (toZ-ofZ (record { sfits = c .before .before .before .decode-3 .ok })) (c .before .before .before .decode-3 .ensures)
+
+pub decode-spec : {M : Type 1} → statement M
+decode-spec =
+    tie.close
+    (tie.spec
+    decode-refusal-requires
+    returns
+    decode-1-requires
+    same-length
+    same-length-2
+    returns-2
+    decode-2-requires
+    same-length-3
+    same-length-4
+    returns-3
+    decode-3-requires
+    same-length-5
+    same-length-6
+    returns-4)

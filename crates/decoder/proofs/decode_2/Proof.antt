@@ -1,0 +1,91 @@
+-- `decoder::decode_2` meets its contract.
+-- Assumes nothing.
+use Rattle.decoder.proofs.Inputs.{input-2, prefix-long, outputs}
+use Rattle.code.specs.Code.{code-good, width, long}
+use lib.ListN.{length, getD, take}
+use native.Mathlib.Omega.{arith}
+use Prim.Native.Nat.{ℕ, suc, _<_, _≤_, _-_, _+_, _*_, _/_, _%_, _^_}
+use mathlib.Core.List.{List}
+use mathlib.Core.Path.{_≡_, sym, ap, ap₂, _∙_, subst, refl}
+use borrow.Author.Needs.{needs}
+use Rattle.decoder.proofs.decode_2.Statement.{statement}
+use Rattle.decoder.proofs.decode_2.Tie as tie
+
+all-of-requires : tie.Need-all-of-requires
+unfolding code-good
+all-of-requires c κs = refl
+
+zeros-2048-requires : tie.Need-zeros-2048-requires
+zeros-2048-requires c κs = search needs
+
+zeros-256-requires : tie.Need-zeros-256-requires
+zeros-256-requires c κs = search needs
+
+array-share-prefix-all : tie.Need-array-share-prefix-all
+array-share-prefix-all c = search needs
+
+slice-aggregate-decode-with : tie.Need-slice-aggregate-decode-with
+unfolding code-good
+slice-aggregate-decode-with c = prefix-long 2 256 (c .before .before .before .all-of .result) refl (omega arith) (c .before .before .before .all-of .ensures)
+
+slice-aggregate-decode-with-2 : tie.Need-slice-aggregate-decode-with-2
+slice-aggregate-decode-with-2 c = search needs
+
+slice-aggregate-decode-with-3 : tie.Need-slice-aggregate-decode-with-3
+slice-aggregate-decode-with-3 c = search needs
+
+slice-aggregate-decode-with-4 : tie.Need-slice-aggregate-decode-with-4
+slice-aggregate-decode-with-4 c = search needs
+
+slice-aggregate-decode-with-5 : tie.Need-slice-aggregate-decode-with-5
+slice-aggregate-decode-with-5 c = search needs
+
+slice-aggregate-decode-with-6 : tie.Need-slice-aggregate-decode-with-6
+slice-aggregate-decode-with-6 c = search needs
+
+slice-aggregate-decode-with-7 : tie.Need-slice-aggregate-decode-with-7
+slice-aggregate-decode-with-7 c = search needs
+
+slice-aggregate-decode-with-8 : tie.Need-slice-aggregate-decode-with-8
+slice-aggregate-decode-with-8 c = search needs
+
+decode-with-requires : tie.Need-decode-with-requires
+unfolding width long
+decode-with-requires c κs = let s = c .before .before .before .before .before .before .before .before .before .before .before .before .before .before in
+    let a = s .args in (
+      input-2 (a .row .now) (s .pre .good-row) (s .pre .long-row) (take 256 (c .before .before .before .before .before .before .before .before .before .before .before .before .all-of .result)) (ap (take 256) (c .before .before .before .before .before .before .before .before .before .before .before .before .all-of .ensures)),
+      (
+        record { length-hs = refl; length-zs = refl; length-os = refl; length-t = c .before .before .before .before .before .before .before .before .before .before .before .zeros-2048 .ensures },
+        outputs 2 3 7 64 (a .row .now) _ _ _ (a .word .now) (a .soft .now) (s .pre) refl refl (c .before .before .before .before .before .before .before .before .before .before .zeros-256 .ensures) refl refl,
+      ),
+    )
+
+same-length : tie.Need-same-length
+same-length c = search needs
+
+same-length-2 : tie.Need-same-length-2
+same-length-2 c = search needs
+
+returns : tie.Need-returns
+returns c = search needs
+
+pub decode-2-spec : {M : Type 1} → statement M
+decode-2-spec =
+    tie.close
+    (tie.spec
+    all-of-requires
+    zeros-2048-requires
+    zeros-256-requires
+    array-share-prefix-all
+    slice-aggregate-decode-with
+    slice-aggregate-decode-with-2
+    slice-aggregate-decode-with-3
+    slice-aggregate-decode-with-4
+    slice-aggregate-decode-with-5
+    slice-aggregate-decode-with-6
+    slice-aggregate-decode-with-7
+    slice-aggregate-decode-with-8
+    decode-with-requires
+    same-length
+    same-length-2
+    returns)

@@ -1,0 +1,82 @@
+-- `decoder::decode_3` meets its contract.
+-- Assumes nothing.
+use Rattle.decoder.proofs.Inputs.{input-3, outputs, whole-3}
+use Rattle.code.specs.Code.{code-good, width, long}
+use lib.ListN.{length, getD, take}
+use native.Mathlib.Omega.{arith}
+use Prim.Native.Nat.{ℕ, suc, _<_, _≤_, _-_, _+_, _*_, _/_, _%_, _^_}
+use mathlib.Core.List.{List}
+use mathlib.Core.Path.{_≡_, sym, ap, ap₂, _∙_, subst, refl}
+use borrow.Author.Needs.{needs}
+use Rattle.decoder.proofs.decode_3.Statement.{statement}
+use Rattle.decoder.proofs.decode_3.Tie as tie
+
+all-of-requires : tie.Need-all-of-requires
+unfolding code-good
+all-of-requires c κs = refl
+
+zeros-1024-requires : tie.Need-zeros-1024-requires
+zeros-1024-requires c κs = search needs
+
+slice-aggregate-decode-with : tie.Need-slice-aggregate-decode-with
+slice-aggregate-decode-with c = search needs
+
+slice-aggregate-decode-with-2 : tie.Need-slice-aggregate-decode-with-2
+slice-aggregate-decode-with-2 c = search needs
+
+slice-aggregate-decode-with-3 : tie.Need-slice-aggregate-decode-with-3
+slice-aggregate-decode-with-3 c = search needs
+
+slice-aggregate-decode-with-4 : tie.Need-slice-aggregate-decode-with-4
+slice-aggregate-decode-with-4 c = search needs
+
+slice-aggregate-decode-with-5 : tie.Need-slice-aggregate-decode-with-5
+slice-aggregate-decode-with-5 c = search needs
+
+slice-aggregate-decode-with-6 : tie.Need-slice-aggregate-decode-with-6
+slice-aggregate-decode-with-6 c = search needs
+
+slice-aggregate-decode-with-7 : tie.Need-slice-aggregate-decode-with-7
+slice-aggregate-decode-with-7 c = search needs
+
+slice-aggregate-decode-with-8 : tie.Need-slice-aggregate-decode-with-8
+slice-aggregate-decode-with-8 c = search needs
+
+decode-with-requires : tie.Need-decode-with-requires
+unfolding width long
+decode-with-requires c κs = let s = c .before .before .before .before .before .before .before .before .before .before .before .before .before in
+    let a = s .args in (
+      input-3 (a .row .now) (s .pre .good-row) (s .pre .long-row) (c .before .before .before .before .before .before .before .before .before .before .before .all-of .result) (c .before .before .before .before .before .before .before .before .before .before .before .all-of .ensures ∙ sym (whole-3)),
+      (
+        record { length-hs = refl; length-zs = refl; length-os = refl; length-t = c .before .before .before .before .before .before .before .before .before .before .zeros-1024 .ensures },
+        outputs 3 4 15 16 (a .row .now) _ _ _ (a .word .now) (a .soft .now) (s .pre) refl refl (refl) refl refl,
+      ),
+    )
+
+same-length : tie.Need-same-length
+same-length c = search needs
+
+same-length-2 : tie.Need-same-length-2
+same-length-2 c = search needs
+
+returns : tie.Need-returns
+returns c = search needs
+
+pub decode-3-spec : {M : Type 1} → statement M
+decode-3-spec =
+    tie.close
+    (tie.spec
+    all-of-requires
+    zeros-1024-requires
+    slice-aggregate-decode-with
+    slice-aggregate-decode-with-2
+    slice-aggregate-decode-with-3
+    slice-aggregate-decode-with-4
+    slice-aggregate-decode-with-5
+    slice-aggregate-decode-with-6
+    slice-aggregate-decode-with-7
+    slice-aggregate-decode-with-8
+    decode-with-requires
+    same-length
+    same-length-2
+    returns)

@@ -1,0 +1,101 @@
+-- The syndrome of a binary word is the sum of the columns of its 1 bits: values add, and a syndrome's parts are digits.
+-- Assumes nothing.
+use mathlib.Core.Path.{_≡_, refl, sym, ap, ap₂, _∙_}
+use mathlib.Core.Bool.{Bool, true, false, _&&_, cond}
+use mathlib.Core.List.{List, [], _∷_}
+use Prim.Native.Nat.{ℕ, zero, suc, _+_, _*_, _^_, _≤_, _<_}
+use native.Mathlib.Nat.{mul-comm, mul-zero, add-comm}
+use native.Mathlib.Omega.{arith}
+use lib.Bits as B
+use lib.Dec.{leb, eqb}
+use lib.Pow.{pow-pos}
+use Rattle.field.specs.Field.{xor, times, alpha, width-good}
+use Rattle.code.specs.Code.{value-from, value-at}
+use Rattle.split.specs.Split.{number, syndrome, column, columns-from}
+use Rattle.split.specs.Promise.{Syndrome-columns}
+use Rattle.field.proofs.Tests.{eq-below}
+use Rattle.field.proofs.Xor as X
+use Rattle.field.proofs.Field as F
+use Rattle.code.proofs.Words.{Below}
+use Rattle.split.proofs.Layers as L
+use Rattle.split.proofs.Syndromes.{size-small}
+
+-- digits add one by one
+digits-add : (m a b c d : ℕ) → a < 2 ^ m → c < 2 ^ m → xor (a + 2 ^ m * b) (c + 2 ^ m * d) ≡ xor a c + 2 ^ m * xor b d
+unfolding xor
+digits-add m a b c d ha hc =
+    ap₂ xor (add-comm a (2 ^ m * b) ∙ ap (λ (x : ℕ). x + a) (mul-comm (2 ^ m) b)) (add-comm c (2 ^ m * d) ∙ ap (λ (x : ℕ). x + c) (mul-comm (2 ^ m) d))
+    ∙ B.xor-block m b d a c ha hc ∙ add-comm (xor b d * 2 ^ m) (xor a c) ∙ ap (λ (x : ℕ). xor a c + x) (mul-comm (xor b d) (2 ^ m))
+
+number-add : (u v : ℕ) → u < 16 → v < 16 → number (xor u v) ≡ xor (number u) (number v)
+unfolding number xor
+number-add = eq-below 16 16 (λ u v. number (xor u v)) (λ u v. xor (number u) (number v)) tt
+
+if-add : (c : Bool) (x y : ℕ) → cond c (xor x y) 0 ≡ xor (cond c x 0) (cond c y 0)
+if-add true x y = refl
+if-add false x y = sym (X.self 0)
+
+if-zero : (c : Bool) → _≡_ {A = ℕ} (cond c 0 0) 0
+if-zero true = refl
+if-zero false = refl
+
+if-lt : (c : Bool) (x n : ℕ) → x < n → cond c x 0 < n
+if-lt true x n h = h
+if-lt false x n h = omega arith
+
+-- a syndrome from its three values
+parts : (m r x y z : ℕ) → ℕ
+parts m r x y z = x + 2 ^ m * (cond (leb 3 r) y 0 + 2 ^ m * cond (leb 5 r && eqb m 4) (number z) 0)
+
+module _ (m r : ℕ) (w : width-good m ≡ true) where
+  parts-add : (a b c x y z : ℕ) → a < 2 ^ m → b < 2 ^ m → c < 2 ^ m → x < 2 ^ m → y < 2 ^ m → z < 2 ^ m →
+      parts m r (xor a x) (xor b y) (xor c z) ≡ xor (parts m r a b c) (parts m r x y z)
+  unfolding parts
+  parts-add a b c x y z ha hb hc hx hy hz =
+      let s : 2 ^ m ≤ 16 = size-small m w in
+      let d : Bool = leb 3 r in
+      let f : Bool = leb 5 r && eqb m 4 in
+      rw (if-add d b y, number-add c z (omega arith) (omega arith), if-add f (number c) (number z))
+      (sym (digits-add m a (cond d b 0 + 2 ^ m * cond f (number c) 0) x (cond d y 0 + 2 ^ m * cond f (number z) 0) ha hx
+      ∙ ap (λ (k : ℕ). xor a x + 2 ^ m * k) (digits-add m (cond d b 0) (cond f (number c) 0) (cond d y 0) (cond f (number z) 0) (if-lt d b (2 ^ m) hb) (if-lt d y (2 ^ m) hy))))
+
+  from-lt : (t i : ℕ) (bs : List ℕ) → Below 2 bs → value-from m t i bs < 2 ^ m
+  unfolding value-from
+  from-lt t i [] p = pow-pos m
+  from-lt t i (b ∷ bs) p =
+      X.below m (times m b (alpha m (i * t))) (value-from m t (suc i) bs) (F.times-lt m w b (alpha m (i * t)) (L.bit m w (p .0)) (F.alpha-lt m w (i * t))) (from-lt t (suc i) bs (p .1))
+
+  from : (i : ℕ) → List ℕ → ℕ
+  from i bs = parts m r (value-from m 1 i bs) (value-from m 3 i bs) (value-from m 5 i bs)
+
+  zero-bit : (t i : ℕ) (bs : List ℕ) → value-from m t i (0 ∷ bs) ≡ value-from m t (suc i) bs
+  unfolding value-from
+  zero-bit t i bs = ap (λ (x : ℕ). xor x (value-from m t (suc i) bs)) (F.times-zero-l m w (alpha m (i * t)) (F.alpha-lt m w (i * t))) ∙ X.zero-l (value-from m t (suc i) bs)
+
+  one-bit : (t i : ℕ) (bs : List ℕ) → value-from m t i (1 ∷ bs) ≡ xor (alpha m (i * t)) (value-from m t (suc i) bs)
+  unfolding value-from
+  one-bit t i bs = ap (λ (x : ℕ). xor x (value-from m t (suc i) bs)) (F.times-one m w (alpha m (i * t)) (F.alpha-lt m w (i * t)))
+
+  is-column : (i : ℕ) → parts m r (alpha m (i * 1)) (alpha m (i * 3)) (alpha m (i * 5)) ≡ column m r i
+  unfolding parts column
+  is-column i = refl
+
+  none : parts m r 0 0 0 ≡ 0
+  unfolding parts number
+  none = rw (if-zero (leb 3 r), if-zero (leb 5 r && eqb m 4)) (simp mul-zero)
+
+  from-columns : (i : ℕ) (bs : List ℕ) → Below 2 bs → from i bs ≡ columns-from m r i bs
+  unfolding from columns-from value-from
+  from-columns i [] p = none
+  from-columns i (zero ∷ bs) p =
+      rw (zero-bit 1 i bs, zero-bit 3 i bs, zero-bit 5 i bs) (from-columns (suc i) bs (p .1) ∙ sym (X.zero-l (columns-from m r (suc i) bs)))
+  from-columns i (suc zero ∷ bs) p =
+      rw (one-bit 1 i bs, one-bit 3 i bs, one-bit 5 i bs)
+      (parts-add (alpha m (i * 1)) (alpha m (i * 3)) (alpha m (i * 5)) (value-from m 1 (suc i) bs) (value-from m 3 (suc i) bs) (value-from m 5 (suc i) bs)
+      (F.alpha-lt m w (i * 1)) (F.alpha-lt m w (i * 3)) (F.alpha-lt m w (i * 5)) (from-lt 1 (suc i) bs (p .1)) (from-lt 3 (suc i) bs (p .1)) (from-lt 5 (suc i) bs (p .1))
+      ∙ ap₂ xor (is-column i) (from-columns (suc i) bs (p .1)))
+  from-columns i (suc (suc b) ∷ bs) p = absurd (omega (arith, p .0))
+
+pub syndrome-columns : Syndrome-columns
+unfolding Syndrome-columns syndrome value-at from parts
+syndrome-columns m r bs w b = from-columns m r w 0 bs (L.bits m bs b)
