@@ -117,3 +117,14 @@ accepted bs n a b k o p q u c e w v x =
     let l : Printed (sheet-refusal bs) (questions bs) (header ++ (v .text ++ count-line n)) =
     rw (c .accepted .none) (v .text, v .lines, ap (λ m. header ++ (v .text ++ count-line m)) (c .accepted .count-is)) in
     listed bs _ o u k e l (then w (then (v .written) x))
+
+-- ---- for a caller that hands the text on
+says-room : (e : ℕ) (bs : List ℕ) (r : Listed) (o p : List ℕ) →
+    Outcome e (r .number) ((text : List ℕ) × Listing bs text × (r .long ≡ length text) × (p ≡ text ++ drop (length text) o)) ((r .long ≡ 0) × (p ≡ o)) → r .long ≤ length p
+unfolding Outcome
+says-room zero bs r o p s = let d = s .1 in rw (d .3) (rw length-append (omega (arith, d .2)))
+says-room (suc e) bs r o p s = omega (arith, s .1 .0)
+
+pub long-fits : (bs : List ℕ) (r : Listed) (o p : List ℕ) → List-says bs r o p → r .long ≤ length p
+unfolding List-says
+long-fits bs r o p s = says-room (cond (eqb (length o) listing-most) 0 4) bs r o p s
