@@ -1,0 +1,115 @@
+-- The statements of specs/Promise.antt.
+-- Assumes nothing.
+use mathlib.Core.Path.{_≡_, refl, sym, ap, ap₂, _∙_}
+use mathlib.Core.List.{List, [], _∷_, _++_}
+use mathlib.Core.Bool.{Bool, true, false}
+use Prim.Native.Nat.{ℕ, zero, suc, _+_, _*_, _^_, _≤_, _<_}
+use native.Mathlib.Nat.{suc-mul, mul-le-mul-right}
+use native.Mathlib.Omega.{arith}
+use borrow.Author.Tests.{ltb-true, ltb-false}
+use lib.Dec.{ltb, lit<, lit≤}
+use lib.ListN.{length, length-append}
+use Rattle.code.specs.Code.{width, roots}
+use Rattle.metric.specs.Promise.{Decoded-one, Marked-one}
+use Rattle.metric.proofs.Promise.{decoded-one, marked-one}
+use Rattle.sheet.specs.Sheet.{Question, most, question-good, all-good, sheet-refusal, questions}
+use Rattle.sheet.specs.Calls.{judgement, judged}
+use Rattle.sheet.specs.Promise.{all-bytes, Read-written}
+use Rattle.sheet.proofs.Items.{both}
+use Rattle.sheet.proofs.Trips.{Good, good-parts, read-written}
+use Rattle.sheet_reader.proofs.Places.{judged-large}
+use Rattle.text.specs.Text.{header, question-line, count-line, refused-line, decimal-from, decimal, line, question-word, code-word, best-word, verdict-word, short-word, bits-word, least-word}
+use Rattle.text.proofs.Decimal.{digits-at-most}
+use Rattle.text.proofs.Lines.{count-length, refused-length}
+use Rattle.report.specs.Listing.{Line, Lines, Printed, Listing}
+use Rattle.report.specs.Calls.{line-most, listing-most}
+use Rattle.report.specs.Promise.{Listing-one, Listing-fits}
+use Rattle.report.proofs.Bounds.{Fine, line-fits}
+
+line-one : (q : Question) (s t : List ℕ) → Line q s → Line q t → s ≡ t
+unfolding Decoded-one Marked-one
+line-one q s t v w =
+    let m = width (q .code) in let r = roots (q .code) in
+    let d = decoded-one m r (q .row) (v .word) (w .word) (v .best) (w .best) (v .soft) (w .soft) (v .decoded) (w .decoded) in
+    let k = marked-one m r (q .row) (q .word) (v .verdict) (w .verdict) (v .shortfall) (w .shortfall) (v .marked) (w .marked) in
+    v .text-is ∙ rw (d .0, d .1, k .0, k .1) (sym (w .text-is))
+
+lines-one : (qs : List Question) (s t : List ℕ) → Lines qs s → Lines qs t → s ≡ t
+unfolding Lines
+lines-one [] s t v w = v ∙ sym w
+lines-one (q ∷ qs) s t v w =
+    v .4 ∙ ap₂ _++_ (line-one q (v .0) (w .0) (v .2) (w .2)) (lines-one qs (v .1) (w .1) (v .3) (w .3)) ∙ sym (w .4)
+
+printed-one : (e : ℕ) (qs : List Question) (s t : List ℕ) → Printed e qs s → Printed e qs t → s ≡ t
+unfolding Printed
+printed-one zero qs s t v w = v .2 ∙ ap (λ l. header ++ (l ++ count-line (length qs))) (lines-one qs (v .0) (w .0) (v .1) (w .1)) ∙ sym (w .2)
+printed-one (suc e) qs s t v w = v ∙ sym w
+
+pub listing-one : Listing-one
+unfolding Listing-one Listing
+listing-one bs s t v w = printed-one (sheet-refusal bs) (questions bs) s t v w
+
+-- ---- LENGTHS: each question of an accepted sheet is one that a sheet can hold
+fine : (q : Question) → Good q → Fine (q .code) (q .row)
+fine q g = record { known = g .known; whole = g .row-length; good = g .row-fine }
+
+line-short : (q : Question) (t : List ℕ) → question-good q ≡ true → Line q t → length t ≤ line-most
+line-short q t h l =
+    let g = good-parts q h in
+    rw (l .text-is) (line-fits (q .number) (q .code) (q .row) (l .word) (q .word) (l .best) (l .soft) (l .verdict) (l .shortfall) (g .small) (fine q g) (l .decoded) (l .marked))
+
+pub lines-short : (qs : List Question) (t : List ℕ) → all-good qs ≡ true → Lines qs t → length t ≤ length qs * line-most
+unfolding Lines all-good
+lines-short [] t h l = rw l (omega arith)
+lines-short (q ∷ qs) t h l =
+    let p = both (question-good q) (all-good qs) h in
+    let a = line-short q (l .0) (p .0) (l .2) in
+    let b = lines-short qs (l .1) (p .1) (l .3) in
+    rw (l .4, length-append, suc-mul) (omega arith)
+
+pub count-short : (n : ℕ) → n ≤ 200 → length (count-line n) ≤ length (count-line most)
+unfolding most decimal decimal-from
+count-short n h =
+    let e : length (decimal 200) ≡ 3 = refl in
+    omega (arith, count-length n, count-length 200, digits-at-most 2 n (omega arith))
+
+small : (r n : ℕ) → (100 ≤ judgement r n → r ≡ 0) → r < 100
+unfolding judgement
+small zero n h = lit< tt
+small (suc e) n h = go (ltb (suc e) 100) refl
+  where
+    go : (b : Bool) → ltb (suc e) 100 ≡ b → suc e < 100
+    go true p = ltb-true (suc e) 100 p
+    go false p = absurd (omega (arith, h (ltb-false (suc e) 100 p)))
+
+small-refusal : (bs : List ℕ) → sheet-refusal bs < 100
+unfolding judged
+small-refusal bs = small (sheet-refusal bs) (length (questions bs)) (judged-large bs)
+
+pub header-length : length header ≡ 44
+unfolding header line question-word code-word best-word verdict-word short-word bits-word least-word
+header-length = refl
+
+pub few-is : most ≡ 200
+unfolding most
+few-is = refl
+
+accepted-short : (qs : List Question) (t : List ℕ) → all-good qs ≡ true → length qs ≤ most → Printed 0 qs t → length t ≤ listing-most
+unfolding Printed listing-most
+accepted-short qs t g few p =
+    let a = lines-short qs (p .0) g (p .1) in
+    let b = count-short (length qs) (omega (arith, few-is)) in
+    rw (p .2, length-append, length-append) (omega (arith, mul-le-mul-right line-most few))
+
+refused-short : (e : ℕ) (qs : List Question) (t : List ℕ) → suc e < 100 → Printed (suc e) qs t → length t ≤ listing-most
+unfolding Printed listing-most
+refused-short e qs t h p =
+    rw p (omega (arith, refused-length (suc e), digits-at-most 1 (suc e) (omega arith), header-length))
+
+pub listing-fits : Listing-fits
+unfolding Listing-fits Listing Read-written
+listing-fits bs t h l = go (sheet-refusal bs) refl l
+  where
+    go : (e : ℕ) → sheet-refusal bs ≡ e → Printed e (questions bs) t → length t ≤ listing-most
+    go zero r p = let b = read-written bs h r in accepted-short (questions bs) t (b .0) (b .1) p
+    go (suc e) r p = refused-short e (questions bs) t (omega (arith, small-refusal bs)) p

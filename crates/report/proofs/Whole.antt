@@ -1,0 +1,130 @@
+-- The whole text: a refusal's line, or the header, the lines and the count, one behind the other from the output's start.
+-- Assumes nothing.
+use mathlib.Core.Path.{_≡_, refl, sym, ap, ap₂, _∙_}
+use mathlib.Core.Bool.{Bool, true, false, cond}
+use mathlib.Core.List.{List, [], _∷_, _++_}
+use Prim.Native.Nat.{ℕ, zero, suc, _+_, _-_, _*_, _≤_, _<_}
+use native.Mathlib.Nat.{zero-add, mul-le-mul-right}
+use native.Mathlib.Omega.{arith}
+use borrow.Author.Tests.{eq-eqb, ne-eqb}
+use lib.Dec.{eqb}
+use lib.ListN.{length, take, drop, length-append}
+use Rattle.code.specs.Calls.{Outcome}
+use Rattle.sheet.specs.Sheet.{Question, most, all-good, sheet-refusal, questions}
+use Rattle.sheet.specs.Calls.{judgement, judged}
+use Rattle.sheet.specs.Promise.{all-bytes, Read-written}
+use Rattle.sheet.proofs.Trips.{read-written}
+use Rattle.sheet_reader.proofs.Places.{judged-small, judged-large}
+use Rattle.text.specs.Text.{feed, space, digit, decimal-from, decimal, line, question-word, code-word, best-word, verdict-word, short-word, bits-word, least-word, header, count-line, refused-line}
+use Rattle.text.specs.Within.{put, Written}
+use Rattle.text.proofs.Decimal.{digits-at-most}
+use Rattle.text.proofs.Lines.{refused-length}
+use Rattle.text.proofs.Writing.{written-length, then}
+use Rattle.report.specs.declared.Listed.{Listed}
+use Rattle.report.specs.Listing.{Lines, Printed, Listing}
+use Rattle.report.specs.Calls.{line-most, listing-most, List-says}
+use Rattle.report.specs.Within.{Put-lines, Accepted}
+use Rattle.report.proofs.Promise.{lines-short, count-short, header-length, few-is}
+
+most-is : listing-most ≡ 19058
+unfolding listing-most line-most most header count-line line decimal decimal-from question-word code-word best-word verdict-word short-word bits-word least-word
+most-is = refl
+
+last-is : length (count-line most) ≡ 14
+unfolding most count-line line decimal decimal-from question-word
+last-is = refl
+
+line-is : line-most ≡ 95
+unfolding line-most
+line-is = refl
+
+pub wrong-length : (bs o : List ℕ) → (length o ≡ 19058 → ⊥) → List-says bs (record { number = 4; long = 0 }) o o
+unfolding List-says Outcome
+wrong-length bs o h = rw (ne-eqb (length o) listing-most (λ e. h (e ∙ most-is))) (refl, (refl, refl))
+
+-- a text at the start of the output
+listed : (bs t o p : List ℕ) (n : ℕ) → length o ≡ 19058 → Listing bs t → Written 0 t o p n → List-says bs (record { number = 0; long = n }) o p
+unfolding List-says Outcome put
+listed bs t o p n h l w =
+    rw (eq-eqb (length o) listing-most (h ∙ sym most-is))
+    (refl, (t, l, w .next-is ∙ zero-add (length t), w .now-is ∙ ap (λ k. t ++ drop k o) (zero-add (length t))))
+
+-- ---- a refused sheet
+pub refused-room : (e k : ℕ) → e < 100 → k ≡ 19058 → 0 + length (refused-line e) ≤ k
+refused-room e k h q = omega (arith, refused-length e, digits-at-most 1 e h)
+
+refused-listing : (bs : List ℕ) (r n : ℕ) → judgement r n < 100 → Printed r (questions bs) (refused-line (judgement r n))
+unfolding judgement Printed
+refused-listing bs zero n h = absurd (omega arith)
+refused-listing bs (suc e) n h = refl
+
+pub refused : (bs o p : List ℕ) (j n : ℕ) → length o ≡ 19058 → j ≡ judged bs → j < 100 → Written 0 (refused-line j) o p n → List-says bs (record { number = 0; long = n }) o p
+unfolding judged Listing
+refused bs o p j n h e l w = listed bs (refused-line j) o p n h (rw e (refused-listing bs (sheet-refusal bs) (length (questions bs)) (rw e at l))) w
+
+-- ---- an accepted sheet
+pub record Counted (bs : List ℕ) (n : ℕ) : Type 0 where
+  pub accepted : Accepted bs n
+  pub good : all-good (questions bs) ≡ true
+  pub few : n ≤ 200
+
+judgement-count : (r n : ℕ) → r ≡ 0 → judgement r n - 100 ≡ n
+unfolding judgement
+judgement-count zero n e = omega arith
+judgement-count (suc r) n e = absurd (omega arith)
+
+pub counted : (bs : List ℕ) (j : ℕ) → all-bytes bs ≡ true → j ≡ judged bs → 100 ≤ j → Counted bs (j - 100)
+unfolding judged Read-written
+counted bs j b e h =
+    let r : sheet-refusal bs ≡ 0 = judged-large bs (rw e at h) in
+    let c : j - 100 ≡ length (questions bs) = ap (λ x. x - 100) e ∙ judgement-count (sheet-refusal bs) (length (questions bs)) r in
+    let w = read-written bs b r in
+    record { accepted = record { none = r; count-is = c }; good = w .0; few = omega (arith, c, w .1, few-is) }
+
+pub header-room : (k : ℕ) → k ≡ 19058 → 0 + length header ≤ k
+header-room k e = omega (arith, header-length)
+
+pub lines-room : (bs : List ℕ) (n a : ℕ) (o p : List ℕ) → Counted bs n → length o ≡ 19058 → Written 0 header o p a → a + n * line-most ≤ length p
+lines-room bs n a o p c e w =
+    let f = c .few in
+    omega (arith, w .next-is, header-length, written-length w, line-is, mul-le-mul-right line-most f)
+
+pub count-room :
+    (bs : List ℕ) (n a b : ℕ) (o p q : List ℕ) → Counted bs n → length o ≡ 19058 → Written 0 header o p a → Put-lines (questions bs) a p q b →
+    b + length (count-line n) ≤ length q
+count-room bs n a b o p q c e w v =
+    let f = c .few in
+    let s = lines-short (questions bs) (v .text) (c .good) (v .lines) in
+    let l : length (questions bs) ≤ 200 = omega (arith, c .accepted .count-is) in
+    omega (
+      arith,
+      w .next-is,
+      header-length,
+      written-length w,
+      v .written .next-is,
+      written-length (v .written),
+      mul-le-mul-right line-most l,
+      line-is,
+      count-short n f,
+      last-is,
+    )
+
+pub accepted :
+    (bs : List ℕ) (n a b k : ℕ) (o p q u : List ℕ) → Counted bs n → length o ≡ 19058 → Written 0 header o p a → Put-lines (questions bs) a p q b →
+    Written b (count-line n) q u k → List-says bs (record { number = 0; long = k }) o u
+unfolding Listing Printed
+accepted bs n a b k o p q u c e w v x =
+    let l : Printed (sheet-refusal bs) (questions bs) (header ++ (v .text ++ count-line n)) =
+    rw (c .accepted .none) (v .text, v .lines, ap (λ m. header ++ (v .text ++ count-line m)) (c .accepted .count-is)) in
+    listed bs _ o u k e l (then w (then (v .written) x))
+
+-- ---- for a caller that hands the text on
+says-room : (e : ℕ) (bs : List ℕ) (r : Listed) (o p : List ℕ) →
+    Outcome e (r .number) ((text : List ℕ) × Listing bs text × (r .long ≡ length text) × (p ≡ text ++ drop (length text) o)) ((r .long ≡ 0) × (p ≡ o)) → r .long ≤ length p
+unfolding Outcome
+says-room zero bs r o p s = let d = s .1 in rw (d .3) (rw length-append (omega (arith, d .2)))
+says-room (suc e) bs r o p s = omega (arith, s .1 .0)
+
+pub long-fits : (bs : List ℕ) (r : Listed) (o p : List ℕ) → List-says bs r o p → r .long ≤ length p
+unfolding List-says
+long-fits bs r o p s = says-room (cond (eqb (length o) listing-most) 0 4) bs r o p s

@@ -1,0 +1,17 @@
+-- What is promised of listings. A statement is a type; proofs/Promise.antt names the proof of each. Assumes nothing.
+use mathlib.Core.Path.{_≡_}
+use mathlib.Core.Bool.{true}
+use mathlib.Core.List.{List}
+use Prim.Native.Nat.{ℕ, _≤_}
+use lib.ListN.{length}
+use Rattle.sheet.specs.Promise.{all-bytes}
+use Rattle.report.specs.Listing.{Listing}
+use Rattle.report.specs.Calls.{listing-most}
+
+-- a sheet has one listing, so that a promise of it fixes every byte
+unfoldable pub Listing-one : Type 0
+Listing-one = (bs s t : List ℕ) → Listing bs s → Listing bs t → s ≡ t
+
+-- and no listing of bytes is longer than the output
+unfoldable pub Listing-fits : Type 0
+Listing-fits = (bs t : List ℕ) → all-bytes bs ≡ true → Listing bs t → length t ≤ listing-most

@@ -1,0 +1,60 @@
+-- What the inner functions ask and leave behind. No call offered to callers cites these. Assumes nothing: these are definitions.
+use mathlib.Core.Path.{_≡_}
+use mathlib.Core.Bool.{true}
+use mathlib.Core.List.{List}
+use Prim.Native.Nat.{ℕ, _≤_}
+use lib.ListN.{length, getD}
+use lib.IntN.{ℤ}
+use Rattle.code.specs.Code.{width, long}
+use Rattle.code.specs.Bits.{row-long}
+use Rattle.sheet.specs.Sheet.{Question, head-kind, kind, head-code, as-words, question-good, sheet-refusal, questions}
+use Rattle.sheet_reader.specs.declared.Cursor.{Cursor}
+use Rattle.sheet_reader.specs.Calls.{question-here, yielded}
+use Rattle.text.specs.Within.{Written}
+use Rattle.report.specs.declared.Place.{Place}
+use Rattle.report.specs.Listing.{Line, Lines}
+use Rattle.report.specs.Calls.{line-most}
+
+unfoldable pub question : (code number : ℕ) → (row : List ℤ) → (word : List ℕ) → Question
+question c n rs ws = record { code = c; number = n; row = rs; word = ws }
+
+-- a question's line was written from a place on
+pub record Put-line (q : Question) (at : ℕ) (o p : List ℕ) (next : ℕ) : Type 0 where
+  pub text : List ℕ
+  pub line : Line q text
+  pub written : Written at text o p next
+  pub short : length text ≤ line-most
+
+-- and those of several
+pub record Put-lines (qs : List Question) (at : ℕ) (o p : List ℕ) (next : ℕ) : Type 0 where
+  pub text : List ℕ
+  pub lines : Lines qs text
+  pub written : Written at text o p next
+
+-- a reader of an accepted sheet that stands at a word
+unfoldable pub cursor : (word : ℕ) → Cursor
+cursor w = record { refusal = 0; at = w }
+
+-- a question that a sheet can hold begins at a word
+pub record Asked (bs : List ℕ) (word : ℕ) : Type 0 where
+  pub head : kind (getD (as-words bs) word 0) ≡ head-kind
+  pub good : question-good (question-here bs (cursor word)) ≡ true
+
+-- the buffers have the lengths of that question
+pub record Lengths (bs : List ℕ) (word row-long-is long-is best-long soft-long : ℕ) : Type 0 where
+  pub row-is : row-long-is ≡ row-long (width (head-code (getD (as-words bs) word 0)))
+  pub word-is : long-is ≡ long (width (head-code (getD (as-words bs) word 0)))
+  pub best-is : best-long ≡ long-is
+  pub soft-is : soft-long ≡ row-long-is
+
+-- the question was passed and its line was written
+pub record Passed (bs : List ℕ) (from to : Place) (o p : List ℕ) : Type 0 where
+  pub line : Put-line (question-here bs (cursor (from .word))) (from .text) o p (to .text)
+  pub next :
+      let m = width (head-code (getD (as-words bs) (from .word) 0)) in
+      cursor (to .word) ≡ yielded bs (cursor (from .word)) (row-long m) (long m) .next
+
+-- an accepted sheet of so many questions
+pub record Accepted (bs : List ℕ) (count : ℕ) : Type 0 where
+  pub none : sheet-refusal bs ≡ 0
+  pub count-is : count ≡ length (questions bs)

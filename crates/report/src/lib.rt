@@ -1,0 +1,159 @@
+// The listing of a sheet, written into a lent output. `list` is offered to callers: it takes any bytes and promises by
+// specs/Calls.antt that the text is the one that specs/Listing.antt says.
+use sheet_reader::Cursor;
+ghost use mathlib.Core.Path.{_≡_};
+ghost use mathlib.Core.Bool.{true};
+ghost use Prim.Native.Nat.{_+_, _*_, _≤_};
+ghost use lib.ListN.{length, getD};
+ghost use Rattle.code.specs.Code.{width, long};
+ghost use Rattle.code.specs.Bits.{row-long};
+ghost use Rattle.sheet.specs.Sheet.{as-words, head-code, question-good, sheet-refusal, questions};
+ghost use Rattle.sheet_reader.specs.Calls.{question-here, yielded};
+ghost use Rattle.report.specs.Calls.{line-most, List-says};
+ghost use Rattle.report.specs.Within.{question, Asked, Lengths, Passed, Accepted, Put-line, Put-lines};
+
+// 0 and the number of bytes of the text, or the number of a refusal and 0.
+pub struct Listed {
+    pub number: u32,
+    pub long: usize,
+}
+
+// How long the output of `list` is: room for the longest text.
+pub const LONG: usize = 19058;
+
+// Where the next question begins in the sheet, and where its line begins in the output.
+struct Place {
+    word: usize,
+    text: usize,
+}
+
+// Decodes and marks a question, and writes its line. `best` and `soft` are for the decoding.
+fn put_answer(
+    code: u32,
+    number: u32,
+    row: &[i16],
+    word: &[u8],
+    best: &mut [u8],
+    soft: &mut [i16],
+    out: &mut [u8],
+    at: usize,
+) -> usize
+    requires { ⌜ question-good (question code number (now row) (now word)) ≡ true ⌝ }
+    requires { ⌜ length (now best) ≡ length (now word) ⌝ }
+    requires { ⌜ length (now soft) ≡ length (now row) ⌝ }
+    requires { ⌜ at + line-most ≤ length (now out) ⌝ }
+    ensures { λ r. ⌜ Put-line (question code number (now (row .entry)) (now (word .entry))) at (now (out .entry)) (now (out .exit)) r ⌝ }
+{
+    let decoding = decoder::decode(code, row, best, soft);
+    let metric = decoding.metric;
+    let mark = decoder::judge_word(code, row, word);
+    let verdict = mark.verdict;
+    let shortfall = mark.shortfall;
+    text::put_question(number, code, metric, verdict, shortfall, soft, out, at)
+}
+
+// Reads the question that begins at a word of the sheet, and writes its line. The other slices hold its row and its word, and
+// what is decoded.
+fn put_read(
+    sheet: &[u8],
+    place: Place,
+    row: &mut [i16],
+    word: &mut [u8],
+    best: &mut [u8],
+    soft: &mut [i16],
+    out: &mut [u8],
+) -> Place
+    requires { ⌜ Asked (now sheet) (place .word) ⌝ }
+    requires { ⌜ Lengths (now sheet) (place .word) (length (now row)) (length (now word)) (length (now best)) (length (now soft)) ⌝ }
+    requires { ⌜ place .text + line-most ≤ length (now out) ⌝ }
+    ensures { λ r. ⌜ Passed (now (sheet .entry)) place r (now (out .entry)) (now (out .exit)) ⌝ }
+{
+    let at = place.word;
+    let w = sheet::words::word_at(sheet, at);
+    let step = sheet_reader::question_at(sheet, Cursor { refusal: 0, at }, row, word);
+    let text = put_answer(
+        sheet::words::head_code_of(w),
+        sheet::words::low_of(w),
+        row,
+        word,
+        best,
+        soft,
+        out,
+        place.text,
+    );
+    let next = step.next;
+    Place {
+        word: next.at,
+        text,
+    }
+}
+
+// The same, with room of its own.
+fn put_next(sheet: &[u8], place: Place, out: &mut [u8]) -> Place
+    requires { ⌜ Asked (now sheet) (place .word) ⌝ }
+    requires { ⌜ place .text + line-most ≤ length (now out) ⌝ }
+    ensures { λ r. ⌜ Passed (now (sheet .entry)) place r (now (out .entry)) (now (out .exit)) ⌝ }
+{
+    let at = place.word;
+    let w = sheet::words::word_at(sheet, at);
+    let m = code::width_of(sheet::words::head_code_of(w));
+    let n = code::long_of(m);
+    let k = code::row_long_of(m);
+    let mut row_room = [0i16; 60];
+    let row: &mut [i16] = &mut row_room;
+    let mut word_room = [0u8; 15];
+    let word: &mut [u8] = &mut word_room;
+    let mut best_room = [0u8; 15];
+    let best: &mut [u8] = &mut best_room;
+    let mut soft_room = [0i16; 60];
+    let soft: &mut [i16] = &mut soft_room;
+    put_read(
+        sheet,
+        place,
+        &mut row[..k],
+        &mut word[..n],
+        &mut best[..n],
+        &mut soft[..k],
+        out,
+    )
+}
+
+// The lines of all questions.
+fn put_lines(sheet: &[u8], count: usize, out: &mut [u8], at: usize) -> usize
+    requires { ⌜ Accepted (now sheet) count ⌝ }
+    requires { ⌜ at + count * line-most ≤ length (now out) ⌝ }
+    ensures { λ r. ⌜ Put-lines (questions (now (sheet .entry))) at (now (out .entry)) (now (out .exit)) r ⌝ }
+{
+    let mut place = Place { word: 0, text: at };
+    let mut i = 0;
+    while i < count {
+        place = put_next(sheet, place, out);
+        i += 1;
+    }
+    place.text
+}
+
+// The listing of a sheet, at the start of an output that is LONG bytes long; an output of another length is refused by 4.
+pub fn list(sheet: &[u8], out: &mut [u8]) -> Listed
+    ensures { λ r. ⌜ List-says (now (sheet .entry)) r (now (out .entry)) (now (out .exit)) ⌝ }
+{
+    if out.len() != LONG {
+        return Listed { number: 4, long: 0 };
+    }
+    let judged = sheet::judge_sheet(sheet);
+    if judged < 100 {
+        let end = text::put_refused(judged, out, 0);
+        return Listed {
+            number: 0,
+            long: end,
+        };
+    }
+    let count = judged - 100;
+    let first = text::put_header(out, 0);
+    let last = put_lines(sheet, count as usize, out, first);
+    let end = text::put_count(count, out, last);
+    Listed {
+        number: 0,
+        long: end,
+    }
+}

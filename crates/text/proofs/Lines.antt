@@ -1,0 +1,58 @@
+-- A question's line is its three parts, and every line has a bounded length.
+-- Assumes nothing.
+use mathlib.Core.Path.{_≡_, refl, sym, ap, ap₂, _∙_}
+use mathlib.Core.List.{List, [], _∷_, _++_, append-assoc}
+use Prim.Native.Nat.{ℕ, zero, suc, _+_, _^_, _≤_, _<_, min}
+use native.Mathlib.Omega.{arith}
+use lib.Dec.{lit≤}
+use lib.ListN.{length, getD, length-append}
+use lib.IntN.{ℤ, pos, negsuc, natAbs}
+use Rattle.metric.specs.Cost.{costZero, costOne}
+use Rattle.text.specs.Text.{feed, space, decimal, signed, line, none-word, short-word, best-word, question-word, refused-word, verdict-field, shortfall-field, bits-field, least-from, least-magnitude, question-line, count-line, refused-line}
+use Rattle.text.specs.Within.{ended, numbers-part, mark-part, soft-part}
+use Rattle.text.proofs.Decimal.{digits-at-most}
+
+pub question-parts :
+    (n c : ℕ) (g : ℤ) (v : ℕ) (d : ℤ) (so : List ℤ) → numbers-part n c g ++ (mark-part v d ++ soft-part so) ≡ question-line n c g v d so
+unfolding numbers-part mark-part soft-part ended question-line line
+question-parts n c g v d so = simp append-assoc
+
+-- ---- lengths
+pub question-length :
+    (n c : ℕ) (g : ℤ) (v : ℕ) (d : ℤ) (so : List ℤ) →
+    length (question-line n c g v d so)
+    ≡ length (decimal n) + suc (length (decimal c) + suc (length (signed g) + suc (length (verdict-field v)
+    + suc (length (shortfall-field v d) + suc (length (bits-field so) + suc (length (decimal (least-magnitude so)) + 1))))))
+unfolding question-line line
+question-length n c g v d so = simp length-append
+
+pub count-length : (n : ℕ) → length (count-line n) ≡ length (decimal n) + 11
+unfolding count-line line question-word
+count-length n = simp length-append
+
+pub refused-length : (e : ℕ) → length (refused-line e) ≡ 8 + (length (decimal e) + 1)
+unfolding refused-line line refused-word
+refused-length e = omega (arith, length-append (decimal e) (feed ∷ []))
+
+-- a number below a power of ten that is not negative
+pub signed-at-most : (k : ℕ) (z : ℤ) → costZero z ≡ 0 → costOne z < 10 ^ suc k → length (signed z) ≤ suc k
+unfolding signed
+signed-at-most k (pos n) e h = digits-at-most k n h
+signed-at-most k (negsuc n) e h = absurd (omega arith)
+
+pub verdict-at-most : (v : ℕ) → length (verdict-field v) ≤ 5
+unfolding verdict-field none-word short-word best-word
+verdict-at-most zero = lit≤ tt
+verdict-at-most (suc zero) = lit≤ tt
+verdict-at-most (suc (suc v)) = lit≤ tt
+
+-- the least magnitude is at most the first
+least-le : (d : ℕ) (so : List ℤ) → least-from d so ≤ d
+unfolding least-from
+least-le d [] = omega arith
+least-le d (s ∷ so) = omega (arith, least-le (min d (natAbs s)) so)
+
+pub least-at-most : (so : List ℤ) (k : ℕ) → natAbs (getD so 0 (pos 0)) ≤ k → least-magnitude so ≤ k
+unfolding least-magnitude
+least-at-most [] k h = omega arith
+least-at-most (s ∷ so) k h = omega (arith, least-le (natAbs s) so)

@@ -1,0 +1,42 @@
+-- `text::put_count` meets its contract.
+-- Assumes nothing.
+use Rattle.text.specs.Text.{count-line, decimal, line, question-word, space, feed}
+use Rattle.text.proofs.Writing.{then, fits-first, fits-next}
+use mathlib.Core.List.{[], _∷_, _++_}
+use mir.Facts.{toZ-ofZ}
+use denote.Ref.{now}
+use lib.ListN.{length}
+use borrow.Author.Needs.{needs}
+use Rattle.text.proofs.put_count.Statement.{statement}
+use Rattle.text.proofs.put_count.Tie as tie
+
+put-decimal-requires : tie.Need-put-decimal-requires
+unfolding count-line line question-word space feed
+put-decimal-requires c κs = let s = c .before .before in
+    fits-first (decimal (s .args .count)) (space ∷ line ((question-word ++ (115 ∷ [])) ∷ [])) _ _ (s .pre)
+
+slice-aggregate-put-bytes : tie.Need-slice-aggregate-put-bytes
+slice-aggregate-put-bytes c = search needs
+
+put-bytes-requires : tie.Need-put-bytes-requires
+unfolding count-line line question-word space feed
+put-bytes-requires c κs = let s = c .before .before .before .before .before .before .before in
+    fits-next (decimal (s .args .count)) (space ∷ line ((question-word ++ (115 ∷ [])) ∷ [])) (c .before .before .before .before .put-decimal .ensures) (s .pre)
+
+same-length : tie.Need-same-length
+same-length c = search needs
+
+returns : tie.Need-returns
+unfolding count-line line question-word space feed
+returns c = let s = c .before .before .before .before .before .before .before .before .before .before in
+    then (c .before .before .before .before .before .before .before .put-decimal .ensures) (c .before .before .put-bytes .ensures)
+
+pub put-count-spec : {M : Type 1} → statement M
+put-count-spec =
+    tie.close
+    (tie.spec
+    put-decimal-requires
+    slice-aggregate-put-bytes
+    put-bytes-requires
+    same-length
+    returns)

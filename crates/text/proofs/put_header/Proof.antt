@@ -1,0 +1,31 @@
+-- `text::put_header` meets its contract.
+-- Assumes nothing.
+use Rattle.text.specs.Text.{header, line, question-word, code-word, best-word, verdict-word, short-word, bits-word, least-word, space, feed}
+use Rattle.text.proofs.Writing.{then, fits-first, fits-next}
+use mathlib.Core.List.{[], _∷_, _++_}
+use mir.Facts.{toZ-ofZ}
+use denote.Ref.{now}
+use lib.ListN.{length}
+use borrow.Author.Needs.{needs}
+use Rattle.text.proofs.put_header.Statement.{statement}
+use Rattle.text.proofs.put_header.Tie as tie
+
+slice-aggregate-put-bytes : tie.Need-slice-aggregate-put-bytes
+slice-aggregate-put-bytes c = search needs
+
+put-bytes-requires : tie.Need-put-bytes-requires
+unfolding header line question-word code-word best-word verdict-word short-word bits-word least-word space feed
+put-bytes-requires c κs = let s = c .before .before .before in
+    s .pre
+
+same-length : tie.Need-same-length
+same-length c = search needs
+
+returns : tie.Need-returns
+unfolding header line question-word code-word best-word verdict-word short-word bits-word least-word space feed
+returns c = let s = c .before .before .before .before .before .before in
+    c .before .before .put-bytes .ensures
+
+pub put-header-spec : {M : Type 1} → statement M
+put-header-spec =
+    tie.close (tie.spec slice-aggregate-put-bytes put-bytes-requires same-length returns)

@@ -1,0 +1,37 @@
+-- What the functions that write a text leave in their buffer, for the crates above. Assumes nothing: these are definitions.
+use mathlib.Core.Path.{_≡_}
+use mathlib.Core.List.{List, [], _∷_, _++_}
+use Prim.Native.Nat.{ℕ, _+_, _≤_}
+use mathlib.Core.Bool.{cond}
+use lib.ListN.{length, take, drop}
+use lib.IntN.{ℤ}
+use Rattle.metric.specs.Metric.{is-neg}
+use Rattle.text.specs.Text.{feed, space, digit, decimal, signed, verdict-field, shortfall-field, bits-field, least-magnitude}
+
+-- the buffer with a text from a place on, the rest kept
+unfoldable pub put : (at : ℕ) → (text buffer : List ℕ) → List ℕ
+put at t o = take at o ++ (t ++ drop (at + length t) o)
+
+-- a text was written from a place on; `next` is the place behind it
+pub record Written (at : ℕ) (text buffer buffer-now : List ℕ) (next : ℕ) : Type 0 where
+  pub room : at + length text ≤ length buffer
+  pub now-is : buffer-now ≡ put at text buffer
+  pub next-is : next ≡ at + length text
+
+-- the decided bit of a soft output, as a digit
+unfoldable pub bit-digit : (soft : ℤ) → ℕ
+bit-digit s = digit (cond (is-neg s) 1 0)
+
+-- a field and the byte that ends it
+unfoldable pub ended : (field : List ℕ) → (end : ℕ) → List ℕ
+ended f e = f ++ (e ∷ [])
+
+-- a question's line in the parts in which it is written
+unfoldable pub numbers-part : (number code : ℕ) → (best : ℤ) → List ℕ
+numbers-part n c g = ended (decimal n) space ++ (ended (decimal c) space ++ ended (signed g) space)
+
+unfoldable pub mark-part : (verdict : ℕ) → (shortfall : ℤ) → List ℕ
+mark-part v d = verdict-field v ++ (space ∷ (shortfall-field v d ++ (space ∷ [])))
+
+unfoldable pub soft-part : (soft : List ℤ) → List ℕ
+soft-part so = bits-field so ++ (space ∷ ended (decimal (least-magnitude so)) feed)
