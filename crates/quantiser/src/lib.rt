@@ -1,7 +1,6 @@
 // The quantiser: 32-bit float samples to the reliabilities of a row.
 // `quantise` is offered to callers: it takes any input and promises what specs/Calls.antt says, each sample by specs/Quantise.antt.
-// `tugzeck_quantise` is the same call under a name that C and Rust can link. What a code is, and how long its row, is left to the
-// crate `code`.
+// What a code is, and how long its row, is left to the crate `code`.
 ghost use mathlib.Core.Path.{_≡_};
 ghost use mathlib.Core.Bool.{false};
 ghost use mathlib.Core.List.{map};
@@ -133,12 +132,4 @@ pub fn quantise(code: u32, samples: &[f32], row: &mut [i16]) -> u32
         fill(samples, row);
     }
     number
-}
-
-// `quantise` for callers in C and Rust: a slice is a pointer and a length.
-#[no_mangle]
-pub extern "C" fn tugzeck_quantise(code: u32, samples: &[f32], row: &mut [i16]) -> u32
-    ensures { λ r. ⌜ Quantise-says code (now (samples .entry)) r (now (row .entry)) (now (row .exit)) ⌝ }
-{
-    quantise(code, samples, row)
 }

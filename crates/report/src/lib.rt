@@ -13,6 +13,7 @@ ghost use Rattle.report.specs.Calls.{line-most, List-says};
 ghost use Rattle.report.specs.Within.{question, Asked, Lengths, Passed, Accepted, Put-line, Put-lines};
 
 // 0 and the number of bytes of the text, or the number of a refusal and 0.
+#[repr(C)]
 pub struct Listed {
     pub number: u32,
     pub long: usize,

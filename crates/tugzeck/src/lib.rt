@@ -1,15 +1,37 @@
-// The calls for programs in C and Rust, under names that begin with `tugzeck_`. Each takes any input, has no `requires` and promises the
-// whole of what the call that it stands for promises: specs/Calls.antt of the crates code, split and decoder. (`tugzeck_quantise` stands
-// in the crate quantiser.) A slice is a pointer and a length; a result is a number or a struct of numbers.
+// The calls for programs in C and Rust, under names that begin with `tugzeck_`; include/tugzeck.h declares them. Each takes any input, has
+// no `requires` and promises the whole of what the call that it stands for promises: specs/Calls.antt of that call's crate, and of this
+// one where a result is a struct of numbers. A slice is a pointer and a length; a result is a number or a struct of numbers.
 // Nothing here covers what a caller hands over: pointers valid for their lengths, and outputs that overlap nothing.
 use code::Membership;
 use decoder::Decoding;
 use decoder::Mark;
+use report::Listed;
+use sheet_reader::Yield;
 use split::Splitting;
 ghost use mathlib.Core.Path.{_≡_};
 ghost use Rattle.code.specs.Calls.{Encode-says, Read-says, checked, number-of};
 ghost use Rattle.split.specs.Calls.{Split-says};
 ghost use Rattle.decoder.specs.Calls.{Decode-says, Mark-says};
+ghost use Rattle.quantiser.specs.Calls.{Quantise-says};
+ghost use Rattle.sheet_writer.specs.Calls.{Write-says};
+ghost use Rattle.report.specs.Calls.{List-says};
+ghost use Rattle.tugzeck.specs.Calls.{Judge-says, none-found, asked, Question-says};
+
+// 0 with the count of questions, or the number of a refusal and 0.
+#[repr(C)]
+pub struct Judgement {
+    pub number: u32,
+    pub questions: u32,
+}
+
+// 0 and found 1 with a question's code and its number; found 0 where none is left. Or the number of a refusal. What is not said is 0.
+#[repr(C)]
+pub struct Asked {
+    pub number: u32,
+    pub found: u32,
+    pub code: u32,
+    pub question: u32,
+}
 
 // Writes the codeword of a message of k symbols into n places. Answers 0, or refuses by 1, 3, 4 or 6 and writes nothing.
 #[no_mangle]
@@ -76,4 +98,95 @@ pub extern "C" fn tugzeck_mark(code: u32, row: &[i16], word: &[u8]) -> Mark
     ensures { λ r. ⌜ Mark-says code (now (row .entry)) (now (word .entry)) r ⌝ }
 {
     decoder::judge_word(code, row, word)
+}
+
+// Turns the n·m samples of a row into reliabilities. Answers 0, or refuses by 1, 2, 4 or 7 and writes nothing.
+#[no_mangle]
+pub extern "C" fn tugzeck_quantise(code: u32, samples: &[f32], row: &mut [i16]) -> u32
+    ensures { λ r. ⌜ Quantise-says code (now (samples .entry)) r (now (row .entry)) (now (row .exit)) ⌝ }
+{
+    quantiser::quantise(code, samples, row)
+}
+
+// Judges a whole sheet: 0 with the count of its questions. Or it refuses by 1, 5, 6 or 9 to 13 with the count 0.
+#[no_mangle]
+pub extern "C" fn tugzeck_judge_sheet(sheet: &[u8]) -> Judgement
+    ensures { λ r. ⌜ Judge-says (now (sheet .entry)) r ⌝ }
+{
+    let judged = sheet::judge_sheet(sheet);
+    if judged < 100 {
+        return Judgement {
+            number: judged,
+            questions: 0,
+        };
+    }
+    Judgement {
+        number: 0,
+        questions: judged - 100,
+    }
+}
+
+// The question that has `index` others before it: its code and number, its row in n·m places and the word handed in in n. Or it answers that
+// none is left, whatever the outputs, or refuses by the sheet's refusal, else by 4; then it writes nothing.
+#[no_mangle]
+pub extern "C" fn tugzeck_question(
+    sheet: &[u8],
+    index: usize,
+    row: &mut [i16],
+    word: &mut [u8],
+) -> Asked
+    ensures { λ r. ⌜ Question-says (now (sheet .entry)) index r (now (row .entry)) (now (row .exit)) (now (word .entry)) (now (word .exit)) ⌝ }
+{
+    asked_of(sheet_reader::question_of(sheet, index, row, word))
+}
+
+// The values of a reader's answer.
+fn asked_of(answer: Yield) -> Asked
+    ensures { λ r. ⌜ r ≡ asked answer ⌝ }
+{
+    match answer {
+        Yield::Found { code, number } => Asked {
+            number: 0,
+            found: 1,
+            code,
+            question: number,
+        },
+        Yield::NoneLeft => unfound(0),
+        Yield::Refused(e) => unfound(e),
+    }
+}
+
+fn unfound(number: u32) -> Asked
+    ensures { λ r. ⌜ r ≡ none-found number ⌝ }
+{
+    Asked {
+        number,
+        found: 0,
+        code: 0,
+        question: 0,
+    }
+}
+
+// Writes the sheet of a question list, lent as its codes, its question numbers, all rows end to end and all words end to end. Answers 0, or
+// refuses by 12, by 1, 11, 2, 3, 5 or 6 question by question, or by 4, and writes nothing.
+#[no_mangle]
+pub extern "C" fn tugzeck_write_sheet(
+    codes: &[u32],
+    numbers: &[u32],
+    rows: &[i16],
+    words: &[u8],
+    output: &mut [u8],
+) -> u32
+    ensures { λ r. ⌜ Write-says (now (codes .entry)) (now (numbers .entry)) (now (rows .entry)) (now (words .entry)) r (now (output .entry)) (now (output .exit)) ⌝ }
+{
+    sheet_writer::write_sheet(codes, numbers, rows, words, output)
+}
+
+// Writes the listing of a sheet, accepted or refused, at the start of 19,058 bytes: 0 with the length of the text. Or it refuses by 4 with
+// the length 0 and writes nothing.
+#[no_mangle]
+pub extern "C" fn tugzeck_list(sheet: &[u8], output: &mut [u8]) -> Listed
+    ensures { λ r. ⌜ List-says (now (sheet .entry)) r (now (output .entry)) (now (output .exit)) ⌝ }
+{
+    report::list(sheet, output)
 }

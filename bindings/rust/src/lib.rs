@@ -1,0 +1,279 @@
+//! Most-likely words of three short Reed-Solomon codes, (7, 5), (7, 3) and (15, 13): safe calls over the static library, which is proved for
+//! every input. One function a call; a call takes any input, refuses bad input by the first [`Refusal`] in the order stated, and
+//! changes no output then. Outputs are lent, each with exactly its length. Nothing is allocated, and there is no global state.
+//!
+//! What the proofs do not cover is this package: that it declares the calls as they are, and hands slices over as pointers and counts.
+//! Its tests compare every call with independent Rust.
+//!
+//! The codes are numbered 1 to 3. A word has [`word_length`] symbols (n) of m bits, a row [`row_length`] reliabilities (n·m): entry
+//! i·m + (j - 1) belongs to layer j, the bit of weight 2^(j-1), at position i. A positive reliability favours 0.
+//!
+//! ```
+//! let row = [10i16; 21];
+//! let (mut word, mut soft) = ([0u8; 7], [0i16; 21]);
+//! assert_eq!(tugzeck::decode(1, &row, &mut word, &mut soft), Ok(210));
+//! assert_eq!((word, soft), ([0; 7], [60; 21]));
+//! assert_eq!(tugzeck::mark(1, &row, &[3, 6, 1, 0, 0, 0, 0]), Ok(tugzeck::Verdict::Short(100)));
+//! ```
+
+mod raw;
+
+use std::fmt;
+
+/// The greatest size of a reliability.
+pub const MOST_RELIABILITY: i16 = 127;
+
+/// The most questions of a sheet.
+pub const MOST_QUESTIONS: usize = 200;
+
+/// Bytes of the longest sheet.
+pub const MOST_SHEET: usize = 19_204;
+
+/// How long the output of [`list`] is: room for the longest listing.
+pub const LISTING: usize = 19_058;
+
+/// Symbols to a word (n). Codes are 1 to 3; of other numbers this says nothing.
+pub const fn word_length(code: u32) -> usize {
+    if code == 3 {
+        15
+    } else {
+        7
+    }
+}
+
+/// Symbols to a message (k). Codes are 1 to 3; of other numbers this says nothing.
+pub const fn message_length(code: u32) -> usize {
+    match code {
+        3 => 13,
+        2 => 3,
+        _ => 5,
+    }
+}
+
+/// Bits to a word, and reliabilities to a row (n·m). Codes are 1 to 3; of other numbers this says nothing.
+pub const fn row_length(code: u32) -> usize {
+    if code == 3 {
+        60
+    } else {
+        21
+    }
+}
+
+/// Bytes of the sheet that holds questions of these codes. Codes are 1 to 3; of other numbers this says nothing.
+pub fn sheet_length(codes: &[u32]) -> usize {
+    codes.iter().map(|code| if *code == 3 { 96 } else { 40 }).sum::<usize>() + 4
+}
+
+/// Why a call is refused, with its number.
+#[derive(Clone, Copy, Debug, PartialEq, Eq, Hash)]
+#[repr(u32)]
+pub enum Refusal {
+    /// The code is not 1, 2 or 3.
+    Code = 1,
+    /// A row is not n·m long.
+    RowLength = 2,
+    /// A word is not n, or a message not k, long.
+    WordLength = 3,
+    /// An output has not exactly its length.
+    Output = 4,
+    /// A reliability is outside -127..=127.
+    Reliability = 5,
+    /// A symbol is not below 2^m.
+    Symbol = 6,
+    /// A sample is not a number.
+    Sample = 7,
+    /// A word to be read or split is no codeword.
+    NoCodeword = 8,
+    /// The bytes of a sheet are no multiple of four, or its words run out.
+    RunsOut = 9,
+    /// Wrong kind at a word of a sheet.
+    Kind = 10,
+    /// Unused bits of a sheet are not zero.
+    UnusedBits = 11,
+    /// A 201st question, or a count that differs.
+    Count = 12,
+    /// Words after the end of a sheet.
+    AfterEnd = 13,
+}
+
+impl Refusal {
+    /// Every refusal, by its number.
+    pub const ALL: [Refusal; 13] = [
+        Refusal::Code,
+        Refusal::RowLength,
+        Refusal::WordLength,
+        Refusal::Output,
+        Refusal::Reliability,
+        Refusal::Symbol,
+        Refusal::Sample,
+        Refusal::NoCodeword,
+        Refusal::RunsOut,
+        Refusal::Kind,
+        Refusal::UnusedBits,
+        Refusal::Count,
+        Refusal::AfterEnd,
+    ];
+
+    /// The number that the library answers.
+    pub const fn number(self) -> u32 {
+        self as u32
+    }
+}
+
+impl fmt::Display for Refusal {
+    fn fmt(&self, f: &mut fmt::Formatter<'_>) -> fmt::Result {
+        let met = match self {
+            Refusal::Code => "no such code",
+            Refusal::RowLength => "a row of another length",
+            Refusal::WordLength => "a word or a message of another length",
+            Refusal::Output => "an output of another length",
+            Refusal::Reliability => "a reliability outside -127..127",
+            Refusal::Symbol => "a symbol that does not fit",
+            Refusal::Sample => "a sample that is not a number",
+            Refusal::NoCodeword => "no codeword",
+            Refusal::RunsOut => "a sheet that runs out",
+            Refusal::Kind => "a word of the wrong kind in a sheet",
+            Refusal::UnusedBits => "unused bits that are not zero",
+            Refusal::Count => "too many questions, or a count that differs",
+            Refusal::AfterEnd => "words after the end of a sheet",
+        };
+        write!(f, "refused by {}: {met}", self.number())
+    }
+}
+
+impl std::error::Error for Refusal {}
+
+/// What a word handed in is worth.
+#[derive(Clone, Copy, Debug, PartialEq, Eq, Hash)]
+pub enum Verdict {
+    /// It is no codeword.
+    None,
+    /// It is a codeword, and the best metric is so much more than its own.
+    Short(i32),
+    /// It is a codeword with the best metric.
+    Best,
+}
+
+/// The head of a question: its code and its number.
+#[derive(Clone, Copy, Debug, PartialEq, Eq, Hash)]
+pub struct Question {
+    pub code: u32,
+    pub number: u32,
+}
+
+fn unless_refused<T>(number: u32, value: T) -> Result<T, Refusal> {
+    match number {
+        0 => Ok(value),
+        n => Err(Refusal::ALL[n as usize - 1]),
+    }
+}
+
+/// Writes the codeword of a message of k symbols into n places. Refuses by 1, 3, 4, 6.
+pub fn encode(code: u32, message: &[u8], output: &mut [u8]) -> Result<(), Refusal> {
+    // SAFETY: both are slices, and the output is borrowed alone.
+    let number = unsafe { raw::tugzeck_encode(code, message.as_ptr(), message.len(), output.as_mut_ptr(), output.len()) };
+    unless_refused(number, ())
+}
+
+/// Writes the message of a codeword into k places. Refuses by 1, 3, 4, 6, 8.
+pub fn read_word(code: u32, word: &[u8], output: &mut [u8]) -> Result<(), Refusal> {
+    // SAFETY: both are slices, and the output is borrowed alone.
+    let number = unsafe { raw::tugzeck_read_word(code, word.as_ptr(), word.len(), output.as_mut_ptr(), output.len()) };
+    unless_refused(number, ())
+}
+
+/// Whether a word is a codeword. Refuses by 1, 3, 6.
+pub fn check_word(code: u32, word: &[u8]) -> Result<bool, Refusal> {
+    // SAFETY: it is a slice.
+    match unsafe { raw::tugzeck_check_word(code, word.as_ptr(), word.len()) } {
+        8 => Ok(false),
+        number => unless_refused(number, true),
+    }
+}
+
+/// Splits a codeword into layers: answers its configuration (with m = 3 the fourth place is 0), and writes into n·m places, layer 1 first,
+/// the BCH word that is left of each layer when the leader of its coset is added. Refuses by 1, 3, 4, 6, 8.
+pub fn split(code: u32, word: &[u8], bch: &mut [u8]) -> Result<[u16; 4], Refusal> {
+    // SAFETY: both are slices, and the output is borrowed alone.
+    let s = unsafe { raw::tugzeck_split(code, word.as_ptr(), word.len(), bch.as_mut_ptr(), bch.len()) };
+    unless_refused(s.number, s.configuration)
+}
+
+/// Turns the n·m samples of a row into reliabilities: each the nearest whole number to 32 times the sample, halves away from zero, clipped to
+/// -127 or 127. Refuses by 1, 2 (samples), 4 (row), 7.
+pub fn quantise(code: u32, samples: &[f32], row: &mut [i16]) -> Result<(), Refusal> {
+    // SAFETY: both are slices, and the output is borrowed alone.
+    let number = unsafe { raw::tugzeck_quantise(code, samples.as_ptr(), samples.len(), row.as_mut_ptr(), row.len()) };
+    unless_refused(number, ())
+}
+
+/// Decodes a row of n·m reliabilities: answers the best metric, and writes a codeword that has it into n places and the soft outputs into
+/// n·m: the greatest metric of a codeword with 0 at that bit less the greatest with 1. Where several words tie, any one of them.
+/// Refuses by 1, 2, 4, 5.
+pub fn decode(code: u32, row: &[i16], word: &mut [u8], soft: &mut [i16]) -> Result<i32, Refusal> {
+    // SAFETY: all are slices, and the two outputs are borrowed apart.
+    let d = unsafe {
+        raw::tugzeck_decode(code, row.as_ptr(), row.len(), word.as_mut_ptr(), word.len(), soft.as_mut_ptr(), soft.len())
+    };
+    unless_refused(d.number, d.metric)
+}
+
+/// Marks a word of n symbols, handed in for a row of n·m reliabilities. Refuses by 1, 2, 3, 5, 6.
+pub fn mark(code: u32, row: &[i16], word: &[u8]) -> Result<Verdict, Refusal> {
+    // SAFETY: both are slices.
+    let m = unsafe { raw::tugzeck_mark(code, row.as_ptr(), row.len(), word.as_ptr(), word.len()) };
+    let verdict = match m.verdict {
+        0 => Verdict::None,
+        1 => Verdict::Short(m.shortfall),
+        _ => Verdict::Best,
+    };
+    unless_refused(m.number, verdict)
+}
+
+/// Judges a whole sheet: answers the count of its questions. Refuses by 9 for the byte count, then by the first offending word: 9 where words
+/// run out, and within a word 10, 12 (a 201st head), 11, 1, then 5 or 6, then 12 (the end's count); last 13.
+pub fn judge_sheet(sheet: &[u8]) -> Result<u32, Refusal> {
+    // SAFETY: it is a slice.
+    let j = unsafe { raw::tugzeck_judge_sheet(sheet.as_ptr(), sheet.len()) };
+    unless_refused(j.number, j.questions)
+}
+
+/// Reads the question that has `index` others before it, its row into n·m places and the word handed in into n; answers `None` where there is
+/// none, whatever the outputs. Refuses by the sheet's refusal, then by 4. The whole sheet is judged at every call.
+pub fn question(sheet: &[u8], index: usize, row: &mut [i16], word: &mut [u8]) -> Result<Option<Question>, Refusal> {
+    // SAFETY: all are slices, and the two outputs are borrowed apart.
+    let a = unsafe {
+        raw::tugzeck_question(sheet.as_ptr(), sheet.len(), index, row.as_mut_ptr(), row.len(), word.as_mut_ptr(), word.len())
+    };
+    unless_refused(a.number, (a.found == 1).then_some(Question { code: a.code, number: a.question }))
+}
+
+/// Writes a question list as a sheet into [`sheet_length`] places. The list is its codes, its question numbers, all rows end to end and all
+/// handed-in words end to end. Refuses by 12 (more than 200 codes, or another count of numbers); then, question by question, by 1, 11 (a
+/// number of 2^24 or more), 2 and 3 (the row or the word runs short, or something is left over after the last), 5, 6; then by 4.
+pub fn write_sheet(codes: &[u32], numbers: &[u32], rows: &[i16], words: &[u8], output: &mut [u8]) -> Result<(), Refusal> {
+    // SAFETY: all are slices, and the output is borrowed alone.
+    let number = unsafe {
+        raw::tugzeck_write_sheet(
+            codes.as_ptr(),
+            codes.len(),
+            numbers.as_ptr(),
+            numbers.len(),
+            rows.as_ptr(),
+            rows.len(),
+            words.as_ptr(),
+            words.len(),
+            output.as_mut_ptr(),
+            output.len(),
+        )
+    };
+    unless_refused(number, ())
+}
+
+/// Writes the listing of a sheet at the start of [`LISTING`] bytes and answers the length of its text; the bytes behind it are kept. The
+/// listing of a refused sheet is the line `refused N`. Refuses by 4 alone.
+pub fn list(sheet: &[u8], output: &mut [u8]) -> Result<usize, Refusal> {
+    // SAFETY: both are slices, and the output is borrowed alone.
+    let l = unsafe { raw::tugzeck_list(sheet.as_ptr(), sheet.len(), output.as_mut_ptr(), output.len()) };
+    unless_refused(l.number, l.length)
+}

@@ -1,0 +1,81 @@
+//! The calls as the static library has them (include/tugzeck.h): a slice is a pointer and a count.
+
+#[repr(C)]
+pub struct Splitting {
+    pub number: u32,
+    pub configuration: [u16; 4],
+}
+
+#[repr(C)]
+pub struct Decoding {
+    pub number: u32,
+    pub metric: i32,
+}
+
+#[repr(C)]
+pub struct Marking {
+    pub number: u32,
+    pub verdict: u32,
+    pub shortfall: i32,
+}
+
+#[repr(C)]
+pub struct Judgement {
+    pub number: u32,
+    pub questions: u32,
+}
+
+#[repr(C)]
+pub struct Asked {
+    pub number: u32,
+    pub found: u32,
+    pub code: u32,
+    pub question: u32,
+}
+
+#[repr(C)]
+pub struct Listed {
+    pub number: u32,
+    pub length: usize,
+}
+
+extern "C" {
+    pub fn tugzeck_encode(code: u32, message: *const u8, message_count: usize, output: *mut u8, output_count: usize) -> u32;
+    pub fn tugzeck_read_word(code: u32, word: *const u8, word_count: usize, output: *mut u8, output_count: usize) -> u32;
+    pub fn tugzeck_check_word(code: u32, word: *const u8, word_count: usize) -> u32;
+    pub fn tugzeck_split(code: u32, word: *const u8, word_count: usize, bch: *mut u8, bch_count: usize) -> Splitting;
+    pub fn tugzeck_quantise(code: u32, samples: *const f32, samples_count: usize, row: *mut i16, row_count: usize) -> u32;
+    pub fn tugzeck_decode(
+        code: u32,
+        row: *const i16,
+        row_count: usize,
+        word: *mut u8,
+        word_count: usize,
+        soft: *mut i16,
+        soft_count: usize,
+    ) -> Decoding;
+    pub fn tugzeck_mark(code: u32, row: *const i16, row_count: usize, word: *const u8, word_count: usize) -> Marking;
+    pub fn tugzeck_judge_sheet(sheet: *const u8, sheet_count: usize) -> Judgement;
+    pub fn tugzeck_question(
+        sheet: *const u8,
+        sheet_count: usize,
+        index: usize,
+        row: *mut i16,
+        row_count: usize,
+        word: *mut u8,
+        word_count: usize,
+    ) -> Asked;
+    pub fn tugzeck_write_sheet(
+        codes: *const u32,
+        codes_count: usize,
+        numbers: *const u32,
+        numbers_count: usize,
+        rows: *const i16,
+        rows_count: usize,
+        words: *const u8,
+        words_count: usize,
+        output: *mut u8,
+        output_count: usize,
+    ) -> u32;
+    pub fn tugzeck_list(sheet: *const u8, sheet_count: usize, output: *mut u8, output_count: usize) -> Listed;
+}

@@ -1,0 +1,85 @@
+//! Compares every call of the library with independent Rust, written from the paper on the codes and not from the library: every codeword of
+//! codes 1 and 2, a Wolf trellis of the whole of code 3 (shared with the bench), a judge and a writer of sheets, plain f64 arithmetic.
+//! Each test prints what it compared; `cargo test -- --nocapture` shows it.
+
+#[path = "../../../../bench/src/codes.rs"]
+mod codes;
+#[path = "../../../../bench/src/wolf.rs"]
+#[allow(dead_code)]
+mod wolf;
+
+mod draw;
+mod every;
+mod order;
+mod paper;
+mod raw_results;
+mod rows;
+mod sheets;
+mod threads;
+mod words;
+
+/// What an output holds before a call, so that a byte that is written shows.
+pub trait Mark: Copy + PartialEq + std::fmt::Debug {
+    fn at(i: usize) -> Self;
+}
+
+impl Mark for u8 {
+    fn at(i: usize) -> u8 {
+        0xA0 | (i % 16) as u8
+    }
+}
+
+impl Mark for i16 {
+    fn at(i: usize) -> i16 {
+        -30_000 + i as i16
+    }
+}
+
+/// An output of a length, with marks in it and on both sides.
+pub struct Output<T> {
+    all: Vec<T>,
+    long: usize,
+}
+
+const SIDE: usize = 16;
+
+impl<T: Mark> Output<T> {
+    pub fn new(long: usize) -> Output<T> {
+        Output { all: (0..long + 2 * SIDE).map(T::at).collect(), long }
+    }
+
+    pub fn lent(&mut self) -> &mut [T] {
+        &mut self.all[SIDE..SIDE + self.long]
+    }
+
+    /// What the call has left in it. Nothing beside it may be written.
+    pub fn left(&self) -> &[T] {
+        self.same(0..SIDE);
+        self.same(SIDE + self.long..self.all.len());
+        &self.all[SIDE..SIDE + self.long]
+    }
+
+    /// From an index of the output on, nothing is written.
+    pub fn kept_from(&self, i: usize) {
+        self.same(SIDE + i..self.all.len());
+    }
+
+    pub fn kept(&self) {
+        self.same(0..self.all.len());
+    }
+
+    fn same(&self, places: std::ops::Range<usize>) {
+        places.for_each(|i| assert_eq!(self.all[i], T::at(i), "place {} is written", i as isize - SIDE as isize));
+    }
+}
+
+/// A result by its number.
+pub fn number<T>(result: Result<T, tugzeck::Refusal>) -> u32 {
+    result.map_or_else(tugzeck::Refusal::number, |_| 0)
+}
+
+/// The numbers of the codes.
+pub const CODES: [u32; 3] = [1, 2, 3];
+
+/// Numbers of no code: near the codes, and near their multiples by bytes.
+pub const NO_CODES: [u32; 7] = [0, 4, 5, 255, 257, 0x0100_0003, u32::MAX];

@@ -1,0 +1,63 @@
+//! The structs as the library answers them: every field, refused or not.
+
+#[path = "../../src/raw.rs"]
+#[allow(dead_code)]
+mod raw;
+
+use raw::*;
+
+#[test]
+fn every_field() {
+    let word = [3u8, 6, 1, 0, 0, 0, 0];
+    let row = [10i16; 21];
+    let (mut bytes, mut numbers) = ([0u8; 21], [0i16; 21]);
+    let (b, n) = (bytes.as_mut_ptr(), numbers.as_mut_ptr());
+    let (w, r) = (word.as_ptr(), row.as_ptr());
+    // SAFETY: no count is above its array's length, and the two outputs are two arrays.
+    unsafe {
+        let Splitting { number, configuration } = tugzeck_split(1, w, 7, b, 21);
+        assert_eq!((number, configuration), (0, [5, 3, 2, 0]));
+        let Splitting { number, configuration } = tugzeck_split(1, w, 7, b, 20);
+        assert_eq!((number, configuration), (4, [0; 4]));
+
+        let Decoding { number, metric } = tugzeck_decode(1, r, 21, b, 7, n, 21);
+        assert_eq!((number, metric), (0, 210));
+        let Decoding { number, metric } = tugzeck_decode(1, r, 20, b, 7, n, 21);
+        assert_eq!((number, metric), (2, 0));
+
+        let Marking { number, verdict, shortfall } = tugzeck_mark(1, r, 21, w, 7);
+        assert_eq!((number, verdict, shortfall), (0, 1, 100));
+        let Marking { number, verdict, shortfall } = tugzeck_mark(1, r, 21, [0u8; 7].as_ptr(), 7);
+        assert_eq!((number, verdict, shortfall), (0, 2, 0));
+        let Marking { number, verdict, shortfall } = tugzeck_mark(1, r, 21, [1u8; 7].as_ptr(), 6);
+        assert_eq!((number, verdict, shortfall), (3, 0, 0));
+        let Marking { number, verdict, shortfall } = tugzeck_mark(1, r, 21, [1u8, 0, 0, 0, 0, 0, 0].as_ptr(), 7);
+        assert_eq!((number, verdict, shortfall), (0, 0, 0));
+    }
+
+    let mut sheet = [0u8; 44];
+    let mut text = vec![0u8; tugzeck::LISTING];
+    tugzeck::write_sheet(&[1], &[77], &row, &word, &mut sheet).expect("a good list");
+    let s = sheet.as_ptr();
+    // SAFETY: as above.
+    unsafe {
+        let Judgement { number, questions } = tugzeck_judge_sheet(s, 44);
+        assert_eq!((number, questions), (0, 1));
+        let Judgement { number, questions } = tugzeck_judge_sheet(s, 40);
+        assert_eq!((number, questions), (9, 0));
+
+        let Asked { number, found, code, question } = tugzeck_question(s, 44, 0, n, 21, b, 7);
+        assert_eq!((number, found, code, question), (0, 1, 1, 77));
+        let Asked { number, found, code, question } = tugzeck_question(s, 44, 1, n, 21, b, 7);
+        assert_eq!((number, found, code, question), (0, 0, 0, 0));
+        let Asked { number, found, code, question } = tugzeck_question(s, 44, 0, n, 21, b, 6);
+        assert_eq!((number, found, code, question), (4, 0, 0, 0));
+        let Asked { number, found, code, question } = tugzeck_question(s, 43, 0, n, 21, b, 7);
+        assert_eq!((number, found, code, question), (9, 0, 0, 0));
+
+        let Listed { number, length } = tugzeck_list(s, 44, text.as_mut_ptr(), text.len());
+        assert_eq!((number, length), (0, text.iter().position(|c| *c == 0).expect("an end")));
+        let Listed { number, length } = tugzeck_list(s, 44, text.as_mut_ptr(), text.len() - 1);
+        assert_eq!((number, length), (4, 0));
+    }
+}

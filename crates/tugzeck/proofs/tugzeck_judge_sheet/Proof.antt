@@ -1,0 +1,19 @@
+-- `tugzeck::tugzeck_judge_sheet` meets its contract.
+-- Assumes nothing.
+use denote.Ref.{now}
+use borrow.Author.Needs.{needs}
+use Rattle.tugzeck.proofs.Judging.{refused, accepted}
+use Rattle.tugzeck.proofs.tugzeck_judge_sheet.Statement.{statement}
+use Rattle.tugzeck.proofs.tugzeck_judge_sheet.Tie as tie
+
+judge-sheet-requires : tie.Need-judge-sheet-requires
+judge-sheet-requires c κs = search needs
+
+returns : tie.Need-returns
+returns c = refused (now (c .before .before .before .args .sheet)) (c .before .judge-sheet .result) (c .before .judge-sheet .ensures) (c .if1 .taken)
+
+returns-2 : tie.Need-returns-2
+returns-2 c = accepted (now (c .before .before .before .args .sheet)) (c .before .judge-sheet .result) (c .before .judge-sheet .ensures) (c .if1 .left)
+
+pub tugzeck-judge-sheet-spec : {M : Type 1} → statement M
+tugzeck-judge-sheet-spec = tie.close (tie.spec judge-sheet-requires returns returns-2)

@@ -1,0 +1,146 @@
+/* Every call through include/tugzeck.h, with every field of every result. Says how many answers it compared; stops at the first that differs. */
+#include <stdio.h>
+#include <string.h>
+
+#include "tugzeck.h"
+
+static unsigned compared;
+
+#define SAME(a, b)                                                                            \
+    do {                                                                                      \
+        long long x = (long long)(a), y = (long long)(b);                                     \
+        if (x != y) {                                                                         \
+            printf("line %d: %s is %lld and not %lld\n", __LINE__, #a, x, y);                 \
+            return 1;                                                                         \
+        }                                                                                     \
+        compared++;                                                                           \
+    } while (0)
+
+static const char listing[] =
+    "question code best verdict short bits least\n"
+    "7 1 210 short 100 000000000000000000000 60\n"
+    "16777215 3 600 best 0 000000000000000000000000000000000000000000000000000000000000 60\n"
+    "2 questions\n";
+
+int main(void) {
+    static const uint8_t message[5] = {1, 0, 0, 0, 0}, codeword[7] = {3, 6, 1, 0, 0, 0, 0}, other[7] = {1, 0, 0, 0, 0, 0, 0};
+    uint8_t word[TUGZECK_MOST_WORD], read[TUGZECK_MOST_MESSAGE], bch[TUGZECK_MOST_ROW];
+    int16_t row[TUGZECK_MOST_ROW], soft[TUGZECK_MOST_ROW];
+
+    SAME(tugzeck_encode(1, message, 5, word, 7), 0);
+    SAME(memcmp(word, codeword, 7), 0);
+    SAME(tugzeck_encode(4, message, 5, word, 7), TUGZECK_CODE);
+    SAME(tugzeck_encode(1, message, 4, word, 7), TUGZECK_WORD_LENGTH);
+    SAME(tugzeck_encode(1, message, 5, word, 8), TUGZECK_OUTPUT);
+
+    SAME(tugzeck_read_word(1, codeword, 7, read, 5), 0);
+    SAME(memcmp(read, message, 5), 0);
+    SAME(tugzeck_read_word(1, other, 7, read, 5), TUGZECK_NO_CODEWORD);
+    SAME(tugzeck_check_word(1, codeword, 7), 0);
+    SAME(tugzeck_check_word(1, other, 7), TUGZECK_NO_CODEWORD);
+    SAME(tugzeck_check_word(1, other, 6), TUGZECK_WORD_LENGTH);
+
+    struct tugzeck_splitting s = tugzeck_split(1, codeword, 7, bch, 21);
+    SAME(s.number, 0);
+    SAME(s.configuration[0], 5);
+    SAME(s.configuration[1], 3);
+    SAME(s.configuration[2], 2);
+    SAME(s.configuration[3], 0);
+    s = tugzeck_split(1, other, 7, bch, 21);
+    SAME(s.number, TUGZECK_NO_CODEWORD);
+    SAME(s.configuration[0] | s.configuration[1] | s.configuration[2] | s.configuration[3], 0);
+
+    float samples[21];
+    for (int i = 0; i < 21; i++)
+        samples[i] = 0;
+    samples[0] = 1.0f;
+    samples[1] = 1.0f / 64;
+    samples[2] = -1.0f / 64;
+    samples[20] = 3.984375f;
+    SAME(tugzeck_quantise(1, samples, 21, row, 21), 0);
+    SAME(row[0], 32);
+    SAME(row[1], 1);
+    SAME(row[2], -1);
+    SAME(row[3], 0);
+    SAME(row[20], 127);
+    samples[20] = samples[3] / samples[3];
+    SAME(tugzeck_quantise(1, samples, 21, row, 21), TUGZECK_SAMPLE);
+
+    for (int i = 0; i < TUGZECK_MOST_ROW; i++)
+        row[i] = -10;
+    struct tugzeck_decoding d = tugzeck_decode(1, row, 21, word, 7, soft, 21);
+    SAME(d.number, 0);
+    SAME(d.metric, 210);
+    for (int i = 0; i < 7; i++)
+        SAME(word[i], 7);
+    for (int i = 0; i < 21; i++)
+        SAME(soft[i], -60);
+    row[20] = -128;
+    d = tugzeck_decode(1, row, 21, word, 7, soft, 21);
+    SAME(d.number, TUGZECK_RELIABILITY);
+    SAME(d.metric, 0);
+
+    for (int i = 0; i < TUGZECK_MOST_ROW; i++)
+        row[i] = 10;
+    struct tugzeck_marking m = tugzeck_mark(1, row, 21, codeword, 7);
+    SAME(m.number, 0);
+    SAME(m.verdict, TUGZECK_SHORT);
+    SAME(m.shortfall, 100);
+    m = tugzeck_mark(1, row, 21, other, 7);
+    SAME(m.number, 0);
+    SAME(m.verdict, TUGZECK_NONE);
+    SAME(m.shortfall, 0);
+    m = tugzeck_mark(2, row, 20, other, 7);
+    SAME(m.number, TUGZECK_ROW_LENGTH);
+    SAME(m.verdict, 0);
+    SAME(m.shortfall, 0);
+
+    enum { BYTES = TUGZECK_QUESTION_BYTES(1) + TUGZECK_QUESTION_BYTES(3) + TUGZECK_END_BYTES };
+    static const uint32_t codes[2] = {1, 3}, numbers[2] = {7, TUGZECK_QUESTION_NUMBERS - 1};
+    uint8_t sheet[BYTES], words[7 + 15] = {3, 6, 1};
+    int16_t rows[21 + 60];
+    for (int i = 0; i < 21 + 60; i++)
+        rows[i] = 10;
+    SAME(tugzeck_write_sheet(codes, 2, numbers, 2, rows, 21 + 60, words, 7 + 15, sheet, BYTES), 0);
+    SAME(sheet[0] | sheet[1] << 8 | sheet[2] << 16 | sheet[3] << 24, 0x11000007);
+    SAME(sheet[BYTES - 1], 0xF0);
+    SAME(tugzeck_write_sheet(codes, 2, numbers, 1, rows, 21 + 60, words, 7 + 15, sheet, BYTES), TUGZECK_COUNT);
+    SAME(tugzeck_write_sheet(codes, 2, numbers, 2, rows, 21 + 60, words, 7 + 15, sheet, BYTES - 1), TUGZECK_OUTPUT);
+
+    struct tugzeck_judgement j = tugzeck_judge_sheet(sheet, BYTES);
+    SAME(j.number, 0);
+    SAME(j.questions, 2);
+    j = tugzeck_judge_sheet(sheet, BYTES - 4);
+    SAME(j.number, TUGZECK_RUNS_OUT);
+    SAME(j.questions, 0);
+
+    struct tugzeck_asked q = tugzeck_question(sheet, BYTES, 1, row, 60, word, 15);
+    SAME(q.number, 0);
+    SAME(q.found, 1);
+    SAME(q.code, 3);
+    SAME(q.question, TUGZECK_QUESTION_NUMBERS - 1);
+    q = tugzeck_question(sheet, BYTES, 0, row, 21, word, 7);
+    SAME(q.number, 0);
+    SAME(q.found, 1);
+    SAME(q.code, 1);
+    SAME(q.question, 7);
+    SAME(memcmp(word, codeword, 7), 0);
+    SAME(memcmp(row, rows, sizeof(int16_t) * 21), 0);
+    q = tugzeck_question(sheet, BYTES, 2, row, 21, word, 7);
+    SAME(q.number | q.found | q.code | q.question, 0);
+    q = tugzeck_question(sheet, BYTES, 1, row, 21, word, 7);
+    SAME(q.number, TUGZECK_OUTPUT);
+    SAME(q.found | q.code | q.question, 0);
+
+    static uint8_t text[TUGZECK_LISTING];
+    struct tugzeck_listed l = tugzeck_list(sheet, BYTES, text, TUGZECK_LISTING);
+    SAME(l.number, 0);
+    SAME(l.length, sizeof listing - 1);
+    SAME(memcmp(text, listing, sizeof listing), 0);
+    l = tugzeck_list(sheet, BYTES, text, TUGZECK_LISTING - 1);
+    SAME(l.number, TUGZECK_OUTPUT);
+    SAME(l.length, 0);
+
+    printf("compared: %u answers of all eleven calls through the header\n", compared);
+    return 0;
+}
