@@ -10,7 +10,8 @@
  *   - A count is at most PTRDIFF_MAX bytes' worth of elements, as that of any C object is.
  *
  * Every pointer belongs to the caller, and no call keeps one. Nothing is allocated, there is no global state, and nothing is locked: any
- * number of threads may call at once, each with its own outputs. Counts are in elements.
+ * number of threads may call at once, each with its own outputs. A call takes less than 64 KiB of stack (tested, not proved), and of the C
+ * library memset alone. Counts are in elements.
  */
 #ifndef TUGZECK_H
 #define TUGZECK_H
@@ -148,8 +149,8 @@ struct tugzeck_asked tugzeck_question(const uint8_t *sheet, size_t sheet_count, 
 
 /* Writes a question list as a sheet into `output`, which has exactly the sheet's length: TUGZECK_QUESTION_BYTES of each code, and
  * TUGZECK_END_BYTES. The list is its codes, its question numbers, all rows end to end and all handed-in words end to end. Answers 0, or
- * refuses by 12 (more than 200 codes, or as many numbers as codes there are not); then, question by question, by 1, 11 (a question number
- * of 2^24 or more), 2 and 3 (the row or the word runs short, or something is left over after the last question), 5, 6; then by 4. */
+ * refuses by 12 (more than 200 codes, or another count of numbers); then, question by question, by 1, 11 (a question number of 2^24 or
+ * more), 2 and 3 (the row or the word runs short, or something is left over after the last question), 5, 6; then by 4. */
 uint32_t tugzeck_write_sheet(const uint32_t *codes, size_t codes_count, const uint32_t *numbers, size_t numbers_count, const int16_t *rows,
                              size_t rows_count, const uint8_t *words, size_t words_count, uint8_t *output, size_t output_count);
 

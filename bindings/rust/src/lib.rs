@@ -212,9 +212,7 @@ pub fn quantise(code: u32, samples: &[f32], row: &mut [i16]) -> Result<(), Refus
 /// Refuses by 1, 2, 4, 5.
 pub fn decode(code: u32, row: &[i16], word: &mut [u8], soft: &mut [i16]) -> Result<i32, Refusal> {
     // SAFETY: all are slices, and the two outputs are borrowed apart.
-    let d = unsafe {
-        raw::tugzeck_decode(code, row.as_ptr(), row.len(), word.as_mut_ptr(), word.len(), soft.as_mut_ptr(), soft.len())
-    };
+    let d = unsafe { raw::tugzeck_decode(code, row.as_ptr(), row.len(), word.as_mut_ptr(), word.len(), soft.as_mut_ptr(), soft.len()) };
     unless_refused(d.number, d.metric)
 }
 
@@ -242,9 +240,8 @@ pub fn judge_sheet(sheet: &[u8]) -> Result<u32, Refusal> {
 /// none, whatever the outputs. Refuses by the sheet's refusal, then by 4. The whole sheet is judged at every call.
 pub fn question(sheet: &[u8], index: usize, row: &mut [i16], word: &mut [u8]) -> Result<Option<Question>, Refusal> {
     // SAFETY: all are slices, and the two outputs are borrowed apart.
-    let a = unsafe {
-        raw::tugzeck_question(sheet.as_ptr(), sheet.len(), index, row.as_mut_ptr(), row.len(), word.as_mut_ptr(), word.len())
-    };
+    let a =
+        unsafe { raw::tugzeck_question(sheet.as_ptr(), sheet.len(), index, row.as_mut_ptr(), row.len(), word.as_mut_ptr(), word.len()) };
     unless_refused(a.number, (a.found == 1).then_some(Question { code: a.code, number: a.question }))
 }
 

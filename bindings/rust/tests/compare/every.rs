@@ -44,9 +44,8 @@ impl Every {
 
     pub fn best(&self, row: &[i16]) -> Best {
         // the metric of each seven bits, so that a word takes three sums
-        let part = |from: usize, bits: usize| -> i32 {
-            (0..7).map(|b| i32::from(row[from + b]) * if bits >> b & 1 == 0 { 1 } else { -1 }).sum()
-        };
+        let part =
+            |from: usize, bits: usize| -> i32 { (0..7).map(|b| i32::from(row[from + b]) * if bits >> b & 1 == 0 { 1 } else { -1 }).sum() };
         let parts: Vec<[i32; 128]> = (0..3).map(|p| std::array::from_fn(|bits| part(7 * p, bits))).collect();
         let mut greatest = [[i32::MIN; 2]; 21];
         for word in &self.codewords {

@@ -3,9 +3,11 @@
 //! Each test prints what it compared; `cargo test -- --nocapture` shows it.
 
 #[path = "../../../../bench/src/codes.rs"]
+#[rustfmt::skip]
 mod codes;
 #[path = "../../../../bench/src/wolf.rs"]
 #[allow(dead_code)]
+#[rustfmt::skip]
 mod wolf;
 
 mod draw;

@@ -99,8 +99,7 @@ fn first_refusals_of_words() {
             for word in symbols(&mut draw, &code, long) {
                 let none = !is_codeword(&code, &word);
                 for output in lengths(k) {
-                    let expected =
-                        first(&[(1, !is_code(c)), (3, long != code.n), (4, output != k), (6, unfit(&code, &word)), (8, none)]);
+                    let expected = first(&[(1, !is_code(c)), (3, long != code.n), (4, output != k), (6, unfit(&code, &word)), (8, none)]);
                     let mut to = Output::new(output);
                     if counts.met(tugzeck::read_word(c, &word, to.lent()), expected, "read_word") {
                         to.kept();

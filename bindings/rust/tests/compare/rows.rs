@@ -67,9 +67,8 @@ fn rows(number: u32, count: usize, best: impl Fn(&[i16]) -> Best, mut other: imp
 
 fn said(number: u32, against: &str, counts: Counts) {
     let Counts { rows, ties, verdicts: [none, short, best] } = counts;
-    println!(
-        "compared: code {number}, {rows} rows decoded against {against}, {ties} with another tied word; {best} best, {short} short and {none} other words marked"
-    );
+    println!("compared: code {number}, {rows} rows decoded against {against}, {ties} with another tied word");
+    println!("compared: code {number}, {best} best, {short} short and {none} other words marked");
     assert!(ties > 0 && none > 0 && short > 0 && best > 0);
 }
 
@@ -134,7 +133,8 @@ fn by_f64(x: f32) -> i16 {
 #[test]
 fn samples() {
     let mut draw = Draw::new(20);
-    let mut all = vec![0.0, -0.0, f32::INFINITY, f32::NEG_INFINITY, f32::MIN_POSITIVE, f32::MAX, f32::MIN, 1.0, 1.0 / 64.0, -1.0 / 64.0, 3.984375];
+    let mut all =
+        vec![0.0, -0.0, f32::INFINITY, f32::NEG_INFINITY, f32::MIN_POSITIVE, f32::MAX, f32::MIN, 1.0, 1.0 / 64.0, -1.0 / 64.0, 3.984375];
     // denormals
     all.extend([1, 2, 0x007f_ffff, 0x8000_0001, 0x807f_ffff].map(f32::from_bits));
     // halves and whole numbers over 32, and the floats on either side
@@ -156,7 +156,10 @@ fn samples() {
             count += long;
         }
         let mut first = Output::new(long);
-        assert_eq!(tugzeck::quantise(number, &[&[1.0, 1.0 / 64.0, -1.0 / 64.0, 3.984375], &vec![0.0; long - 4][..]].concat(), first.lent()), Ok(()));
+        assert_eq!(
+            tugzeck::quantise(number, &[&[1.0, 1.0 / 64.0, -1.0 / 64.0, 3.984375], &vec![0.0; long - 4][..]].concat(), first.lent()),
+            Ok(())
+        );
         assert_eq!(first.left()[..4], [32, 1, -1, 127]);
     }
     let mut nans = 0;

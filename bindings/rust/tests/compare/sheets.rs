@@ -182,7 +182,9 @@ fn shuffled_sheets() {
         let count = draw.below(4);
         let sheet = paper::write(&any_questions(&mut draw, count));
         let mut words: Vec<&[u8]> = sheet.chunks(4).collect();
-        let head = draw.of(&[0x1100_0001u32, 0x1000_0001, 0x1400_0001, 0xF000_0000, 0xF000_0001, 0xF100_0001, 0x2080_8080, 0x30FF_FFFF, 0]).to_le_bytes();
+        let head = draw
+            .of(&[0x1100_0001u32, 0x1000_0001, 0x1400_0001, 0xF000_0000, 0xF000_0001, 0xF100_0001, 0x2080_8080, 0x30FF_FFFF, 0])
+            .to_le_bytes();
         for _ in 0..1 + draw.below(2) {
             let (a, b) = (draw.below(words.len()), draw.below(words.len()));
             match draw.below(4) {
@@ -294,7 +296,11 @@ fn faulty_lists() {
         let (list, output) = faulty(&mut draw);
         let expected = list.questions().and_then(|questions| {
             let sheet = paper::write(&questions);
-            if sheet.len() == output { Ok(sheet) } else { Err(4) }
+            if sheet.len() == output {
+                Ok(sheet)
+            } else {
+                Err(4)
+            }
         });
         let number = *expected.as_ref().err().unwrap_or(&0);
         assert_eq!(written(&list, output), expected, "{list:?}, {output}");

@@ -25,8 +25,7 @@ fn results(seed: u64) -> Vec<(i32, Vec<i16>, usize)> {
 #[test]
 fn at_once_on_small_stacks() {
     let alone: Vec<_> = (0..8).map(results).collect();
-    let threads: Vec<_> =
-        (0..8).map(|seed| Builder::new().stack_size(STACK).spawn(move || results(seed)).expect("a thread")).collect();
+    let threads: Vec<_> = (0..8).map(|seed| Builder::new().stack_size(STACK).spawn(move || results(seed)).expect("a thread")).collect();
     let at_once: Vec<_> = threads.into_iter().map(|t| t.join().expect("it ends")).collect();
     assert_eq!(alone, at_once);
     println!("compared: 8 threads at once, each with a stack of {} KiB, with one thread", STACK / 1024);

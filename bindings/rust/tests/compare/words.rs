@@ -102,7 +102,11 @@ fn membership() {
 /// The syndrome of a binary word: its value at α; with four roots, that and 8 times its value at α^3.
 fn syndrome(code: &Code, layer: &[u8]) -> usize {
     let first = value(code, 1, layer);
-    if code.roots < 3 { first } else { first | value(code, 3, layer) << code.m }
+    if code.roots < 3 {
+        first
+    } else {
+        first | value(code, 3, layer) << code.m
+    }
 }
 
 /// The member of least weight of every coset, of all binary words.
@@ -148,10 +152,10 @@ fn splits() {
             let configuration = tugzeck::split(number, &word, bch.lent()).expect("a codeword");
             let mut expected = [0u16; 4];
             let mut left = Vec::new();
-            for j in 0..code.m {
+            for (j, place) in expected.iter_mut().enumerate().take(code.m) {
                 let layer: Vec<u8> = word.iter().map(|c| c >> j & 1).collect();
                 let s = syndrome(&code, &layer);
-                expected[j] = s as u16;
+                *place = s as u16;
                 left.extend(layer.iter().zip(&leaders[s]).map(|(a, b)| a ^ b));
             }
             assert_eq!(configuration, expected, "code {number}, {word:?}");
