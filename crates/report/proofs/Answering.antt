@@ -1,27 +1,24 @@
 -- A question that a sheet can hold is refused by neither decoder nor marker, so what they say makes its line.
 -- Assumes nothing.
-use mathlib.Core.Path.{_≡_, refl, sym, ap, ap₂, _∙_}
-use mathlib.Core.Bool.{Bool, true, false, _&&_, not, cond}
-use mathlib.Core.List.{List, [], _∷_, _++_}
-use Prim.Native.Nat.{ℕ, zero, suc, _+_, _*_, _^_, _≤_, _<_}
+use mathlib.Core.Path.{_≡_, refl, _∙_}
+use mathlib.Core.Bool.{true}
+use mathlib.Core.List.{List}
+use Prim.Native.Nat.{ℕ, zero, suc, _+_, _^_, _≤_, _<_}
 use native.Mathlib.Omega.{arith}
 use borrow.Author.Tests.{eq-eqb}
-use lib.Dec.{eqb}
 use lib.ListN.{length}
 use lib.IntN.{ℤ}
-use Rattle.code.specs.Code.{code-good, width, roots, long, symbols-good}
+use Rattle.code.specs.Code.{width, roots, long}
 use Rattle.code.specs.Bits.{row-long}
 use Rattle.code.specs.Calls.{Outcome}
-use Rattle.metric.specs.Row.{row-good}
 use Rattle.metric.specs.Metric.{Decoded, Marked}
 use Rattle.decoder.specs.declared.Decoding.{Decoding}
 use Rattle.decoder.specs.declared.Mark.{Mark}
 use Rattle.decoder.specs.Calls.{decode-refusal, Decode-says, mark-refusal, Mark-says}
-use Rattle.sheet.specs.Sheet.{Question, question-good}
-use Rattle.sheet.proofs.Trips.{Good, good-parts}
+use Rattle.sheet.specs.Sheet.{question-good}
+use Rattle.sheet.proofs.Trips.{good-parts}
 use Rattle.text.specs.Text.{question-line}
 use Rattle.text.specs.Within.{Written}
-use Rattle.report.specs.Listing.{Line}
 use Rattle.report.specs.Calls.{line-most}
 use Rattle.report.specs.Within.{question, Put-line}
 use Rattle.report.proofs.Bounds.{Fine, line-fits}

@@ -1,8 +1,7 @@
--- `report::put_answer` meets its contract.
+-- `report::put_answer` meets its contract: decoder and marker refuse nothing, and their answers make the question's line.
 -- Assumes nothing.
 use Rattle.report.proofs.Answering.{said, said-fits, room, put-line}
 use mir.Syntax.{w32}
-use Rattle.report.proofs.Answering.{said, said-fits, put-line}
 use mir.Facts.{toZ-ofZ}
 use denote.Ref.{now}
 use borrow.Author.Needs.{needs}

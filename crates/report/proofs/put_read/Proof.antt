@@ -1,4 +1,4 @@
--- `report::put_read` meets its contract.
+-- `report::put_read` meets its contract: what is read at the place is the question that stands there.
 -- Assumes nothing.
 use Rattle.report.proofs.Passing.{read, here}
 use Rattle.report.specs.Within.{cursor}
