@@ -76,6 +76,9 @@ pub here :
 unfolding question question-here question-in cursor
 here bs at w c n s rs ws ew ec en r = rw (ec, en, ew, r .row-is, r .word-is)
 
+pub good-here : {bs : List ℕ} {at : ℕ} {q : Question} → q ≡ question-here bs (cursor at) → Asked bs at → question-good q ≡ true
+good-here e k = rw e (k .good)
+
 -- ---- the next of an accepted sheet
 pub bytes : (bs : List ℕ) → ((i : ℕ) → i < length bs → getD bs i 0 < 256) → all-bytes bs ≡ true
 unfolding all-bytes
