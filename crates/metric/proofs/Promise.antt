@@ -19,7 +19,7 @@ use Rattle.metric.specs.Row.{row-good}
 use Rattle.metric.specs.Metric.{metric-of, metric, at-most, Greatest, Soft, Marked}
 use Rattle.metric.specs.Cost.{costZero, costOne, cost, top, Least}
 use Rattle.metric.specs.Right.{Soft-right, Marked-right}
-use Rattle.metric.specs.Promise.{Greatest-there, Greatest-with-there, Marked-there, Greatest-one, Greatest-with-one, Soft-width, Best-of-two, Decoded-one, Marked-one, Soft-enough, Decoded-enough, Marked-enough}
+use Rattle.metric.specs.Promise.{Greatest-there, Greatest-with-there, Decoded-there, Marked-there, Greatest-one, Greatest-with-one, Soft-width, Best-of-two, Decoded-one, Marked-one, Soft-enough, Decoded-enough, Marked-enough}
 use Rattle.metric.proofs.Integers.{plus, minus, same, le-at-most, at-most-true, at-most-false, at-most-refl, at-most-antisym}
 use Rattle.metric.proofs.Bounds.{row-first, row-rest, costs-le}
 use Rattle.metric.proofs.Costs.{codeword-bits, greatest, greatest-with}
@@ -183,6 +183,39 @@ marked-one m r rs ws v w d e p = go w (marked-enough m r rs ws v d p)
         (a .0, a .1 ∙ sym (q .1 .3))
     go (suc (suc zero)) k q = let a : (v ≡ 2) × (d ≡ pos 0) = k .best .1 (q .0) (q .1 .all) in (a .0, a .1 ∙ sym (q .2))
     go (suc (suc (suc w))) k q = absurd q
+
+-- A DECODING: a word that meets the greatest, and the soft outputs one after another
+collected :
+    (n : ℕ) (P : ℕ → ℤ → Type 0) → ((b : ℕ) → b < n → (s : ℤ) × P b s) →
+    (so : List ℤ) × (length so ≡ n) × ((b : ℕ) → b < n → P b (getD so b (pos 0)))
+collected zero P f = ([], refl, λ b h. absurd (omega arith))
+collected (suc n) P f =
+    let s = f 0 (omega arith) in
+    let t = collected n (λ b. P (suc b)) (λ b h. f (suc b) (omega arith)) in
+    (s .0 ∷ t .0, ap suc (t .1), at (s .0) (t .0) (s .1) (t .2))
+  where
+    at :
+        (s : ℤ) (so : List ℤ) → P 0 s → ((b : ℕ) → b < n → P (suc b) (getD so b (pos 0))) → (b : ℕ) → b < suc n →
+        P b (getD (s ∷ so) b (pos 0))
+    at s so p q zero h = p
+    at s so p q (suc b) h = q b (omega arith)
+
+pub decoded-there : Decoded-there
+unfolding Decoded-there Greatest-there Greatest-with-there
+decoded-there m r rs w few l =
+    let g = greatest-there m r rs w few l in
+    let so = collected (row-long m) (Soft m r rs) soft-at in (
+      g .1 .met .0,
+      g .0,
+      so .0,
+      record { word = g .1 .met .1; own = sym (g .1 .met .2); most = g .1 .all; count = so .1; softly = so .2 },
+    )
+  where
+    soft-at : (b : ℕ) → b < row-long m → (s : ℤ) × Soft m r rs b s
+    soft-at b h =
+        let z = greatest-with-there m r b 0 rs w few l h (omega arith) in
+        let o = greatest-with-there m r b 1 rs w few l h (omega arith) in
+        (z .0 -ℤ o .0, record { of-zero = z .0; of-one = o .0; greatest-zero = z .1; greatest-one = o .1; difference = refl })
 
 -- ONE DECODING, up to the word
 pub decoded-one : Decoded-one

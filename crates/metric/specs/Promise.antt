@@ -41,7 +41,12 @@ Best-of-two =
     (m r b : ℕ) (rs : List ℤ) (e g h : ℤ) → Greatest m r rs e → Greatest-with m r rs b 0 g → Greatest-with m r rs b 1 h →
     e ≡ cond (at-most h g) g h
 
--- two decodings of a row differ at most in the word
+-- a row has a decoding, and two differ at most in the word
+unfoldable pub Decoded-there : Type 0
+Decoded-there =
+    (m r : ℕ) (rs : List ℤ) → width-good m ≡ true → r < long m → length rs ≡ row-long m →
+    (ws : List ℕ) × (best : ℤ) × (soft : List ℤ) × Decoded m r rs ws best soft
+
 unfoldable pub Decoded-one : Type 0
 Decoded-one =
     (m r : ℕ) (rs : List ℤ) (vs ws : List ℕ) (e g : ℤ) (so to : List ℤ) → Decoded m r rs vs e so → Decoded m r rs ws g to → (e ≡ g) × (so ≡ to)

@@ -4,6 +4,7 @@ mod decodings;
 mod fields;
 mod marks;
 mod samples;
+mod sheets;
 mod splits;
 mod tally;
 
@@ -16,6 +17,7 @@ fn main() {
     report(b"quantiser", samples::agree());
     report(b"decoder", decodings::agree());
     report(b"marker", marks::agree());
+    report(b"sheets", sheets::agree());
 }
 
 fn report(topic: &[u8], t: Tally) {

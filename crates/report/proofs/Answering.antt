@@ -1,29 +1,26 @@
 -- A question that a sheet can hold is refused by neither decoder nor marker, so what they say makes its line.
 -- Assumes nothing.
-use mathlib.Core.Path.{_≡_, refl, sym, ap, ap₂, _∙_}
-use mathlib.Core.Bool.{Bool, true, false, _&&_, not, cond}
-use mathlib.Core.List.{List, [], _∷_, _++_}
-use Prim.Native.Nat.{ℕ, zero, suc, _+_, _*_, _^_, _≤_, _<_}
+use mathlib.Core.Path.{_≡_, refl, _∙_}
+use mathlib.Core.Bool.{true}
+use mathlib.Core.List.{List}
+use Prim.Native.Nat.{ℕ, zero, suc, _+_, _^_, _≤_, _<_}
 use native.Mathlib.Omega.{arith}
 use borrow.Author.Tests.{eq-eqb}
-use lib.Dec.{eqb}
 use lib.ListN.{length}
 use lib.IntN.{ℤ}
-use Rattle.code.specs.Code.{code-good, width, roots, long, symbols-good}
+use Rattle.code.specs.Code.{width, roots, long}
 use Rattle.code.specs.Bits.{row-long}
 use Rattle.code.specs.Calls.{Outcome}
-use Rattle.metric.specs.Row.{row-good}
-use Rattle.metric.specs.Metric.{Decoded, Marked}
+use Rattle.metric.specs.Metric.{Marked}
 use Rattle.decoder.specs.declared.Decoding.{Decoding}
 use Rattle.decoder.specs.declared.Mark.{Mark}
 use Rattle.decoder.specs.Calls.{decode-refusal, Decode-says, mark-refusal, Mark-says}
-use Rattle.sheet.specs.Sheet.{Question, question-good}
-use Rattle.sheet.proofs.Trips.{Good, good-parts}
+use Rattle.sheet.specs.Sheet.{question-good}
+use Rattle.sheet.proofs.Trips.{good-parts}
 use Rattle.text.specs.Text.{question-line}
 use Rattle.text.specs.Within.{Written}
-use Rattle.report.specs.Listing.{Line}
 use Rattle.report.specs.Calls.{line-most}
-use Rattle.report.specs.Within.{question, Put-line}
+use Rattle.report.specs.Within.{question, Answered, Put-line}
 use Rattle.report.proofs.Bounds.{Fine, line-fits}
 
 done : (refusal r : ℕ) (D K : Type 0) → refusal ≡ 0 → Outcome refusal r D K → D
@@ -31,48 +28,59 @@ unfolding Outcome
 done zero r D K e o = o .1
 done (suc n) r D K e o = absurd (omega arith)
 
--- what decoder and marker say of a question
-pub record Said (c n : ℕ) (rs : List ℤ) (ws us : List ℕ) (best : ℤ) (so : List ℤ) (verdict : ℕ) (shortfall : ℤ) : Type 0 where
-  pub few : n < 2 ^ 24
-  pub fine : Fine c rs
-  pub decoded : Decoded (width c) (roots c) rs us best so
-  pub marked : Marked verdict shortfall (width c) (roots c) rs ws
-
-pub said :
-    (c n : ℕ) (rs : List ℤ) (ws : List ℕ) (d : Decoding) (k : Mark) (b us : List ℕ) (s so : List ℤ) → question-good (question c n rs ws) ≡ true →
-    length b ≡ length ws → length s ≡ length rs → Decode-says c rs d b us s so → Mark-says c rs ws k →
-    Said c n rs ws us (d .metric) so (k .verdict) (k .shortfall)
-unfolding question Decode-says Mark-says decode-refusal mark-refusal
-said c n rs ws d k b us s so q lb ls x y =
+-- the decoder takes the row of a question
+pub answered :
+    (c n : ℕ) (rs : List ℤ) (ws : List ℕ) (d : Decoding) (b us : List ℕ) (s so : List ℤ) → question-good (question c n rs ws) ≡ true →
+    length b ≡ length ws → length s ≡ length rs → Decode-says c rs d b us s so → Answered c rs (d .metric) so
+unfolding question Decode-says decode-refusal
+answered c n rs ws d b us s so q lb ls x =
     let g = good-parts (question c n rs ws) q in
     let m = width c in
     let er = eq-eqb (length rs) (row-long m) (g .row-length) in
-    let ew = eq-eqb (length ws) (long m) (g .word-length) in
     let eb = eq-eqb (length b) (long m) (lb ∙ g .word-length) in
     let es = eq-eqb (length s) (row-long m) (ls ∙ g .row-length) in
+    record { word = us; decoded = done _ (d .number) _ _ (rw (g .known, er, eb, es, g .row-fine)) x }
+
+-- what decoder and marker say of a question
+pub record Said (c n : ℕ) (rs : List ℤ) (ws : List ℕ) (best : ℤ) (so : List ℤ) (verdict : ℕ) (shortfall : ℤ) : Type 0 where
+  pub few : n < 2 ^ 24
+  pub fine : Fine c rs
+  pub answer : Answered c rs best so
+  pub marked : Marked verdict shortfall (width c) (roots c) rs ws
+
+-- the marker takes its word
+pub said :
+    (c n : ℕ) (rs : List ℤ) (ws : List ℕ) (k : Mark) (g : ℤ) (so : List ℤ) → question-good (question c n rs ws) ≡ true → Answered c rs g so →
+    Mark-says c rs ws k → Said c n rs ws g so (k .verdict) (k .shortfall)
+unfolding question Mark-says mark-refusal
+said c n rs ws k best so q x y =
+    let g = good-parts (question c n rs ws) q in
+    let er = eq-eqb (length rs) (row-long (width c)) (g .row-length) in
+    let ew = eq-eqb (length ws) (long (width c)) (g .word-length) in
     record {
       few = g .small;
       fine = record { known = g .known; whole = g .row-length; good = g .row-fine };
-      decoded = done _ (d .number) _ _ (rw (g .known, er, eb, es, g .row-fine)) x;
+      answer = x;
       marked = done _ (k .number) _ _ (rw (g .known, er, ew, g .row-fine, g .word-fine)) y;
     }
 
-pub said-fits : {c n : ℕ} {rs : List ℤ} {ws us : List ℕ} {g : ℤ} {so : List ℤ} {v : ℕ} {d : ℤ} → Said c n rs ws us g so v d →
+pub said-fits : {c n : ℕ} {rs : List ℤ} {ws : List ℕ} {g : ℤ} {so : List ℤ} {v : ℕ} {d : ℤ} → Said c n rs ws g so v d →
     length (question-line n c g v d so) ≤ line-most
-said-fits {c} {n} {rs} {ws} {us} {g} {so} {v} {d} s = line-fits n c rs us ws g so v d (s .few) (s .fine) (s .decoded) (s .marked)
+said-fits {c} {n} {rs} {ws} {g} {so} {v} {d} s =
+    line-fits n c rs (s .answer .word) ws g so v d (s .few) (s .fine) (s .answer .decoded) (s .marked)
 
-pub put-line : {c n at next : ℕ} {rs : List ℤ} {ws us o p : List ℕ} {g : ℤ} {so : List ℤ} {v : ℕ} {d : ℤ} → Said c n rs ws us g so v d →
+pub put-line : {c n at next : ℕ} {rs : List ℤ} {ws o p : List ℕ} {g : ℤ} {so : List ℤ} {v : ℕ} {d : ℤ} → Said c n rs ws g so v d →
     Written at (question-line n c g v d so) o p next → Put-line (question c n rs ws) at o p next
 unfolding question
-put-line {c} {n} {at} {next} {rs} {ws} {us} {o} {p} {g} {so} {v} {d} s w =
+put-line {c} {n} {at} {next} {rs} {ws} {o} {p} {g} {so} {v} {d} s w =
     record {
       text = question-line n c g v d so;
       line =
           record {
-            word = us;
+            word = s .answer .word;
             best = g;
             soft = so;
-            decoded = s .decoded;
+            decoded = s .answer .decoded;
             verdict = v;
             shortfall = d;
             marked = s .marked;

@@ -1,9 +1,9 @@
 -- How long a line is at most: a best metric is not below 0, since it is at least that of the zero word and that of the word of ones, of which one is not.
 -- Assumes nothing.
-use mathlib.Core.Path.{_≡_, refl, sym, ap, ap₂, _∙_}
-use mathlib.Core.Bool.{Bool, true, false}
-use mathlib.Core.List.{List, [], _∷_, _++_}
-use Prim.Native.Nat.{ℕ, zero, suc, _+_, _*_, _^_, _-_, _≤_, _<_, min}
+use mathlib.Core.Path.{_≡_, refl}
+use mathlib.Core.Bool.{true, false}
+use mathlib.Core.List.{List, [], _∷_}
+use Prim.Native.Nat.{ℕ, zero, suc, _+_, _*_, _^_, _-_, _≤_, _<_}
 use native.Mathlib.Nat.{mul-le-mul-right}
 use native.Mathlib.Omega.{arith}
 use lib.Dec.{lit<, lit≤}
@@ -17,11 +17,11 @@ use Rattle.metric.specs.Row.{row-good}
 use Rattle.metric.specs.Metric.{metric, at-most, Greatest, Soft, Decoded, Marked}
 use Rattle.metric.specs.Promise.{Soft-width}
 use Rattle.metric.proofs.Promise.{soft-width}
-use Rattle.metric.specs.Cost.{costZero, costOne, discrepancy, weight-of, cost, top}
+use Rattle.metric.specs.Cost.{costZero, costOne, discrepancy, weight-of, cost}
 use Rattle.metric.proofs.Integers.{at-most-true, at-most-false, minus}
 use Rattle.metric.proofs.Bounds.{weight-le, cost-le}
 use Rattle.metric.proofs.Costs.{top-own, top-parts}
-use Rattle.text.specs.Text.{signed, verdict-field, shortfall-field, least-magnitude, question-line}
+use Rattle.text.specs.Text.{signed, shortfall-field, least-magnitude, question-line}
 use Rattle.text.proofs.Decimal.{digits-at-most}
 use Rattle.text.proofs.Fields.{bits-length}
 use Rattle.text.proofs.Lines.{question-length, signed-at-most, verdict-at-most, least-at-most}

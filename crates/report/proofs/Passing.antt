@@ -1,14 +1,13 @@
 -- From one question to the next: the reader yields the question that stands in the sheet's list, and its line follows those before.
 -- Assumes nothing.
-use mathlib.Core.Path.{_≡_, refl, sym, ap, ap₂, _∙_, subst}
-use mathlib.Core.Bool.{Bool, true, false, _&&_, not, cond}
+use mathlib.Core.Path.{_≡_, refl, sym, ap, ap₂, _∙_}
+use mathlib.Core.Bool.{true, _&&_}
 use mathlib.Core.List.{List, [], _∷_, _++_, append-assoc, append-nil}
 use Prim.Native.Nat.{ℕ, zero, suc, _+_, _*_, _≤_, _<_}
 use native.Mathlib.Nat.{suc-mul, mul-le-mul-right}
 use native.Mathlib.Numerals.{add-one}
 use native.Mathlib.Omega.{arith}
 use borrow.Author.Tests.{eq-eqb, lt-ltb}
-use lib.Dec.{eqb, ltb}
 use lib.ListN.{length, getD, take, drop, length-drop}
 use lib.Seq.{take-all, length-take-le}
 use lib.IntN.{ℤ}
@@ -23,17 +22,15 @@ use Rattle.sheet.proofs.Judging.{width-fine, row-long-le, long-le}
 use Rattle.sheet_reader.specs.declared.Cursor.{Cursor}
 use Rattle.sheet_reader.specs.declared.Step.{Step}
 use Rattle.sheet_reader.specs.declared.Yield.{Yield}
-use Rattle.sheet_reader.specs.declared.Yield.the-variants.{Found, NoneLeft, Refused}
+use Rattle.sheet_reader.specs.declared.Yield.the-variants.{Found}
 use Rattle.sheet_reader.specs.Calls.{opened, answered, moved, yielded, filled, question-here, Yield-says}
 use Rattle.sheet_reader.specs.Promise.{after-yields, Yields-in-order}
 use Rattle.sheet_reader.proofs.Says.{standing}
 use Rattle.sheet_reader.proofs.Order.{yields-in-order}
-use Rattle.text.specs.Within.{Written}
 use Rattle.text.proofs.Writing.{nothing, then}
-use Rattle.report.specs.declared.Place.{Place}
 use Rattle.report.specs.Listing.{Line, Lines}
 use Rattle.report.specs.Calls.{line-most}
-use Rattle.report.specs.Within.{question, cursor, Put-line, Put-lines, Asked, Lengths, Passed}
+use Rattle.report.specs.Within.{question, cursor, Put-line, Put-lines, Asked, Lengths}
 
 -- ---- one question
 pub record Read (bs : List ℕ) (at : ℕ) (s : Step) (rs : List ℤ) (ws : List ℕ) : Type 0 where
@@ -78,6 +75,9 @@ pub here :
     question c n rs ws ≡ question-here bs (cursor at)
 unfolding question question-here question-in cursor
 here bs at w c n s rs ws ew ec en r = rw (ec, en, ew, r .row-is, r .word-is)
+
+pub good-here : {bs : List ℕ} {at : ℕ} {q : Question} → q ≡ question-here bs (cursor at) → Asked bs at → question-good q ≡ true
+good-here e k = rw e (k .good)
 
 -- ---- the next of an accepted sheet
 pub bytes : (bs : List ℕ) → ((i : ℕ) → i < length bs → getD bs i 0 < 256) → all-bytes bs ≡ true

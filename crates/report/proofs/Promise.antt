@@ -1,20 +1,21 @@
--- The statements of specs/Promise.antt.
+-- The statements of specs/Promise.antt: one line a question, so by the lines; how long, by the longest line.
 -- Assumes nothing.
 use mathlib.Core.Path.{_≡_, refl, sym, ap, ap₂, _∙_}
 use mathlib.Core.List.{List, [], _∷_, _++_}
 use mathlib.Core.Bool.{Bool, true, false}
-use Prim.Native.Nat.{ℕ, zero, suc, _+_, _*_, _^_, _≤_, _<_}
+use Prim.Native.Nat.{ℕ, zero, suc, _*_, _≤_, _<_}
 use native.Mathlib.Nat.{suc-mul, mul-le-mul-right}
 use native.Mathlib.Omega.{arith}
 use borrow.Author.Tests.{ltb-true, ltb-false}
-use lib.Dec.{ltb, lit<, lit≤}
+use lib.Dec.{ltb, lit<}
 use lib.ListN.{length, length-append}
 use Rattle.code.specs.Code.{width, roots}
-use Rattle.metric.specs.Promise.{Decoded-one, Marked-one}
-use Rattle.metric.proofs.Promise.{decoded-one, marked-one}
+use Rattle.code.proofs.Accepted.{width-fine, roots-few}
+use Rattle.metric.specs.Promise.{Decoded-there, Decoded-one, Marked-there, Marked-one}
+use Rattle.metric.proofs.Promise.{decoded-there, decoded-one, marked-there, marked-one}
 use Rattle.sheet.specs.Sheet.{Question, most, question-good, all-good, sheet-refusal, questions}
 use Rattle.sheet.specs.Calls.{judgement, judged}
-use Rattle.sheet.specs.Promise.{all-bytes, Read-written}
+use Rattle.sheet.specs.Promise.{Read-written}
 use Rattle.sheet.proofs.Items.{both}
 use Rattle.sheet.proofs.Trips.{Good, good-parts, read-written}
 use Rattle.sheet_reader.proofs.Places.{judged-large}
@@ -23,9 +24,42 @@ use Rattle.text.proofs.Decimal.{digits-at-most}
 use Rattle.text.proofs.Lines.{count-length, refused-length}
 use Rattle.report.specs.Listing.{Line, Lines, Printed, Listing}
 use Rattle.report.specs.Calls.{line-most, listing-most}
-use Rattle.report.specs.Promise.{Listing-one, Listing-fits}
+use Rattle.report.specs.Promise.{Listing-there, Listing-one, Listing-fits}
 use Rattle.report.proofs.Bounds.{Fine, line-fits}
 
+-- THERE IS A LISTING: a line for each question of an accepted sheet, which is one that a sheet can hold
+line-there : (q : Question) → question-good q ≡ true → (t : List ℕ) × Line q t
+unfolding Decoded-there Marked-there
+line-there q h =
+    let l = good-parts q h .row-length in
+    let w = width-fine (q .code) in
+    let f = roots-few (q .code) in
+    let d = decoded-there (width (q .code)) (roots (q .code)) (q .row) w f l in
+    let k = marked-there (width (q .code)) (roots (q .code)) (q .row) (q .word) w f l in (
+      question-line (q .number) (q .code) (d .1) (k .0) (k .1) (d .2),
+      record { word = d .0; best = d .1; soft = d .2; decoded = d .3; verdict = k .0; shortfall = k .1; marked = k .2; text-is = refl },
+    )
+
+lines-there : (qs : List Question) → all-good qs ≡ true → (t : List ℕ) × Lines qs t
+unfolding Lines all-good
+lines-there [] h = ([], refl)
+lines-there (q ∷ qs) h =
+    let p = both (question-good q) (all-good qs) h in
+    let a = line-there q (p .0) in
+    let b = lines-there qs (p .1) in
+    (a .0 ++ b .0, (a .0, b .0, a .1, b .1, refl))
+
+pub listing-there : Listing-there
+unfolding Listing-there Listing Printed Read-written
+listing-there bs h = go (sheet-refusal bs) refl
+  where
+    go : (e : ℕ) → sheet-refusal bs ≡ e → (t : List ℕ) × Printed e (questions bs) t
+    go zero r =
+        let l = lines-there (questions bs) (read-written bs h r .0) in
+        (header ++ (l .0 ++ count-line (length (questions bs))), (l .0, l .1, refl))
+    go (suc e) r = (refused-line (suc e), refl)
+
+-- AND ONLY ONE
 line-one : (q : Question) (s t : List ℕ) → Line q s → Line q t → s ≡ t
 unfolding Decoded-one Marked-one
 line-one q s t v w =

@@ -1,27 +1,27 @@
 -- The whole text: a refusal's line, or the header, the lines and the count, one behind the other from the output's start.
 -- Assumes nothing.
-use mathlib.Core.Path.{_≡_, refl, sym, ap, ap₂, _∙_}
-use mathlib.Core.Bool.{Bool, true, false, cond}
-use mathlib.Core.List.{List, [], _∷_, _++_}
+use mathlib.Core.Path.{_≡_, refl, sym, ap, _∙_}
+use mathlib.Core.Bool.{true, cond}
+use mathlib.Core.List.{List, _++_}
 use Prim.Native.Nat.{ℕ, zero, suc, _+_, _-_, _*_, _≤_, _<_}
 use native.Mathlib.Nat.{zero-add, mul-le-mul-right}
 use native.Mathlib.Omega.{arith}
 use borrow.Author.Tests.{eq-eqb, ne-eqb}
 use lib.Dec.{eqb}
-use lib.ListN.{length, take, drop, length-append}
+use lib.ListN.{length, drop, length-append}
 use Rattle.code.specs.Calls.{Outcome}
-use Rattle.sheet.specs.Sheet.{Question, most, all-good, sheet-refusal, questions}
+use Rattle.sheet.specs.Sheet.{most, all-good, sheet-refusal, questions}
 use Rattle.sheet.specs.Calls.{judgement, judged}
 use Rattle.sheet.specs.Promise.{all-bytes, Read-written}
 use Rattle.sheet.proofs.Trips.{read-written}
-use Rattle.sheet_reader.proofs.Places.{judged-small, judged-large}
-use Rattle.text.specs.Text.{feed, space, digit, decimal-from, decimal, line, question-word, code-word, best-word, verdict-word, short-word, bits-word, least-word, header, count-line, refused-line}
+use Rattle.sheet_reader.proofs.Places.{judged-large}
+use Rattle.text.specs.Text.{decimal-from, decimal, line, question-word, code-word, best-word, verdict-word, short-word, bits-word, least-word, header, count-line, refused-line}
 use Rattle.text.specs.Within.{put, Written}
 use Rattle.text.proofs.Decimal.{digits-at-most}
 use Rattle.text.proofs.Lines.{refused-length}
 use Rattle.text.proofs.Writing.{written-length, then}
 use Rattle.report.specs.declared.Listed.{Listed}
-use Rattle.report.specs.Listing.{Lines, Printed, Listing}
+use Rattle.report.specs.Listing.{Printed, Listing}
 use Rattle.report.specs.Calls.{line-most, listing-most, List-says}
 use Rattle.report.specs.Within.{Put-lines, Accepted}
 use Rattle.report.proofs.Promise.{lines-short, count-short, header-length, few-is}

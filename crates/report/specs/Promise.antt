@@ -8,7 +8,11 @@ use Rattle.sheet.specs.Promise.{all-bytes}
 use Rattle.report.specs.Listing.{Listing}
 use Rattle.report.specs.Calls.{listing-most}
 
--- a sheet has one listing, so that a promise of it fixes every byte
+-- a sheet has a listing
+unfoldable pub Listing-there : Type 0
+Listing-there = (bs : List ℕ) → all-bytes bs ≡ true → (t : List ℕ) × Listing bs t
+
+-- and only one, so that a promise of it fixes every byte
 unfoldable pub Listing-one : Type 0
 Listing-one = (bs s t : List ℕ) → Listing bs s → Listing bs t → s ≡ t
 

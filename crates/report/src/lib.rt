@@ -10,7 +10,7 @@ ghost use Rattle.code.specs.Bits.{row-long};
 ghost use Rattle.sheet.specs.Sheet.{as-words, head-code, question-good, sheet-refusal, questions};
 ghost use Rattle.sheet_reader.specs.Calls.{question-here, yielded};
 ghost use Rattle.report.specs.Calls.{line-most, List-says};
-ghost use Rattle.report.specs.Within.{question, Asked, Lengths, Passed, Accepted, Put-line, Put-lines};
+ghost use Rattle.report.specs.Within.{question, Answered, Asked, Lengths, Passed, Accepted, Put-line, Put-lines};
 
 // 0 and the number of bytes of the text, or the number of a refusal and 0.
 #[repr(C)]
@@ -28,33 +28,30 @@ struct Place {
     text: usize,
 }
 
-// Decodes and marks a question, and writes its line. `best` and `soft` are for the decoding.
+// Marks the word of a question whose row was decoded, and writes the question's line.
 fn put_answer(
     code: u32,
     number: u32,
+    metric: i32,
     row: &[i16],
     word: &[u8],
-    best: &mut [u8],
-    soft: &mut [i16],
+    soft: &[i16],
     out: &mut [u8],
     at: usize,
 ) -> usize
     requires { ⌜ question-good (question code number (now row) (now word)) ≡ true ⌝ }
-    requires { ⌜ length (now best) ≡ length (now word) ⌝ }
-    requires { ⌜ length (now soft) ≡ length (now row) ⌝ }
+    requires { ⌜ Answered code (now row) metric (now soft) ⌝ }
     requires { ⌜ at + line-most ≤ length (now out) ⌝ }
     ensures { λ r. ⌜ Put-line (question code number (now (row .entry)) (now (word .entry))) at (now (out .entry)) (now (out .exit)) r ⌝ }
 {
-    let decoding = decoder::decode(code, row, best, soft);
-    let metric = decoding.metric;
     let mark = decoder::judge_word(code, row, word);
     let verdict = mark.verdict;
     let shortfall = mark.shortfall;
     text::put_question(number, code, metric, verdict, shortfall, soft, out, at)
 }
 
-// Reads the question that begins at a word of the sheet, and writes its line. The other slices hold its row and its word, and
-// what is decoded.
+// Reads the question that begins at a word of the sheet, decodes its row and writes its line. The other slices hold its row and
+// its word, and what is decoded.
 fn put_read(
     sheet: &[u8],
     place: Place,
@@ -71,17 +68,12 @@ fn put_read(
 {
     let at = place.word;
     let w = sheet::words::word_at(sheet, at);
+    let code = sheet::words::head_code_of(w);
+    let number = sheet::words::low_of(w);
     let step = sheet_reader::question_at(sheet, Cursor { refusal: 0, at }, row, word);
-    let text = put_answer(
-        sheet::words::head_code_of(w),
-        sheet::words::low_of(w),
-        row,
-        word,
-        best,
-        soft,
-        out,
-        place.text,
-    );
+    let decoding = decoder::decode(code, row, best, soft);
+    let metric = decoding.metric;
+    let text = put_answer(code, number, metric, row, word, soft, out, place.text);
     let next = step.next;
     Place {
         word: next.at,

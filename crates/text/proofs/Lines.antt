@@ -1,6 +1,6 @@
 -- A question's line is its three parts, and every line has a bounded length.
 -- Assumes nothing.
-use mathlib.Core.Path.{_≡_, refl, sym, ap, ap₂, _∙_}
+use mathlib.Core.Path.{_≡_}
 use mathlib.Core.List.{List, [], _∷_, _++_, append-assoc}
 use Prim.Native.Nat.{ℕ, zero, suc, _+_, _^_, _≤_, _<_, min}
 use native.Mathlib.Omega.{arith}
@@ -8,7 +8,7 @@ use lib.Dec.{lit≤}
 use lib.ListN.{length, getD, length-append}
 use lib.IntN.{ℤ, pos, negsuc, natAbs}
 use Rattle.metric.specs.Cost.{costZero, costOne}
-use Rattle.text.specs.Text.{feed, space, decimal, signed, line, none-word, short-word, best-word, question-word, refused-word, verdict-field, shortfall-field, bits-field, least-from, least-magnitude, question-line, count-line, refused-line}
+use Rattle.text.specs.Text.{feed, decimal, signed, line, none-word, short-word, best-word, question-word, refused-word, verdict-field, shortfall-field, bits-field, least-from, least-magnitude, question-line, count-line, refused-line}
 use Rattle.text.specs.Within.{ended, numbers-part, mark-part, soft-part}
 use Rattle.text.proofs.Decimal.{digits-at-most}
 

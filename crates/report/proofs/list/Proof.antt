@@ -1,4 +1,4 @@
--- `report::list` meets its contract.
+-- `report::list` meets its contract: a refused sheet has its one line, any other the header, the lines and the count, and each finds room.
 -- Assumes nothing.
 use Rattle.report.proofs.Whole.{wrong-length, refused-room, refused, counted, header-room, lines-room, count-room, accepted}
 use Rattle.report.proofs.Passing.{bytes}

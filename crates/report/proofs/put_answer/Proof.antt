@@ -1,53 +1,34 @@
--- `report::put_answer` meets its contract.
+-- `report::put_answer` meets its contract: the marker refuses nothing, and its answer and the decoder's make the question's line.
 -- Assumes nothing.
 use Rattle.report.proofs.Answering.{said, said-fits, room, put-line}
 use mir.Syntax.{w32}
-use Rattle.report.proofs.Answering.{said, said-fits, put-line}
 use mir.Facts.{toZ-ofZ}
 use denote.Ref.{now}
 use borrow.Author.Needs.{needs}
 use Rattle.report.proofs.put_answer.Statement.{statement}
 use Rattle.report.proofs.put_answer.Tie as tie
 
-decode-requires : tie.Need-decode-requires
-decode-requires c κs = search needs
-
 judge-word-requires : tie.Need-judge-word-requires
 judge-word-requires c κs = search needs
 
 put-question-requires : tie.Need-put-question-requires
-put-question-requires c κs = let s = c .before .before .before .before .before .before .before .before .before .before .before .before .before .before in let a = s .args in
-    let d = c .before .before .before .before .before .before .before .before .decode in let k = c .before .before .before .judge-word in
-    let x = said (a .code) (a .number) (now (a .row)) (now (a .word)) (d .result) (k .result) _ _ _ _ (s .pre .0) (s .pre .1 .0) (s .pre .1 .1 .0) (d .ensures) (k .ensures) in
-    let e = toZ-ofZ {w = w32} {z = d .result .metric} (record { sfits = c .before .before .before .before .struct-told .given .1 .0 .1 }) in
-    let f = toZ-ofZ {w = w32} {z = k .result .shortfall} (record { sfits = c .before .before .struct-told2 .given .1 .1 .0 .1 }) in
-    rw (e, f) (room (a .at) _ (said-fits x) (s .pre .1 .1 .1))
+put-question-requires c κs = let s = c .before .before .before .before .before in let a = s .args in
+    let k = c .before .before .judge-word in
+    let x = said (a .code) (a .number) (now (a .row)) (now (a .word)) (k .result) (a .metric) (now (a .soft)) (s .pre .0) (s .pre .1 .0) (k .ensures) in
+    let e = toZ-ofZ (s .fits .metric) in
+    let f = toZ-ofZ {w = w32} {z = k .result .shortfall} (record { sfits = c .before .struct-told .given .1 .1 .0 .1 }) in
+    rw (e, f) (room (a .at) _ (said-fits x) (s .pre .1 .1))
 
 same-length : tie.Need-same-length
 same-length c = search needs
 
-same-length-2 : tie.Need-same-length-2
-same-length-2 c = search needs
-
-same-length-3 : tie.Need-same-length-3
-same-length-3 c = search needs
-
 returns : tie.Need-returns
-returns c = let s = c .before .before .before .before .before .before .before .before .before .before .before .before .before .before .before .before .before in let a = s .args in
-    let d = c .before .before .before .before .before .before .before .before .before .before .before .decode in let k = c .before .before .before .before .before .before .judge-word in
-    let x = said (a .code) (a .number) (now (a .row)) (now (a .word)) (d .result) (k .result) _ _ _ _ (s .pre .0) (s .pre .1 .0) (s .pre .1 .1 .0) (d .ensures) (k .ensures) in
-    let e = toZ-ofZ {w = w32} {z = d .result .metric} (record { sfits = c .before .before .before .before .before .before .before .struct-told .given .1 .0 .1 }) in
-    let f = toZ-ofZ {w = w32} {z = k .result .shortfall} (record { sfits = c .before .before .before .before .before .struct-told2 .given .1 .1 .0 .1 }) in
+returns c = let s = c .before .before .before .before .before .before .before .before in let a = s .args in
+    let k = c .before .before .before .before .before .judge-word in
+    let x = said (a .code) (a .number) (now (a .row)) (now (a .word)) (k .result) (a .metric) (now (a .soft)) (s .pre .0) (s .pre .1 .0) (k .ensures) in
+    let e = toZ-ofZ (s .fits .metric) in
+    let f = toZ-ofZ {w = w32} {z = k .result .shortfall} (record { sfits = c .before .before .before .before .struct-told .given .1 .1 .0 .1 }) in
     put-line x (rw (e, f) at (c .before .before .put-question .ensures))
 
 pub put-answer-spec : {M : Type 1} → statement M
-put-answer-spec =
-    tie.close
-    (tie.spec
-    decode-requires
-    judge-word-requires
-    put-question-requires
-    same-length
-    same-length-2
-    same-length-3
-    returns)
+put-answer-spec = tie.close (tie.spec judge-word-requires put-question-requires same-length returns)

@@ -1,4 +1,4 @@
--- `report::put_lines` meets its contract.
+-- `report::put_lines` meets its contract: so many questions are passed, and their lines stand in the output.
 -- Assumes nothing.
 use Rattle.report.proofs.Passing.{bytes, next, no-lines, more-lines, all-lines, first-place, next-place, next-room, next-text}
 use Rattle.report.specs.Within.{cursor, Put-lines}
@@ -6,7 +6,7 @@ use Rattle.report.specs.Calls.{line-most}
 use Rattle.text.proofs.Writing.{written-length}
 use Rattle.sheet_reader.specs.Promise.{after-yields}
 use Rattle.sheet.specs.Sheet.{questions}
-use lib.ListN.{length, take}
+use lib.ListN.{take}
 use denote.Ref.{now}
 use native.Mathlib.Omega.{arith}
 use Prim.Native.Nat.{_+_, _-_, _*_, _≤_}

@@ -1,4 +1,4 @@
--- `report::put_next` meets its contract.
+-- `report::put_next` meets its contract: the rooms are cut to the lengths of the question's code.
 -- Assumes nothing.
 use Rattle.sheet.proofs.Judging.{width-fine}
 use Rattle.report.proofs.Passing.{Sizes, sizes, part, lengths}

@@ -1,4 +1,4 @@
--- `text::+put_decimal` meets its contract.
+-- `text::put_decimal` meets its contract: the last digit stands behind those of the tenth part, which is less.
 -- Assumes nothing.
 use mathlib.Core.Path.{_∙_}
 use native.Mathlib.Omega.{arith}

@@ -1,4 +1,4 @@
--- `text::bit_of` meets its contract.
+-- `text::bit_of` meets its contract: 1 below zero, else 0.
 -- Assumes nothing.
 use mir.Facts.{toZ-ofZ}
 use Rattle.text.proofs.Fields.{bit-below, bit-above}

@@ -1,4 +1,4 @@
--- `text::least_of` meets its contract.
+-- `text::least_of` meets its contract: the least so far and the rest of the soft outputs have the least of them all.
 -- Assumes nothing.
 use lib.IntN.{pos}
 use denote.Ref.{now}

@@ -1,4 +1,4 @@
--- `text::magnitude` meets its contract.
+-- `text::magnitude` meets its contract: 64 bits hold the size of every 32-bit number.
 -- Assumes nothing.
 use mir.Facts.{toZ-ofZ}
 use Rattle.text.proofs.Fields.{widest, below-fits, below-cast, below-size, above-cast}

@@ -1,4 +1,4 @@
--- `text::put_bits` meets its contract.
+-- `text::put_bits` meets its contract: so many decided bits stand in the buffer.
 -- Assumes nothing.
 use Rattle.text.specs.Within.{bit-digit}
 use lib.ListN.{getD}

@@ -1,4 +1,4 @@
--- `text::put_byte` meets its contract.
+-- `text::put_byte` meets its contract: a stored byte is a text of one.
 -- Assumes nothing.
 use native.Mathlib.Omega.{arith}
 use Rattle.text.proofs.Writing.{one}

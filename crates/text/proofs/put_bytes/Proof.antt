@@ -1,4 +1,4 @@
--- `text::put_bytes` meets its contract.
+-- `text::put_bytes` meets its contract: so many bytes of the text stand in the buffer.
 -- Assumes nothing.
 use denote.Ref.{now}
 use mathlib.Core.Path.{refl}

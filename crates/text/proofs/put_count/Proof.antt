@@ -1,11 +1,8 @@
--- `text::put_count` meets its contract.
+-- `text::put_count` meets its contract: the count, then the rest of its line.
 -- Assumes nothing.
 use Rattle.text.specs.Text.{count-line, decimal, line, question-word, space, feed}
 use Rattle.text.proofs.Writing.{then, fits-first, fits-next}
 use mathlib.Core.List.{[], _∷_, _++_}
-use mir.Facts.{toZ-ofZ}
-use denote.Ref.{now}
-use lib.ListN.{length}
 use borrow.Author.Needs.{needs}
 use Rattle.text.proofs.put_count.Statement.{statement}
 use Rattle.text.proofs.put_count.Tie as tie

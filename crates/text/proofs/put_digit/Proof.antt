@@ -1,4 +1,4 @@
--- `text::put_digit` meets its contract.
+-- `text::put_digit` meets its contract: the code of a digit fits a byte.
 -- Assumes nothing.
 use Rattle.text.specs.Text.{digit}
 use borrow.Author.Needs.{needs}

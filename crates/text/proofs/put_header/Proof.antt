@@ -1,11 +1,6 @@
--- `text::put_header` meets its contract.
+-- `text::put_header` meets its contract: the bytes of the source are those of the header.
 -- Assumes nothing.
 use Rattle.text.specs.Text.{header, line, question-word, code-word, best-word, verdict-word, short-word, bits-word, least-word, space, feed}
-use Rattle.text.proofs.Writing.{then, fits-first, fits-next}
-use mathlib.Core.List.{[], _∷_, _++_}
-use mir.Facts.{toZ-ofZ}
-use denote.Ref.{now}
-use lib.ListN.{length}
 use borrow.Author.Needs.{needs}
 use Rattle.text.proofs.put_header.Statement.{statement}
 use Rattle.text.proofs.put_header.Tie as tie

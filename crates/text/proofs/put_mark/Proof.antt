@@ -1,12 +1,10 @@
--- `text::put_mark` meets its contract.
+-- `text::put_mark` meets its contract: verdict and shortfall, a space behind each.
 -- Assumes nothing.
 use Rattle.text.specs.Within.{mark-part}
 use Rattle.text.specs.Text.{space, verdict-field, shortfall-field}
 use Rattle.text.proofs.Writing.{then, fits-first, fits-next}
 use mathlib.Core.List.{[], _∷_, _++_}
 use mir.Facts.{toZ-ofZ}
-use denote.Ref.{now}
-use lib.ListN.{length}
 use borrow.Author.Needs.{needs}
 use Rattle.text.proofs.put_mark.Statement.{statement}
 use Rattle.text.proofs.put_mark.Tie as tie

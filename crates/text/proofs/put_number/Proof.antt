@@ -1,12 +1,9 @@
--- `text::put_number` meets its contract.
+-- `text::put_number` meets its contract: the digits, then the byte that ends the field.
 -- Assumes nothing.
 use Rattle.text.specs.Within.{ended}
 use Rattle.text.specs.Text.{decimal}
 use Rattle.text.proofs.Writing.{then, fits-first, fits-next}
-use mathlib.Core.List.{[], _∷_, _++_}
-use mir.Facts.{toZ-ofZ}
-use denote.Ref.{now}
-use lib.ListN.{length}
+use mathlib.Core.List.{[], _∷_}
 use borrow.Author.Needs.{needs}
 use Rattle.text.proofs.put_number.Statement.{statement}
 use Rattle.text.proofs.put_number.Tie as tie

@@ -1,12 +1,10 @@
--- `text::put_numbers` meets its contract.
+-- `text::put_numbers` meets its contract: question number, code and best metric, a space behind each.
 -- Assumes nothing.
 use Rattle.text.specs.Within.{numbers-part, ended}
 use Rattle.text.specs.Text.{space, decimal, signed}
 use Rattle.text.proofs.Writing.{then, fits-first, fits-next}
 use mathlib.Core.List.{[], _∷_, _++_}
 use mir.Facts.{toZ-ofZ}
-use denote.Ref.{now}
-use lib.ListN.{length}
 use borrow.Author.Needs.{needs}
 use Rattle.text.proofs.put_numbers.Statement.{statement}
 use Rattle.text.proofs.put_numbers.Tie as tie

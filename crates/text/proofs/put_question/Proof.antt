@@ -1,10 +1,10 @@
--- `text::put_question` meets its contract.
+-- `text::put_question` meets its contract: the three parts of a line, one behind the other.
 -- Assumes nothing.
 use Rattle.text.proofs.Lines.{question-parts}
 use Rattle.text.proofs.Fields.{same-room, same-text}
 use Rattle.text.specs.Within.{numbers-part, mark-part, soft-part}
 use Rattle.text.proofs.Writing.{then, fits-first, fits-next}
-use mathlib.Core.List.{[], _∷_, _++_}
+use mathlib.Core.List.{_++_}
 use mir.Facts.{toZ-ofZ}
 use denote.Ref.{now}
 use lib.ListN.{length}

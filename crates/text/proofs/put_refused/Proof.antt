@@ -1,12 +1,9 @@
--- `text::put_refused` meets its contract.
+-- `text::put_refused` meets its contract: the word `refused`, then the number.
 -- Assumes nothing.
 use Rattle.text.specs.Within.{ended}
 use Rattle.text.specs.Text.{refused-line, decimal, line, refused-word, space, feed}
 use Rattle.text.proofs.Writing.{then, fits-first, fits-next}
 use mathlib.Core.List.{[], _∷_, _++_}
-use mir.Facts.{toZ-ofZ}
-use denote.Ref.{now}
-use lib.ListN.{length}
 use borrow.Author.Needs.{needs}
 use Rattle.text.proofs.put_refused.Statement.{statement}
 use Rattle.text.proofs.put_refused.Tie as tie

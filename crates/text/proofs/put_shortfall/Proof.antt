@@ -1,4 +1,4 @@
--- `text::put_shortfall` meets its contract.
+-- `text::put_shortfall` meets its contract: a dash where the word is no codeword, else the number.
 -- Assumes nothing.
 use Rattle.text.specs.Text.{dash}
 use Rattle.text.proofs.Fields.{shortfall-none, shortfall-some, same-room, same-text}

@@ -1,4 +1,4 @@
--- `text::put_signed` meets its contract.
+-- `text::put_signed` meets its contract: a dash before the size of a negative number.
 -- Assumes nothing.
 use mathlib.Core.Path.{refl}
 use lib.IntN.{natAbs}

@@ -1,12 +1,11 @@
--- `text::put_soft` meets its contract.
+-- `text::put_soft` meets its contract: the decided bits, a space, and the least magnitude with the line feed.
 -- Assumes nothing.
 use Rattle.text.proofs.Fields.{bits-length}
 use Rattle.text.specs.Within.{soft-part, ended}
 use Rattle.text.specs.Text.{bits-field, decimal, least-magnitude, space, feed}
 use native.Mathlib.Omega.{arith}
 use Rattle.text.proofs.Writing.{then, fits-first, fits-next}
-use mathlib.Core.List.{[], _∷_, _++_}
-use mir.Facts.{toZ-ofZ}
+use mathlib.Core.List.{[], _∷_}
 use denote.Ref.{now}
 use lib.ListN.{length}
 use borrow.Author.Needs.{needs}

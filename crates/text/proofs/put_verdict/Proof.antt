@@ -1,11 +1,9 @@
--- `text::put_verdict` meets its contract.
+-- `text::put_verdict` meets its contract: each verdict has its word.
 -- Assumes nothing.
 use Rattle.text.specs.Text.{none-word, short-word, best-word}
 use Rattle.text.proofs.Fields.{verdict-none, verdict-short, verdict-best, same-room, same-text}
-use mir.Facts.{toZ-ofZ}
 use denote.Ref.{now}
 use lib.ListN.{length}
-use native.Mathlib.Omega.{arith}
 use borrow.Author.Needs.{needs}
 use Rattle.text.proofs.put_verdict.Statement.{statement}
 use Rattle.text.proofs.put_verdict.Tie as tie

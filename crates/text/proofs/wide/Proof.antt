@@ -1,4 +1,4 @@
--- `text::wide` meets its contract.
+-- `text::wide` meets its contract: 32 bits hold every 16-bit number.
 -- Assumes nothing.
 use mir.Facts.{toZ-ofZ}
 use Rattle.text.proofs.Fields.{wider}

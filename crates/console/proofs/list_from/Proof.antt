@@ -1,11 +1,11 @@
--- `listing::main` meets its contract: the text that is handed on lies inside the output.
+-- `console::list_from` meets its contract: the text that is handed on lies inside the output.
 -- Assumes nothing.
 use Rattle.report.proofs.Whole.{long-fits}
 use lib.Seq.{length-take-le}
 use mathlib.Core.Path.{sym}
 use borrow.Author.Needs.{needs}
-use Rattle.listing.proofs.main.Statement.{statement}
-use Rattle.listing.proofs.main.Tie as tie
+use Rattle.console.proofs.list_from.Statement.{statement}
+use Rattle.console.proofs.list_from.Tie as tie
 
 slice-aggregate-read-full : tie.Need-slice-aggregate-read-full
 slice-aggregate-read-full c = search needs
@@ -37,8 +37,8 @@ write-all-requires c κs = search needs
 returns : tie.Need-returns
 returns c = search needs
 
-pub main-spec : {M : Type 1} → statement M
-main-spec =
+pub list-from-spec : {M : Type 1} → statement M
+list-from-spec =
     tie.close
     (tie.spec
     slice-aggregate-read-full

@@ -1,0 +1,118 @@
+// Sheets: a row value of 127 taken and -128 refused by 5, 200 questions taken and 201 refused by 12, and an empty sheet file.
+use crate::tally::Tally;
+use sheet_reader::Yield;
+
+// Where the last reliability of the sheet's first question stands, where that is of code 1.
+const LAST: usize = 30;
+
+pub fn agree() -> Tally {
+    rows().plus(counts()).plus(empty())
+}
+
+// A sheet of one question of code 1, all 127, is written, judged and read back; with another last reliability it is judged again.
+fn rows() -> Tally {
+    let mut sheet = [9u8; 44];
+    let number = sheet_writer::write_sheet(&[1], &[7], &[127i16; 21], &[0u8; 7], &mut sheet);
+    Tally::none()
+        .with(number == 0)
+        .with(sheet::judge_sheet(&sheet) == 101)
+        .plus(reads(&sheet))
+        .with(judged_with(sheet, 127) == 101)
+        .with(judged_with(sheet, 129) == 101)
+        .with(judged_with(sheet, 128) == 5)
+        .plus(writes_no_low())
+}
+
+// The sheet's one question, and then none.
+fn reads(sheet: &[u8; 44]) -> Tally {
+    let mut row = [9i16; 21];
+    let mut word = [9u8; 7];
+    let start = sheet_reader::open(sheet);
+    let first = sheet_reader::question_at(sheet, start, &mut row, &mut word);
+    let answer = first.answer;
+    let place = first.next;
+    let second = sheet_reader::question_at(sheet, place, &mut row, &mut word);
+    let then = second.answer;
+    Tally::none()
+        .with(is_found(answer, 1, 7))
+        .places(&row, &[127i16; 21])
+        .with(check::same(&word, &[0u8; 7]))
+        .with(is_none(then))
+}
+
+fn is_found(y: Yield, c: u32, n: u32) -> bool {
+    match y {
+        Yield::Found { code, number } => code == c && number == n,
+        Yield::NoneLeft => false,
+        Yield::Refused(_) => false,
+    }
+}
+
+fn is_none(y: Yield) -> bool {
+    match y {
+        Yield::Found { code: _, number: _ } => false,
+        Yield::NoneLeft => true,
+        Yield::Refused(_) => false,
+    }
+}
+
+// What a sheet is judged to be when its first question ends its row in a byte.
+fn judged_with(sheet: [u8; 44], byte: u8) -> u32 {
+    let mut s = sheet;
+    s[LAST] = byte;
+    sheet::judge_sheet(&s)
+}
+
+// A row with -128 is not written, and the output keeps its nines.
+fn writes_no_low() -> Tally {
+    let mut row = [127i16; 21];
+    row[20] = -128;
+    let mut sheet = [9u8; 44];
+    let number = sheet_writer::write_sheet(&[1], &[7], &row, &[0u8; 7], &mut sheet);
+    Tally::none()
+        .with(number == 5)
+        .with(check::same(&sheet, &[9u8; 44]))
+}
+
+// 200 questions are written and taken; the first one again behind them, with an end that counts 201, is refused, and is not written.
+fn counts() -> Tally {
+    let mut sheet = [9u8; 8004];
+    let number = sheet_writer::write_sheet(
+        &[1u32; 200],
+        &[7u32; 200],
+        &[127i16; 4200],
+        &[0u8; 1400],
+        &mut sheet,
+    );
+    let mut more = [9u8; 8044];
+    let refused = sheet_writer::write_sheet(
+        &[1u32; 201],
+        &[7u32; 201],
+        &[127i16; 4221],
+        &[0u8; 1407],
+        &mut more,
+    );
+    Tally::none()
+        .with(number == 0)
+        .with(sheet::judge_sheet(&sheet) == 300)
+        .with(refused == 12)
+        .with(check::same(&more, &[9u8; 8044]))
+        .with(sheet::judge_sheet(&with_one_more(sheet)) == 12)
+}
+
+fn with_one_more(sheet: [u8; 8004]) -> [u8; 8044] {
+    let mut more = [0u8; 8044];
+    for i in 0..8040 {
+        more[i] = sheet[i % 8000];
+    }
+    more[8040] = 201;
+    more[8043] = 240;
+    more
+}
+
+fn empty() -> Tally {
+    let start = sheet_reader::open(&[]);
+    Tally::none()
+        .with(sheet::judge_sheet(&[]) == 9)
+        .with(start.refusal == 9)
+}

@@ -1,0 +1,56 @@
+-- The table of specs/Values.antt, from the definitions: what is finite is computed, and a message has one codeword.
+-- Assumes nothing.
+use mathlib.Core.Path.{_≡_, refl, ap, _∙_}
+use mathlib.Core.Bool.{true}
+use mathlib.Core.List.{List}
+use Prim.Native.Nat.{ℕ}
+use native.Mathlib.Omega.{arith}
+use lib.ListN.{length}
+use Rattle.field.specs.Field.{xor, times, times-from, doubled, alpha}
+use Rattle.code.specs.Code.{code-good, width, roots, long, message-long, value-from, value-at, vanishes, symbols-good, is-codeword, message}
+use Rattle.code.specs.Bits.{row-long}
+use Rattle.code.specs.Calls.{Encode-says, encode-refusal}
+use Rattle.code.specs.Promise.{Encodes-once}
+use Rattle.code.proofs.Accepted.{width-fine, roots-few, encode-accepts, outcome-done, outcome-taken}
+use Rattle.code.proofs.Promise.{encodes-once}
+use Rattle.split.proofs.Worked as split
+use Rattle.metric.proofs.Worked as metric
+use Rattle.quantiser.proofs.Worked as quantiser
+use Rattle.values.specs.Values.{Encodes-to, On-record}
+
+-- a codeword with this message is the one that `encode` writes
+encodes :
+    (c : ℕ) (ms ws : List ℕ) → encode-refusal c ms (long (width c)) ≡ 0 → is-codeword (width c) (roots c) ws ≡ true → message (roots c) ws ≡ ms →
+    Encodes-to c ms ws
+unfolding Encode-says Encodes-once
+encodes c ms ws taken g e =
+    let w = encode-accepts c ms (long (width c)) taken in
+    let fits : (o : List ℕ) → length o ≡ long (width c) → encode-refusal c ms (length o) ≡ 0 = λ o n. ap (encode-refusal c ms) n ∙ taken in
+    record {
+      met = λ o n. outcome-done _ _ _ _ (fits o n) refl (g, e);
+      only =
+          λ answer o p n s.
+          let d : (answer ≡ 0) × ((is-codeword (width c) (roots c) p ≡ true) × (message (roots c) p ≡ ms)) = outcome-taken _ answer _ _ (fits o n) s in (
+            d .0,
+            encodes-once (width c) (roots c) ms (width-fine c) (omega (arith, roots-few c)) (w .count) (w .symbols) .1 p ws (d .1 .0) g (d .1 .1) e,
+          );
+    }
+
+pub on-record : On-record
+unfolding code-good width roots long message-long row-long xor times times-from doubled alpha value-from value-at vanishes symbols-good is-codeword message encode-refusal
+on-record =
+    record {
+      first-word = encodes 1 _ _ refl refl refl;
+      its-configuration = split.first-word;
+      word-of-code-2 = encodes 2 _ _ refl refl refl;
+      word-of-code-3 = encodes 3 _ _ refl refl refl;
+      second-word = split.second-word .0;
+      with-configuration = split.second-word .1;
+      no-codeword = refl;
+      all-10 = metric.on-record .0;
+      all-zero = metric.on-record .1;
+      of-1 = record { is = quantiser.samples-on-record .0; gives = quantiser.on-record .0 };
+      of-64th = record { is = quantiser.samples-on-record .1; gives = quantiser.on-record .1 };
+      of-minus-64th = record { is = quantiser.samples-on-record .2; gives = quantiser.on-record .2 };
+      of-3-984375 = record { is = quantiser.samples-on-record .3; gives = quantiser.on-record .3 };
+    }

@@ -1,0 +1,477 @@
+#!/usr/bin/env python3
+"""The sheets that the programs `listings` and `long_listing` list, and the texts that they must print.
+
+    tests/listings/expected.py          compare the committed files with what is computed here
+    tests/listings/expected.py --write  write them anew
+
+Everything is computed here from document 01 alone: field products bit by bit, the codewords of codes 1 and 2 one after another,
+and code 3 by a trellis over the 2^8 values that a word can have at its two roots (the Wolf trellis), which is also held to the
+codewords one after another of codes 1 and 2. A refusal stands beside its sheet, and the reader below must find it too.
+It needs Python alone and takes some ten seconds.
+"""
+import os
+import sys
+
+ROOT = os.path.join(os.path.dirname(os.path.abspath(__file__)), "..", "..", "crates")
+
+# --- codes: (n, k, m, roots, the field's polynomial)
+CODES = {1: (7, 5, 3, 2, 0b1011), 2: (7, 3, 3, 4, 0b1011), 3: (15, 13, 4, 2, 0b10011)}
+
+
+def product(code, a, b):
+    _, _, m, _, polynomial = CODES[code]
+    r = 0
+    while b:
+        if b & 1:
+            r ^= a
+        a <<= 1
+        if a >> m:
+            a ^= polynomial
+        b >>= 1
+    return r
+
+
+def power(code, e):
+    r = 1
+    for _ in range(e):
+        r = product(code, r, 2)
+    return r
+
+
+def is_codeword(code, word):
+    n, _, _, roots, _ = CODES[code]
+    for t in range(1, roots + 1):
+        value = 0
+        for i in range(n):
+            value ^= product(code, word[i], power(code, i * t))
+        if value:
+            return False
+    return True
+
+
+def parities(code):
+    """For each message position the parity symbols of a 1 there, found by trying all."""
+    n, k, m, roots, _ = CODES[code]
+    found = []
+    for p in range(k):
+        for x in range(1 << (m * roots)):
+            parity = [x >> (m * j) & ((1 << m) - 1) for j in range(roots)]
+            word = parity + [1 if q == p else 0 for q in range(k)]
+            if is_codeword(code, word):
+                found.append(parity)
+                break
+    return found
+
+
+PARITIES = {code: parities(code) for code in CODES}
+
+
+def codeword(code, message):
+    roots = CODES[code][3]
+    word = [0] * roots + list(message)
+    for p, s in enumerate(message):
+        for j in range(roots):
+            word[j] ^= product(code, s, PARITIES[code][p][j])
+    assert is_codeword(code, word)
+    return word
+
+
+# --- metrics
+def bits(code, word):
+    m = CODES[code][2]
+    return [s >> j & 1 for s in word for j in range(m)]
+
+
+def metric(code, row, word):
+    return sum(-r if b else r for r, b in zip(row, bits(code, word)))
+
+
+def all_codewords(code):
+    """Every codeword as a number, bit b of weight 2^b: sums of a basis, each of which is tested at the roots."""
+    n, k, m, _, _ = CODES[code]
+    words = [0]
+    for p in range(k):
+        for j in range(m):
+            w = codeword(code, [1 << j if q == p else 0 for q in range(k)])
+            v = sum(b << i for i, b in enumerate(bits(code, w)))
+            words += [x ^ v for x in words]
+    return words
+
+
+EVERY = {1: all_codewords(1), 2: all_codewords(2)}
+
+
+def one_after_another(code, row):
+    """The best metric and the soft outputs over every codeword."""
+    long = len(row)
+    total = sum(row)
+    best = [[None, None] for _ in range(long)]
+    for w in EVERY[code]:
+        v = total - 2 * sum(row[b] for b in range(long) if w >> b & 1)
+        for b in range(long):
+            x = w >> b & 1
+            if best[b][x] is None or best[b][x] < v:
+                best[b][x] = v
+    return max(best[0]), [zero - one for zero, one in best]
+
+
+def trellis(code, row):
+    """The same over the values at the roots."""
+    n, _, m, roots, _ = CODES[code]
+    columns = []
+    for i in range(n):
+        for j in range(m):
+            column = 0
+            for t in range(1, roots + 1):
+                column |= product(code, 1 << j, power(code, i * t)) << (m * (t - 1))
+            columns.append(column)
+    states, none = 1 << (m * roots), -(10**9)
+
+    def step(table, r, c):
+        return [max(table[s] + r, table[s ^ c] - r) for s in range(states)]
+
+    start = [0] + [none] * (states - 1)
+    ahead = [start]
+    for r, c in zip(row, columns):
+        ahead.append(step(ahead[-1], r, c))
+    behind = [start]
+    for r, c in zip(row[::-1], columns[::-1]):
+        behind.append(step(behind[-1], r, c))
+    soft = []
+    for b, (r, c) in enumerate(zip(row, columns)):
+        f, g = ahead[b], behind[len(row) - 1 - b]
+        zero = max(f[s] + g[s] for s in range(states)) + r
+        one = max(f[s] + g[s ^ c] for s in range(states)) - r
+        soft.append(zero - one)
+    return ahead[-1][0], soft
+
+
+def decoded(code, row):
+    if code == 3:
+        return trellis(code, row)
+    found = one_after_another(code, row)
+    assert found == trellis(code, row)
+    return found
+
+
+# --- sheets
+def worded(kind, body):
+    return kind << 28 | body
+
+
+def question_words(code, number, row, word):
+    words = [worded(1, code << 24 | number)]
+    for i in range(0, len(row), 3):
+        words.append(worded(2, sum((r & 255) << (8 * j) for j, r in enumerate(row[i : i + 3]))))
+    for i in range(0, len(word), 6):
+        words.append(worded(3, sum(s << (4 * j) for j, s in enumerate(word[i : i + 6]))))
+    return words
+
+
+def as_bytes(words):
+    return b"".join(w.to_bytes(4, "little") for w in words)
+
+
+def sheet_words(questions):
+    return [w for q in questions for w in question_words(*q)] + [worded(15, len(questions))]
+
+
+def sheet(questions):
+    return as_bytes(sheet_words(questions))
+
+
+class Refused(Exception):
+    pass
+
+
+def read(data):
+    """The questions of a sheet, or Refused."""
+    if len(data) % 4:
+        raise Refused(9)
+    words = [int.from_bytes(data[i : i + 4], "little") for i in range(0, len(data), 4)]
+    at, questions = 0, []
+
+    def word():
+        nonlocal at
+        if at == len(words):
+            raise Refused(9)
+        at += 1
+        return words[at - 1]
+
+    def items(kind, each, width, count, good, refusal):
+        found = []
+        while len(found) < count:
+            w = word()
+            here = min(each, count - len(found))
+            if w >> 28 != kind:
+                raise Refused(10)
+            if (w & 0xFFFFFFF) >> (width * here):
+                raise Refused(11)
+            new = [w >> (width * j) & ((1 << width) - 1) for j in range(here)]
+            if not all(good(x) for x in new):
+                raise Refused(refusal)
+            found += new
+        return found
+
+    while True:
+        w = word()
+        if w >> 28 == 15:
+            if w >> 24 & 15:
+                raise Refused(11)
+            if w & 0xFFFFFF != len(questions):
+                raise Refused(12)
+            if at != len(words):
+                raise Refused(13)
+            return questions
+        if w >> 28 != 1:
+            raise Refused(10)
+        if len(questions) == 200:
+            raise Refused(12)
+        code = w >> 24 & 15
+        if code not in CODES:
+            raise Refused(1)
+        n, _, m, _, _ = CODES[code]
+        row = items(2, 3, 8, n * m, lambda x: x != 128, 5)
+        row = [x - 256 if x > 127 else x for x in row]
+        questions.append((code, w & 0xFFFFFF, row, items(3, 6, 4, n, lambda x: x < 1 << m, 6)))
+
+
+# --- listings
+def line(code, number, row, word):
+    best, soft = decoded(code, row)
+    verdict, short = "none", "-"
+    if is_codeword(code, word):
+        short = best - metric(code, row, word)
+        verdict = "short" if short else "best"
+    decided = "".join("1" if s < 0 else "0" for s in soft)
+    return f"{number} {code} {best} {verdict} {short} {decided} {min(abs(s) for s in soft)}\n"
+
+
+def listing(data):
+    try:
+        questions = read(data[:19208])
+    except Refused as r:
+        return f"refused {r}\n"
+    lines = "".join(line(*q) for q in questions)
+    return f"question code best verdict short bits least\n{lines}{len(questions)} questions\n"
+
+
+# --- the questions
+STATE = 1
+
+
+def draw(below):
+    """The next number of a fixed sequence."""
+    global STATE
+    STATE = STATE * 48271 % 2147483647
+    return STATE % below
+
+
+def any_row(code):
+    n, _, m, _, _ = CODES[code]
+    return [draw(255) - 127 for _ in range(n * m)]
+
+
+def any_word(code):
+    n, k, m, _, _ = CODES[code]
+    return codeword(code, [draw(1 << m) for _ in range(k)])
+
+
+def near(code, word, size):
+    """A row that favours a word, with noise."""
+    row = [(-size if b else size) + draw(121) - 60 for b in bits(code, word)]
+    return [max(-127, min(127, r)) for r in row]
+
+
+def flat(code, r):
+    n, _, m, _, _ = CODES[code]
+    return [r] * (n * m)
+
+
+def same(code, s):
+    return [s] * CODES[code][0]
+
+
+def spoilt(code, word):
+    """The word with one symbol changed, so no codeword."""
+    i = draw(len(word))
+    return word[:i] + [word[i] ^ 1] + word[i + 1 :]
+
+
+def of_code(code):
+    word = any_word(code)
+    other = any_word(code)
+    return [
+        (code, 1, near(code, word, 50), word),  # likely the best
+        (code, 2, near(code, word, 50), other),
+        (code, 3, near(code, word, 50), spoilt(code, word)),
+        (code, 4, any_row(code), any_word(code)),
+        (code, 5, any_row(code), same(code, 0)),
+        (code, 6, flat(code, -10), same(code, (1 << CODES[code][2]) - 1)),
+        (code, 7, near(code, other, 20), spoilt(code, other)),
+        (code, 8, [r // 60 for r in any_row(code)], other),  # small reliabilities: many zeros and ties
+    ]
+
+
+def ties():
+    found = []
+    for code in CODES:
+        word = any_word(code)
+        one = flat(code, 0)
+        one[4] = -9  # a single bit that is not 0
+        found += [
+            (code, 10 * code + 1, flat(code, 0), same(code, 0)),
+            (code, 10 * code + 2, flat(code, 0), word),
+            (code, 10 * code + 3, flat(code, 0), spoilt(code, word)),
+            (code, 10 * code + 4, one, same(code, 0)),
+        ]
+    return found
+
+
+def largest():
+    found = []
+    last = (1 << 24) - 1
+    for code in CODES:
+        ones = same(code, (1 << CODES[code][2]) - 1)
+        word = any_word(code)
+        found += [
+            (code, last, flat(code, 127), same(code, 0)),
+            (code, last, flat(code, 127), ones),  # the greatest shortfall, and a negative metric
+            (code, 0, flat(code, -127), ones),
+            (code, last - 1, flat(code, -127), same(code, 0)),
+            (code, last, [-127 if b else 127 for b in bits(code, word)], word),
+            (code, 1 << 23, [127 if b else -127 for b in bits(code, word)], word),
+        ]
+    return found
+
+
+def cases():
+    """Each sheet's name, its bytes, and its refusal where it has one."""
+    for code in CODES:
+        yield f"code_{code}", sheet(of_code(code)), None
+    yield "zero_questions", sheet([]), None
+    yield "ties", sheet(ties()), None
+    yield "largest_numbers", sheet(largest()), None
+    three = [(code, 7, any_row(code), any_word(code)) for code in CODES]
+    yield "all_codes", sheet(three), None
+    yield "codes_1_and_2", sheet(three[:2]), None
+
+    def at_127(code, r):
+        row = flat(code, 1)
+        row[-1] = r
+        return (code, 1, row, same(code, 0))
+
+    yield "last_reliability_127", sheet([at_127(1, 127)]), None
+    yield "last_reliability_minus_127", sheet([at_127(1, -127)]), None
+    yield "last_reliability_minus_128", sheet([at_127(1, -128)]), 5
+
+    # words 0 to 9: the question of code 1; 10 to 19: of code 2; 20 to 43: of code 3; 44: the end
+    words = sheet_words(three)
+
+    def with_word(i, w):
+        return as_bytes(words[:i] + [w] + words[i + 1 :])
+
+    def with_bits(i, mask):
+        return with_word(i, words[i] | mask)
+
+    def reliability_128(i):
+        return words[i] & 0xFFFF00FF | 0x8000
+
+    yield "empty_file", b"", 9
+    yield "three_bytes_short", as_bytes(words)[:-3], 9
+    yield "a_byte_too_many", as_bytes(words) + b"\0", 9
+    yield "ends_before_the_row", as_bytes(words[:1]), 9
+    yield "ends_in_a_row", as_bytes(words[:13]), 9
+    yield "ends_in_a_word", as_bytes(words[:42]), 9
+    yield "no_end", as_bytes(words[:44]), 9
+    yield "no_end_after_two", as_bytes(words[:20]), 9
+    yield "code_0", with_word(10, 0x10000002), 1
+    yield "code_4", with_word(20, 0x14000003), 1
+    yield "code_15", with_word(0, 0x1F000001), 1
+    yield "minus_128", with_word(23, reliability_128(23)), 5
+    yield "symbol_8", with_word(8, words[8] & ~0xF00 | 0x800), 6
+    yield "symbol_8_of_code_2", with_word(19, 0x30000008), 6
+    yield "row_for_a_head", with_word(0, words[1]), 10
+    yield "symbols_for_a_head", with_word(10, words[8]), 10
+    yield "symbols_in_a_row", with_word(30, words[42]), 10
+    yield "row_in_a_word", with_word(9, words[1]), 10
+    yield "end_in_a_row", with_word(4, 0xF0000000), 10
+    yield "kind_0", with_word(44, 3), 10
+    yield "above_three_reliabilities", with_bits(6, 0x1000000), 11
+    yield "above_six_symbols", with_bits(41, 0x8000000), 11
+    yield "above_the_last_symbol", with_bits(9, 0x10), 11
+    yield "above_three_symbols", with_bits(43, 0x800000), 11
+    yield "above_the_end_count", with_bits(44, 0x4000000), 11
+    yield "end_counts_two", with_word(44, 0xF0000002), 12
+    yield "end_counts_four", with_word(44, 0xF0000004), 12
+    yield "one_question_counted_for_none", as_bytes([0xF0000001]), 12
+    yield "a_word_after_the_end", as_bytes(words + [0]), 13
+    yield "a_second_end", as_bytes(words + [words[44]]), 13
+
+    # which comes first
+    yield "bytes_before_kind", with_word(0, 0)[:-1], 9
+    yield "kind_before_unused_bits", with_word(6, 0x48000000), 10
+    yield "unused_bits_before_reliability", with_word(23, reliability_128(23) | 0x1000000), 11
+    yield "unused_bits_before_symbol", with_word(9, 0x30000098), 11
+    yield "unused_bits_before_count", with_word(44, 0xF1000002), 11
+    yield "count_before_what_follows", as_bytes(words[:44] + [0xF0000002, 0]), 12
+    yield "first_word_counts", as_bytes(words[:8] + [0x30000008] + words[9:10] + [0x10000002] + words[11:]), 6
+    yield "row_before_word", as_bytes(words[:7] + [reliability_128(7), 0x30000008] + words[9:]), 5
+
+    zero = same(3, 0)
+    full = []
+    for i in range(0, 200, 4):
+        full += [
+            (3, 1000 + i, near(3, zero, 90), zero),  # likely the best
+            (3, 1001 + i, any_row(3), spoilt(3, any_word(3))),
+            (3, 1002 + i, any_row(3), any_word(3)),
+            (3, 1003 + i, near(3, zero, 30), zero),
+        ]
+    ones = [(1, i, flat(1, 10), same(1, 0)) for i in range(200)]
+    head = question_words(*ones[0])
+    yield "two_hundred_questions", sheet(full), None
+    yield "two_hundred_and_one", as_bytes(sheet_words(ones)[:-1] + head + [0xF00000C9]), 12
+    yield "a_201st_head_alone", as_bytes(sheet_words(ones)[:-1] + head[:1]), 12
+    yield "a_201st_head_before_its_code", as_bytes(sheet_words(ones)[:-1] + [0x14000001, 0xF00000C9]), 12
+    yield "a_201st_word_of_another_kind", as_bytes(sheet_words(ones)[:-1] + head[1:]), 10
+    yield LONG, sheet(full) + b"\1\2\3\4\5\6", 13  # 19,210 bytes, of which 19,208 are judged; all of them would be refused by 9
+
+
+LONG = "longer_than_is_read"
+
+
+def texts():
+    """The files of both programs."""
+    files, names, out = {}, "", ""
+    for name, data, refusal in cases():
+        text = listing(data)
+        assert (text == f"refused {refusal}\n") == (refusal is not None), (name, text)
+        files[f"listings/data/{name}"] = data
+        names += name + "\n"
+        out += f"{name}\n{text}"
+        if name == LONG:
+            files["long_listing/stdin"] = data
+            files["long_listing/stdout"] = text.encode()
+    files["listings/args"] = names.encode()
+    files["listings/stdout"] = out.encode()
+    return files
+
+
+def main():
+    files = texts()
+    data = os.path.join(ROOT, "listings", "data")
+    there = set(os.listdir(data)) if os.path.isdir(data) else set()
+    wrong = [f"listings/data/{n} is of no case" for n in sorted(there) if f"listings/data/{n}" not in files]
+    for name, content in files.items():
+        path = os.path.join(ROOT, name)
+        if "--write" in sys.argv[1:]:
+            os.makedirs(os.path.dirname(path), exist_ok=True)
+            with open(path, "wb") as f:
+                f.write(content)
+        elif not os.path.exists(path) or open(path, "rb").read() != content:
+            wrong.append(f"{name} differs")
+    print("\n".join(wrong) if wrong else f"{len(files)} files agree")
+    sys.exit(1 if wrong else 0)
+
+
+main()
