@@ -49,10 +49,6 @@ listed-from (suc n) k c = padded (configuration c k) ++ listed-from n (suc k) c
 unfoldable pub listed : (code : ℕ) → List ℕ
 listed c = listed-from (configurations c) 0 c
 
--- the same, with zeros behind them to 1,024 places
-unfoldable pub filled : (code : ℕ) → List ℕ
-filled c = listed c ++ replicate (1024 - 4 * configurations c) 0
-
 -- a tuple read as a number, its first place the leading digit
 unfoldable pub leading : (base : ℕ) → (tuple : List ℕ) → ℕ
 leading q [] = 0

@@ -1,16 +1,18 @@
 // The valid configurations of the three codes: how many, one by its number, and all of a code in order. A configuration is an
 // array of four syndromes by value; with m = 3 the fourth is 0. The promises cite specs/Configurations.antt, whose
 // `Configurations-right` says that each is valid, none is missing, and that they ascend with the first place as the leading
-// digit. All functions are for the crates above; a walk over all takes `all_of`.
+// digit. All functions are for the crates above; a walk over all takes `all_of_code_1` to `_3`.
 mod table;
 
+use table::CONFIGURATIONS_1;
+use table::CONFIGURATIONS_2;
 use table::CONFIGURATIONS_3;
 ghost use mathlib.Core.Path.{_≡_};
 ghost use mathlib.Core.Bool.{true};
 ghost use Prim.Native.Nat.{_<_};
 ghost use Rattle.code.specs.Code.{code-good};
 ghost use Rattle.field.specs.Field.{times, alpha};
-ghost use Rattle.configurations.specs.Configurations.{configurations, configuration, of-code-1, of-code-2, of-code-3, listed, filled};
+ghost use Rattle.configurations.specs.Configurations.{configurations, configuration, of-code-1, of-code-2, of-code-3, listed};
 ghost use Rattle.split.specs.Split.{padded};
 ghost use Rattle.configurations.specs.Within.{Numbered};
 
@@ -57,8 +59,20 @@ fn of_code_2(k: u8) -> [u16; 4]
     [8 * wide(a), 8 * wide(b), 8 * wide(third), 0]
 }
 
-// Code 3: the whole table.
-fn table_3() -> [u16; 1024]
+// All configurations of a code in order, four places each: for a walk over all.
+pub fn all_of_code_1() -> [u16; 32]
+    ensures { λ r. ⌜ r ≡ listed 1 ⌝ }
+{
+    CONFIGURATIONS_1
+}
+
+pub fn all_of_code_2() -> [u16; 256]
+    ensures { λ r. ⌜ r ≡ listed 2 ⌝ }
+{
+    CONFIGURATIONS_2
+}
+
+pub fn all_of_code_3() -> [u16; 1024]
     ensures { λ r. ⌜ r ≡ listed 3 ⌝ }
 {
     CONFIGURATIONS_3
@@ -69,7 +83,7 @@ fn of_code_3(k: usize) -> [u16; 4]
     requires { ⌜ k < 256 ⌝ }
     ensures { λ r. ⌜ r ≡ padded (of-code-3 k) ⌝ }
 {
-    let table = table_3();
+    let table = all_of_code_3();
     let at = 4 * k;
     [table[at], table[at + 1], table[at + 2], table[at + 3]]
 }
@@ -86,28 +100,4 @@ pub fn configuration(code: u32, k: usize) -> [u16; 4]
         return of_code_2(k as u8);
     }
     of_code_3(k)
-}
-
-// All configurations of a code in order, four places each, and zeros behind them: for a walk over all. Code 3 gives its
-// table; a look-up by `configuration` makes the table anew at each call.
-pub fn all_of(code: u32) -> [u16; 1024]
-    requires { ⌜ code-good code ≡ true ⌝ }
-    ensures { λ r. ⌜ r ≡ filled code ⌝ }
-{
-    if code == 3 {
-        return table_3();
-    }
-    let count = configurations_of(code);
-    let mut to = [0u16; 1024];
-    let mut k: usize = 0;
-    while k < count {
-        let c = configuration(code, k);
-        let at = 4 * k;
-        to[at] = c[0];
-        to[at + 1] = c[1];
-        to[at + 2] = c[2];
-        to[at + 3] = c[3];
-        k += 1;
-    }
-    to
 }

@@ -17,7 +17,7 @@ use Rattle.metric.specs.Metric.{Decoded}
 use Rattle.metric.specs.Cost.{weight-of, cost, top, Least, Least-with}
 use Rattle.metric.proofs.Costs.{decoded}
 use Rattle.metric.proofs.Bounds.{weight-le, cost-le}
-use Rattle.trellis.specs.Rows.{entry}
+use Rattle.trellis.specs.Rows.{folded}
 use Rattle.decoder.specs.Within.{big, Input, Best, Softs, SoftRows, Softened, soft-of}
 use Rattle.decoder.proofs.Tabling.{width-ok}
 use Rattle.decoder.proofs.Searching.{row-le}
@@ -35,7 +35,7 @@ module _ (c m r q n size count : ℕ) (row : List ℤ) (cs : List ℕ) (z : Inpu
   pub weight-small : weight-of row ≤ 7620
   weight-small = omega (arith, weight-le row (z .good-row), row-60)
 
-  pub rows-ok : (za oa : List ℕ) (soft : List ℤ) → length za ≡ n * 4 → length oa ≡ n * 4 → length soft ≡ n * m → Softs c m n row za oa → SoftRows m n za oa soft
+  pub rows-ok : (za oa : List ℕ) (soft : List ℤ) → length za ≡ n * 2 * 4 → length oa ≡ n * 2 * 4 → length soft ≡ n * m → Softs c m n row za oa → SoftRows m n za oa soft
   rows-ok za oa soft lz lo ls s = record {
     width = width-ok c m r q n size count row cs z;
     length-zero = lz;
@@ -50,15 +50,15 @@ module _ (c m r q n size count : ℕ) (row : List ℤ) (cs : List ℕ) (z : Inpu
   unfolding row-long top
   decoding t cs' g word least b za oa s before soft lb w x y v ex ey ev =
       subst (λ (u : ℤ). Decoded (width c) (roots c) row word u soft) (sym (ex ∙ ey ∙ ap (λ (u : ℕ). pos u -ℤ pos (2 * least)) ev))
-      (decoded (width c) (roots c) row l word least soft (λ k. entry za (k / m) (k % m)) (λ k. entry oa (k / m) (k % m)) (b .codeword) (b .costs) (b .is-least)
+      (decoded (width c) (roots c) row l word least soft (λ k. folded za (k / m) (k % m)) (λ k. folded oa (k / m) (k % m)) (b .codeword) (b .costs) (b .is-least)
       (w .long ∙ lb ∙ ap₂ (λ (a d : ℕ). a * d) (z .n-is ∙ ap long (z .m-is)) (z .m-is)) each)
     where
       three : 3 ≤ m
       three = widths (λ (m : ℕ). 3 ≤ m) (omega arith) (omega arith) m (width-ok c m r q n size count row cs z)
 
       each : (k : ℕ) → k < long (width c) * width c →
-          Least-with (width c) (roots c) row k 0 (entry za (k / m) (k % m)) × Least-with (width c) (roots c) row k 1 (entry oa (k / m) (k % m))
-          × (getD soft k (pos 0) ≡ pos (2 * entry oa (k / m) (k % m)) -ℤ pos (2 * entry za (k / m) (k % m)))
+          Least-with (width c) (roots c) row k 0 (folded za (k / m) (k % m)) × Least-with (width c) (roots c) row k 1 (folded oa (k / m) (k % m))
+          × (getD soft k (pos 0) ≡ pos (2 * folded oa (k / m) (k % m)) -ℤ pos (2 * folded za (k / m) (k % m)))
       each k h =
           let e : long (width c) * width c ≡ n * m = sym (ap₂ (λ (a d : ℕ). a * d) (z .n-is ∙ ap long (z .m-is)) (z .m-is)) in
           let hk : k < n * m = omega arith in

@@ -25,7 +25,7 @@ use Rattle.configurations.proofs.Listed.{listed-at}
 use Rattle.metric.specs.Cost.{weight-of, cost, Least, Least-with}
 use Rattle.metric.proofs.Bounds.{weight-le}
 use Rattle.trellis.specs.Trellis.{leastOf, back, free, final, holding, meet}
-use Rattle.trellis.specs.Rows.{entry, lane, lanes, limit, at-table, layer, Layers, Made, Pass, Passed, Trace, traced}
+use Rattle.trellis.specs.Rows.{entry, folded, lane, lanes, limit, at-table, layer, Layers, Made, Pass, Passed, Trace, traced}
 use Rattle.trellis.proofs.Least.{least-same, least-cap}
 use Rattle.trellis.proofs.Rows.{lanes-at, four}
 use Rattle.trellis.proofs.Tables.{back-le, final-le}
@@ -211,7 +211,7 @@ module _ (c m r q n size count : ℕ) (row : List ℤ) (cs hs zs os t : List ℕ
           ∙ low (s * 4 + j) (omega arith)
           ∙ ap₂ (λ (a d : ℕ). a - d) (marginal-is s j ls lj) (first s j ls lj)
 
-      pub pass-ok : (za oa : List ℕ) → length za ≡ n * 4 → length oa ≡ n * 4 → Pass q size top big cap t' hs zs os za oa
+      pub pass-ok : (za oa : List ℕ) → length za ≡ n * 2 * 4 → length oa ≡ n * 2 * 4 → Pass q size top big cap t' hs zs os za oa
       pass-ok za oa lz lo = record {
         layers = b .layers;
         made = record {
@@ -232,8 +232,8 @@ module _ (c m r q n size count : ℕ) (row : List ℤ) (cs hs zs os t : List ℕ
           let hn : i < length hs = omega (arith, n-is) in
           let inside : (k : ℕ) → k < configurations c → conf c k j < size = (λ k lk. rw size-is (conf-in c g k lk j)) in
           let le : (s : ℕ) → s < size → F j s ≤ big + 1905 = (λ s ls. F-le j s l4) in
-          let e0 : entry za i j ≡ S.soft c g row l hs zs os y big cap light i j 0 hi hj (omega arith) size 1905 (omega arith) inside le = p0 i j hn l4 ∙ same i j 0 l4 in
-          let e1 : entry oa i j ≡ S.soft c g row l hs zs os y big cap light i j 1 hi hj (omega arith) size 1905 (omega arith) inside le = p1 i j hn l4 ∙ same i j 1 l4 in
+          let e0 : folded za i j ≡ S.soft c g row l hs zs os y big cap light i j 0 hi hj (omega arith) size 1905 (omega arith) inside le = p0 i j hn l4 ∙ same i j 0 l4 in
+          let e1 : folded oa i j ≡ S.soft c g row l hs zs os y big cap light i j 1 hi hj (omega arith) size 1905 (omega arith) inside le = p1 i j hn l4 ∙ same i j 1 l4 in
           rw (e0, e1, z .m-is) (
             S.least-with c g row l hs zs os y big cap light i j 0 hi hj (omega arith) size 1905 (omega arith) inside le,
             S.least-with c g row l hs zs os y big cap light i j 1 hi hj (omega arith) size 1905 (omega arith) inside le,

@@ -69,6 +69,7 @@ module _ (c m r q n size count : ℕ) (row : List ℤ) (cs : List ℕ) (z : Inpu
     module _ (hs' zs' os' : List ℕ) (h : Headed m r (long m) hs') (k : Costed m n row zs' os') (lz : length zs' ≡ length zs) (lo : length os' ≡ length os) where
       pub layers-ok : Layers q size top hs' zs' os'
       layers-ok = record {
+        some = z .some;
         size-is = z .size-is;
         length-zs = lz ∙ b .length-zs ∙ ap (λ (x : ℕ). x * 4) (z .n-is ∙ sym (h .count));
         length-os = lo ∙ b .length-os ∙ ap (λ (x : ℕ). x * 4) (z .n-is ∙ sym (h .count));

@@ -19,8 +19,8 @@ use Rattle.field.specs.Field.{width-good}
 use Rattle.field.proofs.Tests.{widths}
 use Rattle.metric.specs.Cost.{costZero, costOne}
 use Rattle.metric.proofs.Integers as I
-use Rattle.trellis.specs.Rows.{entry, lane, row}
-use Rattle.trellis.proofs.Rows.{row-at, four}
+use Rattle.trellis.specs.Rows.{folded, lane, lanes}
+use Rattle.trellis.proofs.Rows.{lanes-at, four}
 use Rattle.decoder.specs.Within.{big, soft-of, SoftRow, Written, SoftRows, Softened}
 
 -- a difference is no larger than its parts
@@ -120,20 +120,20 @@ module _ (m n : ℕ) (za oa : List ℕ) (s₀ : List ℤ) (w : SoftRows m n za o
   under j = widths (λ (m : ℕ). j < m → j < 4) (λ h. omega arith) (λ h. omega arith) m (w .width)
 
   module _ (i : ℕ) (s : List ℤ) (a : Softened m za oa i s₀ s) (l : i < n) where
-    pub row-ok : SoftRow m (i * m) (row za i) (row oa i) s
+    pub row-ok : SoftRow m (i * m) (lanes (folded za i)) (lanes (folded oa i)) s
     row-ok = record {
       width = w .width;
       fits = omega (arith, a .long, w .length-soft, mul-le-mul-right m l, suc-mul i m);
-      small = λ j lj. rw (row-at za i j (under j lj), row-at oa i j (under j lj)) (w .small i j l lj);
+      small = λ j lj. rw (lanes-at (folded za i) j (under j lj), lanes-at (folded oa i) j (under j lj)) (w .small i j l lj);
     }
 
-    pub rows-more : (s' : List ℤ) → Written m (i * m) (row za i) (row oa i) s s' → Softened m za oa (i + 1) s₀ s'
+    pub rows-more : (s' : List ℤ) → Written m (i * m) (lanes (folded za i)) (lanes (folded oa i)) s s' → Softened m za oa (i + 1) s₀ s'
     rows-more s' x = record { long = x .long ∙ a .long; done = λ k j lk lj. go k j lj (decLe i k) lk }
       where
         go : (k j : ℕ) → j < m → Dec (i ≤ k) → k < i + 1 → getD s' (k * m + j) (pos 0) ≡ soft-of za oa k j
         go k j lj (yes b) h =
             let e : k ≡ i = omega arith in
-            rw e (x .done j lj ∙ ap₂ (λ (p q : ℕ). pos (2 * p) -ℤ pos (2 * q)) (row-at oa i j (under j lj)) (row-at za i j (under j lj)))
+            rw e (x .done j lj ∙ ap₂ (λ (p q : ℕ). pos (2 * p) -ℤ pos (2 * q)) (lanes-at (folded oa i) j (under j lj)) (lanes-at (folded za i) j (under j lj)))
         go k j lj (no b) h = x .kept (k * m + j) (place k j (omega arith) lj) ∙ a .done k j (omega arith) lj
           where
             place : (k j : ℕ) → k < i → j < m → k * m + j < i * m

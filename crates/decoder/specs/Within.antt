@@ -11,7 +11,7 @@ use Rattle.code.specs.Bits.{row-long}
 use Rattle.split.specs.Split.{cosets}
 use Rattle.configurations.specs.Configurations.{configurations, listed}
 use Rattle.metric.specs.Row.{bound, row-good}
-use Rattle.trellis.specs.Rows.{entry, lane, Layers, Made}
+use Rattle.trellis.specs.Rows.{entry, lane, Layers, Made, folded}
 use Rattle.glue.specs.Walk.{Marginals}
 use Rattle.metric.specs.Cost.{cost, Least, Least-with}
 use Rattle.search.specs.Search.{Spelt}
@@ -32,6 +32,7 @@ pub record Input (code m r q n size count : ℕ) (row : List ℤ) (cs : List ℕ
   pub m-is : m ≡ width code
   pub r-is : r ≡ roots code
   pub n-is : n ≡ long m
+  pub some : 0 < q
   pub size-is : size ≡ 2 ^ q
   pub cosets-is : size ≡ cosets m r
   pub count-is : count ≡ configurations code
@@ -64,8 +65,8 @@ pub record Best (code size count : ℕ) (row : List ℤ) (t cs g word : List ℕ
 abbrev pub Softs : (code m n : ℕ) → (row : List ℤ) → (zero one : List ℕ) → Type 0
 Softs code m n row zs os =
     (i j : ℕ) → i < n → j < m →
-    Least-with (width code) (roots code) row (i * m + j) 0 (entry zs i j) × Least-with (width code) (roots code) row (i * m + j) 1 (entry os i j)
-    × (entry zs i j < big) × (entry os i j < big)
+    Least-with (width code) (roots code) row (i * m + j) 0 (folded zs i j) × Least-with (width code) (roots code) row (i * m + j) 1 (folded os i j)
+    × (folded zs i j < big) × (folded os i j < big)
 
 -- all entries are n
 abbrev pub All : (n : ℕ) → List ℕ → Type 0
@@ -73,15 +74,15 @@ All n xs = (i : ℕ) → i < length xs → getD xs i 0 ≡ n
 
 -- soft output i * m + j from the least costs
 abbrev pub soft-of : (zero one : List ℕ) → (i j : ℕ) → ℤ
-soft-of zs os i j = pos (2 * entry os i j) -ℤ pos (2 * entry zs i j)
+soft-of zs os i j = pos (2 * folded os i j) -ℤ pos (2 * folded zs i j)
 
 -- what `soft_rows` asks
 pub record SoftRows (m n : ℕ) (zero one : List ℕ) (soft : List ℤ) : Type 0 where
   pub width : width-good m ≡ true
-  pub length-zero : length zero ≡ n * 4
-  pub length-one : length one ≡ n * 4
+  pub length-zero : length zero ≡ n * 2 * 4
+  pub length-one : length one ≡ n * 2 * 4
   pub length-soft : length soft ≡ n * m
-  pub small : (i j : ℕ) → i < n → j < m → (entry zero i j < big) × (entry one i j < big)
+  pub small : (i j : ℕ) → i < n → j < m → (folded zero i j < big) × (folded one i j < big)
 
 -- the soft outputs of the first n positions are written
 pub record Softened (m : ℕ) (zero one : List ℕ) (n : ℕ) (before soft : List ℤ) : Type 0 where
@@ -102,8 +103,8 @@ pub record Written (m at : ℕ) (z o : List ℕ) (before soft : List ℤ) : Type
 -- buffers for the soft outputs and the word
 pub record Outputs (m n size : ℕ) (g zero one word : List ℕ) (soft : List ℤ) : Type 0 where
   pub length-g : length g ≡ size * 4
-  pub length-zero : length zero ≡ n * 4
-  pub length-one : length one ≡ n * 4
+  pub length-zero : length zero ≡ n * 2 * 4
+  pub length-one : length one ≡ n * 2 * 4
   pub length-word : length word ≡ n
   pub length-soft : length soft ≡ n * m
 

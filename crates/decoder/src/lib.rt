@@ -29,11 +29,11 @@ pub struct Mark {
 }
 
 // A reliability's greatest size, a number above every cost of a word, and one above twice that and a layer's cost.
-const TOP: u32 = 127;
+const TOP: u16 = 127;
 
-const BIG: u32 = 60 * TOP + 1;
+const BIG: u16 = 60 * TOP + 1;
 
-const CAP: u32 = 2 * BIG + 15 * TOP;
+const CAP: u16 = 2 * BIG + 15 * TOP;
 
 // The layers' tables of a row.
 fn tables(
@@ -47,9 +47,9 @@ fn tables(
     row: &[i16],
     cs: &[u16],
     hs: &mut [u16],
-    zs: &mut [u32],
-    os: &mut [u32],
-    t: &mut [u32],
+    zs: &mut [u16],
+    os: &mut [u16],
+    t: &mut [u16],
 )
     requires { ⌜ Input code m r q n size count (now row) (now cs) ⌝ }
     requires { ⌜ Buffers n size (now hs) (now zs) (now os) (now t) ⌝ }
@@ -61,7 +61,7 @@ fn tables(
 }
 
 // Every entry is CAP.
-fn clear(g: &mut [u32])
+fn clear(g: &mut [u16])
     ensures { λ _. ⌜ (length (now (g .exit)) ≡ length (now (g .entry))) × All cap (now (g .exit)) ⌝ }
 {
     let mut i = 0;
@@ -83,10 +83,10 @@ fn best_word(
     row: &[i16],
     cs: &[u16],
     hs: &[u16],
-    zs: &[u32],
-    os: &[u32],
-    t: &[u32],
-    g: &mut [u32],
+    zs: &[u16],
+    os: &[u16],
+    t: &[u16],
+    g: &mut [u16],
     word: &mut [u8],
 ) -> u32
     requires { ⌜ Input code m r q n size count (now row) (now cs) ⌝ }
@@ -95,7 +95,7 @@ fn best_word(
     ensures { λ x. ⌜ Best code size count (now (row .entry)) (now (t .entry)) (now (cs .entry)) (now (g .exit)) (now (word .exit)) x ⌝ }
 {
     clear(g);
-    let least = glue::walk(t, size, cs, count, g, CAP);
+    let least = glue::walk(t, size, cs, count, g, CAP as u32);
     let at = least.at;
     trellis::trace_word(t, q, size, hs, zs, os, TOP, BIG, at, word);
     least.total
@@ -113,17 +113,17 @@ fn soft_costs(
     row: &[i16],
     cs: &[u16],
     hs: &[u16],
-    zs: &[u32],
-    os: &[u32],
-    t: &mut [u32],
-    g: &[u32],
-    zero: &mut [u32],
-    one: &mut [u32],
+    zs: &[u16],
+    os: &[u16],
+    t: &mut [u16],
+    g: &[u16],
+    zero: &mut [u16],
+    one: &mut [u16],
 )
     requires { ⌜ Input code m r q n size count (now row) (now cs) ⌝ }
     requires { ⌜ Tabled code q size (now row) (now hs) (now zs) (now os) (now t) ⌝ }
     requires { ⌜ (length (now g) ≡ size * 4) × Marginals size count cap (now t) (now cs) (now g) ⌝ }
-    requires { ⌜ (length (now zero) ≡ n * 4) × (length (now one) ≡ n * 4) ⌝ }
+    requires { ⌜ (length (now zero) ≡ n * 2 * 4) × (length (now one) ≡ n * 2 * 4) ⌝ }
     ensures { λ _. ⌜ Softs code m n (now (row .entry)) (now (zero .exit)) (now (one .exit)) ⌝ }
 {
     glue::subtract(g, t);
@@ -139,15 +139,15 @@ fn minus(a: u32, b: u32) -> i32
 }
 
 // A soft output: twice the least cost with a 1 less twice that with a 0.
-fn soft_from(zero: u32, one: u32) -> i16
+fn soft_from(zero: u16, one: u16) -> i16
     requires { ⌜ (zero < big) × (one < big) ⌝ }
     ensures { λ r. ⌜ r ≡ pos (2 * one) -ℤ pos (2 * zero) ⌝ }
 {
-    minus(2 * one, 2 * zero) as i16
+    minus(2 * (one as u32), 2 * (zero as u32)) as i16
 }
 
 // One position's soft outputs.
-fn soft_row(m: u32, z: [u32; 4], o: [u32; 4], at: usize, soft: &mut [i16])
+fn soft_row(m: u32, z: [u16; 4], o: [u16; 4], at: usize, soft: &mut [i16])
     requires { ⌜ SoftRow m at z o (now soft) ⌝ }
     ensures { λ _. ⌜ Written m at z o (now (soft .entry)) (now (soft .exit)) ⌝ }
 {
@@ -160,7 +160,7 @@ fn soft_row(m: u32, z: [u32; 4], o: [u32; 4], at: usize, soft: &mut [i16])
 }
 
 // All soft outputs.
-fn soft_rows(m: u32, n: usize, zero: &[u32], one: &[u32], soft: &mut [i16])
+fn soft_rows(m: u32, n: usize, zero: &[u16], one: &[u16], soft: &mut [i16])
     requires { ⌜ SoftRows m n (now zero) (now one) (now soft) ⌝ }
     ensures { λ _. ⌜ Softened m (now (zero .entry)) (now (one .entry)) n (now (soft .entry)) (now (soft .exit)) ⌝ }
 {
@@ -168,7 +168,7 @@ fn soft_rows(m: u32, n: usize, zero: &[u32], one: &[u32], soft: &mut [i16])
     let mut i = 0;
     let mut at = 0;
     while i < n {
-        soft_row(m, trellis::load(zero, i), trellis::load(one, i), at, soft);
+        soft_row(m, trellis::fold(zero, i), trellis::fold(one, i), at, soft);
         at += w;
         i += 1;
     }
@@ -186,12 +186,12 @@ fn decode_with(
     row: &[i16],
     cs: &[u16],
     hs: &mut [u16],
-    zs: &mut [u32],
-    os: &mut [u32],
-    t: &mut [u32],
-    g: &mut [u32],
-    zero: &mut [u32],
-    one: &mut [u32],
+    zs: &mut [u16],
+    os: &mut [u16],
+    t: &mut [u16],
+    g: &mut [u16],
+    zero: &mut [u16],
+    one: &mut [u16],
     word: &mut [u8],
     soft: &mut [i16],
 ) -> i32
@@ -276,22 +276,22 @@ fn decode_refusal(code: u32, row: &[i16], word: usize, soft: usize) -> u32
 }
 
 // Buffers.
-fn zeros_256() -> [u32; 256]
+fn zeros_256() -> [u16; 256]
     ensures { λ r. ⌜ length r ≡ 256 ⌝ }
 {
-    [0u32; 256]
+    [0u16; 256]
 }
 
-fn zeros_1024() -> [u32; 1024]
+fn zeros_1024() -> [u16; 1024]
     ensures { λ r. ⌜ length r ≡ 1024 ⌝ }
 {
-    [0u32; 1024]
+    [0u16; 1024]
 }
 
-fn zeros_2048() -> [u32; 2048]
+fn zeros_2048() -> [u16; 2048]
     ensures { λ r. ⌜ length r ≡ 2048 ⌝ }
 {
-    [0u32; 2048]
+    [0u16; 2048]
 }
 
 // Each code with buffers of its own sizes: n + 1 tables of four layers, 2^q rows each.
@@ -299,14 +299,14 @@ fn decode_1(row: &[i16], word: &mut [u8], soft: &mut [i16]) -> i32
     requires { ⌜ Accepted 1 (now row) (length (now word)) (length (now soft)) ⌝ }
     ensures { λ x. ⌜ Decoded (width 1) (roots 1) (now (row .entry)) (now (word .exit)) x (now (soft .exit)) ⌝ }
 {
-    let all = configurations::all_of(1);
+    let all = configurations::all_of_code_1();
     let mut hs = [0u16; 7];
-    let mut zs = [0u32; 28];
-    let mut os = [0u32; 28];
-    let mut zero = [0u32; 28];
-    let mut one = [0u32; 28];
+    let mut zs = [0u16; 28];
+    let mut os = [0u16; 28];
+    let mut zero = [0u16; 56];
+    let mut one = [0u16; 56];
     let mut t = zeros_256();
-    let mut g = [0u32; 32];
+    let mut g = [0u16; 32];
     decode_with(
         1,
         3,
@@ -316,7 +316,7 @@ fn decode_1(row: &[i16], word: &mut [u8], soft: &mut [i16]) -> i32
         8,
         8,
         row,
-        &all[..32],
+        &all,
         &mut hs,
         &mut zs,
         &mut os,
@@ -333,12 +333,12 @@ fn decode_2(row: &[i16], word: &mut [u8], soft: &mut [i16]) -> i32
     requires { ⌜ Accepted 2 (now row) (length (now word)) (length (now soft)) ⌝ }
     ensures { λ x. ⌜ Decoded (width 2) (roots 2) (now (row .entry)) (now (word .exit)) x (now (soft .exit)) ⌝ }
 {
-    let all = configurations::all_of(2);
+    let all = configurations::all_of_code_2();
     let mut hs = [0u16; 7];
-    let mut zs = [0u32; 28];
-    let mut os = [0u32; 28];
-    let mut zero = [0u32; 28];
-    let mut one = [0u32; 28];
+    let mut zs = [0u16; 28];
+    let mut os = [0u16; 28];
+    let mut zero = [0u16; 56];
+    let mut one = [0u16; 56];
     let mut t = zeros_2048();
     let mut g = zeros_256();
     decode_with(
@@ -350,7 +350,7 @@ fn decode_2(row: &[i16], word: &mut [u8], soft: &mut [i16]) -> i32
         64,
         64,
         row,
-        &all[..256],
+        &all,
         &mut hs,
         &mut zs,
         &mut os,
@@ -367,14 +367,14 @@ fn decode_3(row: &[i16], word: &mut [u8], soft: &mut [i16]) -> i32
     requires { ⌜ Accepted 3 (now row) (length (now word)) (length (now soft)) ⌝ }
     ensures { λ x. ⌜ Decoded (width 3) (roots 3) (now (row .entry)) (now (word .exit)) x (now (soft .exit)) ⌝ }
 {
-    let all = configurations::all_of(3);
+    let all = configurations::all_of_code_3();
     let mut hs = [0u16; 15];
-    let mut zs = [0u32; 60];
-    let mut os = [0u32; 60];
-    let mut zero = [0u32; 60];
-    let mut one = [0u32; 60];
+    let mut zs = [0u16; 60];
+    let mut os = [0u16; 60];
+    let mut zero = [0u16; 120];
+    let mut one = [0u16; 120];
     let mut t = zeros_1024();
-    let mut g = [0u32; 64];
+    let mut g = [0u16; 64];
     decode_with(
         3,
         4,
@@ -384,7 +384,7 @@ fn decode_3(row: &[i16], word: &mut [u8], soft: &mut [i16]) -> i32
         16,
         256,
         row,
-        &all[..1024],
+        &all,
         &mut hs,
         &mut zs,
         &mut os,
@@ -457,9 +457,9 @@ fn excess_with(
     row: &[i16],
     cs: &[u16],
     hs: &mut [u16],
-    zs: &mut [u32],
-    os: &mut [u32],
-    t: &mut [u32],
+    zs: &mut [u16],
+    os: &mut [u16],
+    t: &mut [u16],
     word: &[u8],
 ) -> u32
     requires { ⌜ Input code m r q n size count (now row) (now cs) ⌝ }
@@ -468,7 +468,7 @@ fn excess_with(
     ensures { λ x. ⌜ Short code (now (row .entry)) (now (word .entry)) x ⌝ }
 {
     tables(code, m, r, q, n, size, count, row, cs, hs, zs, os, t);
-    let least = glue::least_of(t, size, cs, count, CAP);
+    let least = glue::least_of(t, size, cs, count, CAP as u32);
     let own = search::word_cost(TOP, zs, os, word);
     own - least
 }
@@ -477,10 +477,10 @@ fn excess_1(row: &[i16], word: &[u8]) -> u32
     requires { ⌜ Judged 1 (now row) (now word) ⌝ }
     ensures { λ x. ⌜ Short 1 (now (row .entry)) (now (word .entry)) x ⌝ }
 {
-    let all = configurations::all_of(1);
+    let all = configurations::all_of_code_1();
     let mut hs = [0u16; 7];
-    let mut zs = [0u32; 28];
-    let mut os = [0u32; 28];
+    let mut zs = [0u16; 28];
+    let mut os = [0u16; 28];
     let mut t = zeros_256();
     excess_with(
         1,
@@ -491,7 +491,7 @@ fn excess_1(row: &[i16], word: &[u8]) -> u32
         8,
         8,
         row,
-        &all[..32],
+        &all,
         &mut hs,
         &mut zs,
         &mut os,
@@ -504,10 +504,10 @@ fn excess_2(row: &[i16], word: &[u8]) -> u32
     requires { ⌜ Judged 2 (now row) (now word) ⌝ }
     ensures { λ x. ⌜ Short 2 (now (row .entry)) (now (word .entry)) x ⌝ }
 {
-    let all = configurations::all_of(2);
+    let all = configurations::all_of_code_2();
     let mut hs = [0u16; 7];
-    let mut zs = [0u32; 28];
-    let mut os = [0u32; 28];
+    let mut zs = [0u16; 28];
+    let mut os = [0u16; 28];
     let mut t = zeros_2048();
     excess_with(
         2,
@@ -518,7 +518,7 @@ fn excess_2(row: &[i16], word: &[u8]) -> u32
         64,
         64,
         row,
-        &all[..256],
+        &all,
         &mut hs,
         &mut zs,
         &mut os,
@@ -531,10 +531,10 @@ fn excess_3(row: &[i16], word: &[u8]) -> u32
     requires { ⌜ Judged 3 (now row) (now word) ⌝ }
     ensures { λ x. ⌜ Short 3 (now (row .entry)) (now (word .entry)) x ⌝ }
 {
-    let all = configurations::all_of(3);
+    let all = configurations::all_of_code_3();
     let mut hs = [0u16; 15];
-    let mut zs = [0u32; 60];
-    let mut os = [0u32; 60];
+    let mut zs = [0u16; 60];
+    let mut os = [0u16; 60];
     let mut t = zeros_1024();
     excess_with(
         3,
@@ -545,7 +545,7 @@ fn excess_3(row: &[i16], word: &[u8]) -> u32
         16,
         256,
         row,
-        &all[..1024],
+        &all,
         &mut hs,
         &mut zs,
         &mut os,

@@ -12,7 +12,7 @@ use native.Mathlib.Decide.{decLe}
 use lib.ListN.{length, getD, set, length-set}
 use lib.Seq.{getD-set-same, getD-set-other}
 use Rattle.trellis.specs.Trellis.{leastOf}
-use Rattle.trellis.specs.Rows.{entry, lane, lanes, limit}
+use Rattle.trellis.specs.Rows.{entry, lane, lanes}
 use Rattle.trellis.proofs.Least.{least-cap}
 use Rattle.trellis.proofs.Rows.{lanes-at}
 use Rattle.glue.specs.Walk.{conf, tuple, total, least-total, least-with, lowered, Within, Tuples, Walked, Marginals}

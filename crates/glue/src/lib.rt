@@ -6,16 +6,16 @@ ghost use Prim.Native.Nat.{ℕ, _+_, _-_, _*_, _^_, _<_, _≤_, min};
 ghost use mathlib.Core.Bool.{cond};
 ghost use lib.Dec.{ltb};
 ghost use lib.ListN.{length, getD};
-ghost use Rattle.trellis.specs.Rows.{entry, limit};
+ghost use Rattle.trellis.specs.Rows.{entry};
 ghost use Rattle.glue.specs.Walk.{conf, tuple, total, least-total, lower-at, lowered, Within, Tuples, Walked, Marginals};
 
 // What syndrome s costs in layer j.
-fn cost_at(f: &[u32], j: usize, s: u16) -> u32
+fn cost_at(f: &[u16], j: usize, s: u16) -> u32
     requires { ⌜ s * 4 + j < length (now f) ⌝ }
     ensures { λ r. ⌜ r ≡ entry (now (f .entry)) s j ⌝ }
 {
     let i = (s as usize) * 4 + j;
-    f[i]
+    f[i] as u32
 }
 
 // Tuple k.
@@ -33,7 +33,7 @@ fn tuple_at(configs: &[u16], k: usize) -> [u16; 4]
 }
 
 // What a tuple costs.
-fn total_of(f: &[u32], size: usize, t: [u16; 4]) -> u32
+fn total_of(f: &[u16], size: usize, t: [u16; 4]) -> u32
     requires { ⌜ Within size (now f) t ⌝ }
     ensures { λ r. ⌜ r ≡ total (now (f .entry)) t ⌝ }
 {
@@ -41,18 +41,18 @@ fn total_of(f: &[u32], size: usize, t: [u16; 4]) -> u32
 }
 
 // The entry of syndrome s in layer j lowered to x.
-fn lower(g: &mut [u32], j: usize, s: u16, x: u32)
+fn lower(g: &mut [u16], j: usize, s: u16, x: u32)
     requires { ⌜ s * 4 + j < length (now g) ⌝ }
     ensures { λ _. ⌜ now (g .exit) ≡ lower-at (now (g .entry)) (s * 4 + j) x ⌝ }
 {
     let i = (s as usize) * 4 + j;
-    if x < g[i] {
-        g[i] = x;
+    if x < (g[i] as u32) {
+        g[i] = x as u16;
     }
 }
 
 // One tuple: what it costs, and g lowered to that at its four places.
-fn visit(f: &[u32], size: usize, t: [u16; 4], g: &mut [u32]) -> u32
+fn visit(f: &[u16], size: usize, t: [u16; 4], g: &mut [u16]) -> u32
     requires { ⌜ Within size (now f) t ⌝ }
     requires { ⌜ length (now g) ≡ size * 4 ⌝ }
     ensures { λ r. ⌜ (r ≡ total (now (f .entry)) t) × (now (g .exit) ≡ lowered (now (g .entry)) t (total (now (f .entry)) t)) ⌝ }
@@ -86,7 +86,7 @@ pub struct Least {
 }
 
 // All n tuples: the least, and in g, which is all cap before, the least with each syndrome in each layer.
-pub fn walk(f: &[u32], size: usize, configs: &[u16], n: usize, g: &mut [u32], cap: u32) -> Least
+pub fn walk(f: &[u16], size: usize, configs: &[u16], n: usize, g: &mut [u16], cap: u32) -> Least
     requires { ⌜ Tuples size n cap (now f) (now configs) ⌝ }
     requires { ⌜ length (now g) ≡ size * 4 ⌝ }
     requires { ⌜ ((i : ℕ) → i < size * 4 → getD (now g) i 0 ≡ cap) ⌝ }
@@ -110,7 +110,7 @@ pub fn walk(f: &[u32], size: usize, configs: &[u16], n: usize, g: &mut [u32], ca
 }
 
 // The least that a tuple costs, with nothing else kept.
-pub fn least_of(f: &[u32], size: usize, configs: &[u16], n: usize, cap: u32) -> u32
+pub fn least_of(f: &[u16], size: usize, configs: &[u16], n: usize, cap: u32) -> u32
     requires { ⌜ Tuples size n cap (now f) (now configs) ⌝ }
     ensures { λ r. ⌜ r ≡ least-total cap (now (f .entry)) (now (configs .entry)) n ⌝ }
 {
@@ -124,7 +124,7 @@ pub fn least_of(f: &[u32], size: usize, configs: &[u16], n: usize, cap: u32) -> 
 }
 
 // Each entry of t taken from that of g.
-pub fn subtract(g: &[u32], t: &mut [u32])
+pub fn subtract(g: &[u16], t: &mut [u16])
     requires { ⌜ length (now g) ≤ length (now t) ⌝ }
     requires { ⌜ ((i : ℕ) → i < length (now g) → getD (now t) i 0 ≤ getD (now g) i 0) ⌝ }
     ensures { λ _. ⌜ length (now (t .exit)) ≡ length (now (t .entry)) ⌝ }

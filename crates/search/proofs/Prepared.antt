@@ -31,7 +31,7 @@ clash e = absurd (subst T (sym e) tt)
 wider : (r : ℤ) → SFits w16 r → SFits w32 r
 wider r f = record { sfits = omega (arith, f .sfits) }
 
-pub above-cast : (r : ℤ) → SFits w16 r → ltZ (pos 0) r ≡ true → T (nonNeg r) × Fits w32 (natAbs r)
+pub above-cast : (r : ℤ) → SFits w16 r → ltZ (pos 0) r ≡ true → T (nonNeg r) × Fits w16 (natAbs r)
 above-cast (pos n) f e = (tt, record { fits = omega (arith, f .sfits) })
 above-cast (negsuc n) f e = clash e
 
@@ -47,7 +47,7 @@ negated : (r : ℤ) → SFits w16 r → ltZ r (pos 0) ≡ true → pos 0 -ℤ to
 negated (pos n) f e = absurd (omega (arith, ltb-true n 0 e))
 negated (negsuc n) f e = rw (toZ-ofZ (wider (negsuc n) f)) (ap pos (zero-add (suc n)))
 
-cost-fits : (r : ℤ) → SFits w16 r → costZero r < 2147483648
+cost-fits : (r : ℤ) → SFits w16 r → costZero r ≤ 32768
 cost-fits (pos n) f = omega arith
 cost-fits (negsuc n) f = omega (arith, f .sfits)
 
@@ -55,13 +55,13 @@ pub below-wide : (r : ℤ) → SFits w16 r → SFits w32 r
 below-wide = wider
 
 pub below-fits : (r : ℤ) → SFits w16 r → ltZ r (pos 0) ≡ true → SFits w32 (pos 0 -ℤ toZ w32 (ofZ w32 r))
-below-fits r f e = rw (negated r f e) (record { sfits = cost-fits r f })
+below-fits r f e = rw (negated r f e) (record { sfits = omega (arith, cost-fits r f) })
 
 again : (r : ℤ) → SFits w16 r → ltZ r (pos 0) ≡ true → toZ w32 (ofZ w32 (pos 0 -ℤ toZ w32 (ofZ w32 r))) ≡ pos (costZero r)
 again r f e = toZ-ofZ (below-fits r f e) ∙ negated r f e
 
 pub below-cast : (r : ℤ) → SFits w16 r → ltZ r (pos 0) ≡ true →
-    T (nonNeg (toZ w32 (ofZ w32 (pos 0 -ℤ toZ w32 (ofZ w32 r))))) × Fits w32 (natAbs (toZ w32 (ofZ w32 (pos 0 -ℤ toZ w32 (ofZ w32 r)))))
+    T (nonNeg (toZ w32 (ofZ w32 (pos 0 -ℤ toZ w32 (ofZ w32 r))))) × Fits w16 (natAbs (toZ w32 (ofZ w32 (pos 0 -ℤ toZ w32 (ofZ w32 r)))))
 below-cast r f e = rw (again r f e) (tt, record { fits = omega (arith, cost-fits r f) })
 
 pub below-cost : (r : ℤ) → SFits w16 r → ltZ r (pos 0) ≡ true → natAbs (toZ w32 (ofZ w32 (pos 0 -ℤ toZ w32 (ofZ w32 r)))) ≡ costZero r

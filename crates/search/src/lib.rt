@@ -48,16 +48,16 @@ pub fn columns(m: u32, r: u32, hs: &mut [u16])
 }
 
 // What a 0 and a 1 contradicts of a reliability.
-pub fn cost_of_zero(r: i16) -> u32
+pub fn cost_of_zero(r: i16) -> u16
     ensures { λ x. ⌜ x ≡ costZero r ⌝ }
 {
-    if r < 0 { (0 - (r as i32)) as u32 } else { 0 }
+    if r < 0 { (0 - (r as i32)) as u16 } else { 0 }
 }
 
-pub fn cost_of_one(r: i16) -> u32
+pub fn cost_of_one(r: i16) -> u16
     ensures { λ x. ⌜ x ≡ costOne r ⌝ }
 {
-    if r > 0 { r as u32 } else { 0 }
+    if r > 0 { r as u16 } else { 0 }
 }
 
 // The reliability at position i of layer j; the fourth layer of m = 3 has none.
@@ -75,8 +75,8 @@ fn reliability_at(m: u32, row: &[i16], i: usize, j: usize) -> i16
 
 // What a 0 and a 1 cost in each layer of a position.
 pub struct Costs {
-    pub zero: [u32; 4],
-    pub one: [u32; 4],
+    pub zero: [u16; 4],
+    pub one: [u16; 4],
 }
 
 fn costs_at(m: u32, row: &[i16], i: usize) -> Costs
@@ -103,7 +103,7 @@ fn costs_at(m: u32, row: &[i16], i: usize) -> Costs
 }
 
 // The costs of a row, four layers to a position.
-pub fn cost_rows(m: u32, n: usize, row: &[i16], zs: &mut [u32], os: &mut [u32])
+pub fn cost_rows(m: u32, n: usize, row: &[i16], zs: &mut [u16], os: &mut [u16])
     requires { ⌜ CostRows m n (now row) (now zs) (now os) ⌝ }
     ensures { λ _. ⌜ Costed m n (now (row .entry)) (now (zs .exit)) (now (os .exit)) ⌝ }
 {
@@ -119,14 +119,14 @@ pub fn cost_rows(m: u32, n: usize, row: &[i16], zs: &mut [u32], os: &mut [u32])
 }
 
 // What a bit costs.
-fn bit_cost(b: u8, z: u32, o: u32) -> u32
+fn bit_cost(b: u8, z: u16, o: u16) -> u32
     ensures { λ r. ⌜ r ≡ pick b z o ⌝ }
 {
-    if b == 0 { z } else { o }
+    if b == 0 { z as u32 } else { o as u32 }
 }
 
 // What a symbol costs, from the costs of its position.
-fn symbol_cost(top: u32, c: u8, z: [u32; 4], o: [u32; 4]) -> u32
+fn symbol_cost(top: u16, c: u8, z: [u16; 4], o: [u16; 4]) -> u32
     requires { ⌜ Symbol top z o ⌝ }
     ensures { λ r. ⌜ (r ≡ sum4 (λ j. pick (c / 2 ^ j % 2) (lane z j) (lane o j))) × (r ≤ top * 4) ⌝ }
 {
@@ -138,7 +138,7 @@ fn symbol_cost(top: u32, c: u8, z: [u32; 4], o: [u32; 4]) -> u32
 }
 
 // What a word costs by itself.
-pub fn word_cost(top: u32, zs: &[u32], os: &[u32], word: &[u8]) -> u32
+pub fn word_cost(top: u16, zs: &[u16], os: &[u16], word: &[u8]) -> u32
     requires { ⌜ Own top (now zs) (now os) (now word) ⌝ }
     ensures { λ r. ⌜ r ≡ word-cost (now (zs .entry)) (now (os .entry)) 0 (now (word .entry)) ⌝ }
 {
@@ -158,7 +158,7 @@ fn size_of(r: i16) -> u32
     requires { ⌜ reliability-good r ≡ true ⌝ }
     ensures { λ x. ⌜ (x ≡ costZero r + costOne r) × (x ≤ 127) ⌝ }
 {
-    cost_of_zero(r) + cost_of_one(r)
+    (cost_of_zero(r) + cost_of_one(r)) as u32
 }
 
 // The sum of a row's sizes.

@@ -3,7 +3,9 @@ pub mod Trellis
 pub mod Adjoint
 pub mod Rows
 pub mod Parts
-pub mod Stages
+pub mod Neighbours
+pub mod Relaxing
+pub mod Advancing
 pub mod Tables
 pub mod Soft
 pub mod Traces

@@ -12,31 +12,34 @@ use borrow.Rule.Slice.PartMut.{putMid}
 use Rattle.field.specs.Field.{xor}
 use Rattle.field.proofs.Xor as X
 use Rattle.trellis.specs.Trellis.{Column, Columns, pick, step, either, only, back, fore, free, final, leastOf, holding, meet}
-use Rattle.trellis.specs.Rows.{entry, lane, row, put, limit, column, front, rear, Two, Advance, Advanced, met, at-table, layer, Layers, Made, Pass, Passed}
+use Rattle.trellis.specs.Rows.{entry, lane, row, put-two, folded, limit, column, front, rear, Two, Advance, Advanced, met, at-table, layer, Layers, Made, Pass, Passed}
 use Rattle.trellis.proofs.Least.{least-same}
 use Rattle.trellis.proofs.Adjoint.{held}
 use Rattle.trellis.proofs.Parts.{part-long}
-use Rattle.trellis.proofs.Rows.{row-at, length-put, put-other, put-at}
+use Rattle.trellis.proofs.Rows.{row-at, length-put-two, put-two-other, put-two-first, put-two-second}
 use Rattle.trellis.proofs.Tables.{made-le, turned-in, inside, two-tables, part-rear, part-front, back-rear, back-rest, back-long}
 
 -- what the first i turns leave
 pub record Passing (size big cap : ℕ) (t₀ hs zs os : List ℕ) (i : ℕ) (t zero one : List ℕ) : Type 0 where
   pub here : (s j : ℕ) → s < size → j < 4 → at-table t (size * 4) i j s ≡ fore (layer hs zs os j) (at-table t₀ (size * 4) 0 j) i s
   pub behind : Made size big hs zs os (suc i) t
-  pub long-zero : length zero ≡ length hs * 4
-  pub long-one : length one ≡ length hs * 4
+  pub long-zero : length zero ≡ length hs * 2 * 4
+  pub long-one : length one ≡ length hs * 2 * 4
   pub done-0 : Passed size big cap t₀ hs zs os 0 i zero
   pub done-1 : Passed size big cap t₀ hs zs os 1 i one
 
--- one row more
-pub one-more : (size big cap : ℕ) (t₀ hs zs os : List ℕ) (v i : ℕ) (out r out' : List ℕ) → i * 4 + 4 ≤ length out → Passed size big cap t₀ hs zs os v i out → out' ≡ put out i r →
-    ((j : ℕ) → j < 4 → lane r j ≡ meet cap size (at-table t₀ (size * 4) 0 j) (back (holding i v) (layer hs zs os j) (final big) 0 (length hs))) →
+-- one column more
+pub one-more : (size big cap : ℕ) (t₀ hs zs os : List ℕ) (v i : ℕ) (out r out' : List ℕ) → i * 2 * 4 + 8 ≤ length out → Passed size big cap t₀ hs zs os v i out → out' ≡ put-two out (i * 2) r →
+    ((j : ℕ) → j < 4 → min (lane r j) (lane r (4 + j)) ≡ meet cap size (at-table t₀ (size * 4) 0 j) (back (holding i v) (layer hs zs os j) (final big) 0 (length hs))) →
     Passed size big cap t₀ hs zs os v (i + 1) out'
-one-more size big cap t₀ hs zs os v i out r out' fits p e f k j lk lj = ap (λ (x : List ℕ). entry x k j) e ∙ go (decLe i k)
+one-more size big cap t₀ hs zs os v i out r out' fits p e f k j lk lj = ap (λ (x : List ℕ). folded x k j) e ∙ go (decLe i k)
   where
-    go : Dec (i ≤ k) → entry (put out i r) k j ≡ meet cap size (at-table t₀ (size * 4) 0 j) (back (holding k v) (layer hs zs os j) (final big) 0 (length hs))
-    go (yes a) = let x : k ≡ i = omega arith in rw x (put-at out i r fits j lj ∙ f j lj)
-    go (no a) = put-other out i r (k * 4 + j) (λ b c. omega arith) ∙ p k j (omega arith) lj
+    go : Dec (i ≤ k) → folded (put-two out (i * 2) r) k j ≡ meet cap size (at-table t₀ (size * 4) 0 j) (back (holding k v) (layer hs zs os j) (final big) 0 (length hs))
+    go (yes a) =
+        let x : k ≡ i = omega arith in
+        rw x (ap₂ min (put-two-first out (i * 2) r fits j lj) (put-two-second out (i * 2) r fits j lj) ∙ f j lj)
+    go (no a) =
+        ap₂ min (put-two-other out (i * 2) r (k * 2 * 4 + j) (λ b c. omega arith)) (put-two-other out (i * 2) r ((k * 2 + 1) * 4 + j) (λ b c. omega arith)) ∙ p k j (omega arith) lj
 
 -- from the front, no table exceeds the first by more than the costs of its columns
 fore-le : (col : Columns) (g : ℕ → ℕ) (cap top size : ℕ) → ((s : ℕ) → s < size → g s ≤ cap) → (i s : ℕ) → s < size → ((p : ℕ) → p < i → col p .c0 ≤ top) → fore col g i s ≤ cap + i * top
@@ -125,7 +128,7 @@ module _ (q size top big cap : ℕ) (t₀ hs zs os zero₀ one₀ : List ℕ) (w
         same (suc (suc v)) lv s ls = absurd (omega arith)
 
     pub pass-more : (p' za oa t' zs'' os'' : List ℕ) → Advanced size h cap p (row zs i) (row os i) size p' za oa →
-        t' ≡ putMid (i * (size * 4)) (size * 4 + size * 4) t p' → zs'' ≡ put zs' i za → os'' ≡ put os' i oa → Passing size big cap t₀ hs zs os (i + 1) t' zs'' os''
+        t' ≡ putMid (i * (size * 4)) (size * 4 + size * 4) t p' → zs'' ≡ put-two zs' (i * 2) za → os'' ≡ put-two os' (i * 2) oa → Passing size big cap t₀ hs zs os (i + 1) t' zs'' os''
     unfolding fore step
     pass-more p' za oa t' zs'' os'' a et ez eo = record {
       here = λ s j ls lj. rw (et, add-one) (back-rear q size top big hs zs os y t i (m .behind) l p' long s j ls lj ∙ a .made s j ls lj ∙ carried s j ls lj);
@@ -133,8 +136,8 @@ module _ (q size top big cap : ℕ) (t₀ hs zs os zero₀ one₀ : List ℕ) (w
         long = back-long q size top big hs zs os y t i (m .behind) l p' long ∙ m .behind .long;
         made = λ k s j ik kn ls lj. back-rest q size top big hs zs os y t i (m .behind) l p' long k s j ik ∙ m .behind .made k s j (omega arith) kn ls lj;
       });
-      long-zero = ap length ez ∙ length-put zs' i za ∙ m .long-zero;
-      long-one = ap length eo ∙ length-put os' i oa ∙ m .long-one;
+      long-zero = ap length ez ∙ length-put-two zs' (i * 2) za ∙ m .long-zero;
+      long-one = ap length eo ∙ length-put-two os' (i * 2) oa ∙ m .long-one;
       done-0 = one-more size big cap t₀ hs zs os 0 i zs' za zs'' (omega (arith, m .long-zero)) (m .done-0) ez (λ j lj. a .with-0 j lj ∙ met-is 0 j (omega arith) lj);
       done-1 = one-more size big cap t₀ hs zs os 1 i os' oa os'' (omega (arith, m .long-one)) (m .done-1) eo (λ j lj. a .with-1 j lj ∙ met-is 1 j (omega arith) lj);
     }

@@ -77,7 +77,7 @@ module _ (q size top big : ℕ) (hs zs os : List ℕ) (y : Layers q size top hs 
     inside = omega (arith, below, m .long)
 
     pub two-tables : Two q size (getD hs i 0) part
-    two-tables = record { size-is = y .size-is; inside = y .inside i l; length-is = part-long t at two inside ∙ omega arith }
+    two-tables = record { some = y .some; size-is = y .size-is; inside = y .inside i l; length-is = part-long t at two inside ∙ omega arith }
 
     pub part-rear : (s j : ℕ) → s < size → j < 4 → rear size part j s ≡ at-table t (size * 4) (suc i) j s
     part-rear s j ls lj =

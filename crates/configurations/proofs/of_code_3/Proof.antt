@@ -5,8 +5,8 @@ use Rattle.configurations.proofs.Listed.{row-3}
 use Rattle.configurations.proofs.of_code_3.Statement.{statement}
 use Rattle.configurations.proofs.of_code_3.Tie as tie
 
-table-3-requires : tie.Need-table-3-requires
-table-3-requires c κs = search needs
+all-of-code-3-requires : tie.Need-all-of-code-3-requires
+all-of-code-3-requires c κs = search needs
 
 mul-at : tie.Need-mul-at
 mul-at c = search needs
@@ -45,13 +45,13 @@ array-read-t23 : tie.Need-array-read-t23
 array-read-t23 c = search needs
 
 returns : tie.Need-returns
-returns c = rw (c .table-3 .ensures) (row-3 (c .before .args .k) (c .before .pre))
+returns c = rw (c .all-of-code-3 .ensures) (row-3 (c .before .args .k) (c .before .pre))
 
 pub of-code-3-spec : {M : Type 1} → statement M
 of-code-3-spec =
     tie.close
     (tie.spec
-    table-3-requires
+    all-of-code-3-requires
     mul-at
     mul-t5
     array-read-t8

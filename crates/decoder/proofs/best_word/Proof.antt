@@ -13,6 +13,9 @@ use Rattle.decoder.proofs.best_word.Tie as tie
 clear-requires : tie.Need-clear-requires
 clear-requires c κs = tt
 
+cast-walk : tie.Need-cast-walk
+cast-walk c = search needs
+
 walk-requires : tie.Need-walk-requires
 walk-requires c κs = let s = c .before .before .before .before .before .before .before .before .before .before .before .before in
     let a = s .args in
@@ -44,4 +47,11 @@ returns c = let s = c .before .before .before .before .before .before .before .b
 pub best-word-spec : {M : Type 1} → statement M
 best-word-spec =
     tie.close
-    (tie.spec clear-requires walk-requires trace-word-requires same-length same-length-2 returns)
+    (tie.spec
+    clear-requires
+    cast-walk
+    walk-requires
+    trace-word-requires
+    same-length
+    same-length-2
+    returns)

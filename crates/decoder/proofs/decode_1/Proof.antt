@@ -1,6 +1,6 @@
 -- `decoder::decode_1` meets its contract.
 -- Assumes nothing.
-use Rattle.decoder.proofs.Inputs.{input-1, prefix-long, outputs}
+use Rattle.decoder.proofs.Inputs.{input-1, outputs}
 use Rattle.code.specs.Code.{code-good, width, long}
 use lib.ListN.{length, getD, take}
 use native.Mathlib.Omega.{arith}
@@ -11,19 +11,14 @@ use borrow.Author.Needs.{needs}
 use Rattle.decoder.proofs.decode_1.Statement.{statement}
 use Rattle.decoder.proofs.decode_1.Tie as tie
 
-all-of-requires : tie.Need-all-of-requires
-unfolding code-good
-all-of-requires c κs = refl
+all-of-code-1-requires : tie.Need-all-of-code-1-requires
+all-of-code-1-requires c κs = search needs
 
 zeros-256-requires : tie.Need-zeros-256-requires
 zeros-256-requires c κs = search needs
 
-array-share-prefix-all : tie.Need-array-share-prefix-all
-array-share-prefix-all c = search needs
-
 slice-aggregate-decode-with : tie.Need-slice-aggregate-decode-with
-unfolding code-good
-slice-aggregate-decode-with c = prefix-long 1 32 (c .before .before .all-of .result) refl (omega arith) (c .before .before .all-of .ensures)
+slice-aggregate-decode-with c = search needs
 
 slice-aggregate-decode-with-2 : tie.Need-slice-aggregate-decode-with-2
 slice-aggregate-decode-with-2 c = search needs
@@ -50,7 +45,7 @@ decode-with-requires : tie.Need-decode-with-requires
 unfolding width long
 decode-with-requires c κs = let s = c .before .before .before .before .before .before .before .before .before .before .before .before .before in
     let a = s .args in (
-      input-1 (a .row .now) (s .pre .good-row) (s .pre .long-row) (take 32 (c .before .before .before .before .before .before .before .before .before .before .before .all-of .result)) (ap (take 32) (c .before .before .before .before .before .before .before .before .before .before .before .all-of .ensures)),
+      input-1 (a .row .now) (s .pre .good-row) (s .pre .long-row) (c .before .before .before .before .before .before .before .before .before .before .before .all-of-code-1 .result) (c .before .before .before .before .before .before .before .before .before .before .before .all-of-code-1 .ensures),
       (
         record { length-hs = refl; length-zs = refl; length-os = refl; length-t = c .before .before .before .before .before .before .before .before .before .before .zeros-256 .ensures },
         outputs 1 3 7 8 (a .row .now) _ _ _ (a .word .now) (a .soft .now) (s .pre) refl refl (refl) refl refl,
@@ -70,9 +65,8 @@ pub decode-1-spec : {M : Type 1} → statement M
 decode-1-spec =
     tie.close
     (tie.spec
-    all-of-requires
+    all-of-code-1-requires
     zeros-256-requires
-    array-share-prefix-all
     slice-aggregate-decode-with
     slice-aggregate-decode-with-2
     slice-aggregate-decode-with-3

@@ -1,6 +1,6 @@
 -- `decoder::decode_3` meets its contract.
 -- Assumes nothing.
-use Rattle.decoder.proofs.Inputs.{input-3, outputs, whole-3}
+use Rattle.decoder.proofs.Inputs.{input-3, outputs}
 use Rattle.code.specs.Code.{code-good, width, long}
 use lib.ListN.{length, getD, take}
 use native.Mathlib.Omega.{arith}
@@ -11,9 +11,8 @@ use borrow.Author.Needs.{needs}
 use Rattle.decoder.proofs.decode_3.Statement.{statement}
 use Rattle.decoder.proofs.decode_3.Tie as tie
 
-all-of-requires : tie.Need-all-of-requires
-unfolding code-good
-all-of-requires c κs = refl
+all-of-code-3-requires : tie.Need-all-of-code-3-requires
+all-of-code-3-requires c κs = search needs
 
 zeros-1024-requires : tie.Need-zeros-1024-requires
 zeros-1024-requires c κs = search needs
@@ -46,7 +45,7 @@ decode-with-requires : tie.Need-decode-with-requires
 unfolding width long
 decode-with-requires c κs = let s = c .before .before .before .before .before .before .before .before .before .before .before .before .before in
     let a = s .args in (
-      input-3 (a .row .now) (s .pre .good-row) (s .pre .long-row) (c .before .before .before .before .before .before .before .before .before .before .before .all-of .result) (c .before .before .before .before .before .before .before .before .before .before .before .all-of .ensures ∙ sym (whole-3)),
+      input-3 (a .row .now) (s .pre .good-row) (s .pre .long-row) (c .before .before .before .before .before .before .before .before .before .before .before .all-of-code-3 .result) (c .before .before .before .before .before .before .before .before .before .before .before .all-of-code-3 .ensures),
       (
         record { length-hs = refl; length-zs = refl; length-os = refl; length-t = c .before .before .before .before .before .before .before .before .before .before .zeros-1024 .ensures },
         outputs 3 4 15 16 (a .row .now) _ _ _ (a .word .now) (a .soft .now) (s .pre) refl refl (refl) refl refl,
@@ -66,7 +65,7 @@ pub decode-3-spec : {M : Type 1} → statement M
 decode-3-spec =
     tie.close
     (tie.spec
-    all-of-requires
+    all-of-code-3-requires
     zeros-1024-requires
     slice-aggregate-decode-with
     slice-aggregate-decode-with-2

@@ -1,6 +1,6 @@
 -- `decoder::excess_1` meets its contract.
 -- Assumes nothing.
-use Rattle.decoder.proofs.Inputs.{input-1, prefix-long}
+use Rattle.decoder.proofs.Inputs.{input-1}
 use Rattle.code.specs.Code.{code-good, width, long}
 use lib.ListN.{length, getD, take}
 use native.Mathlib.Omega.{arith}
@@ -11,19 +11,14 @@ use borrow.Author.Needs.{needs}
 use Rattle.decoder.proofs.excess_1.Statement.{statement}
 use Rattle.decoder.proofs.excess_1.Tie as tie
 
-all-of-requires : tie.Need-all-of-requires
-unfolding code-good
-all-of-requires c κs = refl
+all-of-code-1-requires : tie.Need-all-of-code-1-requires
+all-of-code-1-requires c κs = search needs
 
 zeros-256-requires : tie.Need-zeros-256-requires
 zeros-256-requires c κs = search needs
 
-array-share-prefix-all : tie.Need-array-share-prefix-all
-array-share-prefix-all c = search needs
-
 slice-aggregate-excess-with : tie.Need-slice-aggregate-excess-with
-unfolding code-good
-slice-aggregate-excess-with c = prefix-long 1 32 (c .before .before .all-of .result) refl (omega arith) (c .before .before .all-of .ensures)
+slice-aggregate-excess-with c = search needs
 
 slice-aggregate-excess-with-2 : tie.Need-slice-aggregate-excess-with-2
 slice-aggregate-excess-with-2 c = search needs
@@ -41,7 +36,7 @@ excess-with-requires : tie.Need-excess-with-requires
 unfolding width long
 excess-with-requires c κs = let s = c .before .before .before .before .before .before .before .before in
     let a = s .args in (
-      input-1 (a .row .now) (s .pre .good-row) (s .pre .long-row) (take 32 (c .before .before .before .before .before .before .all-of .result)) (ap (take 32) (c .before .before .before .before .before .before .all-of .ensures)),
+      input-1 (a .row .now) (s .pre .good-row) (s .pre .long-row) (c .before .before .before .before .before .before .all-of-code-1 .result) (c .before .before .before .before .before .before .all-of-code-1 .ensures),
       (record { length-hs = refl; length-zs = refl; length-os = refl; length-t = c .before .before .before .before .before .zeros-256 .ensures }, s .pre .codeword),
     )
 
@@ -52,9 +47,8 @@ pub excess-1-spec : {M : Type 1} → statement M
 excess-1-spec =
     tie.close
     (tie.spec
-    all-of-requires
+    all-of-code-1-requires
     zeros-256-requires
-    array-share-prefix-all
     slice-aggregate-excess-with
     slice-aggregate-excess-with-2
     slice-aggregate-excess-with-3

@@ -17,6 +17,9 @@ tables-requires c κs = let s = c .before .before .before .before .before .befor
     let p = s .pre in
     (p .0, p .1 .0)
 
+cast-least-of : tie.Need-cast-least-of
+cast-least-of c = search needs
+
 least-of-requires : tie.Need-least-of-requires
 least-of-requires c κs = let s = c .before .before .before .before .before .before .before .before .before .before .before .before .before .before .before .before .before .before .before .before in
     let a = s .args in
@@ -58,6 +61,7 @@ excess-with-spec =
     tie.close
     (tie.spec
     tables-requires
+    cast-least-of
     least-of-requires
     word-cost-requires
     sub-result

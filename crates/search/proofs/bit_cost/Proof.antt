@@ -12,4 +12,8 @@ returns-2 : tie.Need-returns-2
 returns-2 c = let a = c .before .args in pick-one (a .b) (a .z) (a .o) (c .if1 .left)
 
 pub bit-cost-spec : {M : Type 1} → statement M
-bit-cost-spec = tie.close (tie.spec returns returns-2)
+bit-cost-spec =
+    tie.close
+    (tie.spec
+    returns
+    returns-2)

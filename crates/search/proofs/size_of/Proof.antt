@@ -25,6 +25,9 @@ add-result c = let s = c .before .before in
     let f = through costOne (c .cost-of-one .result) r r (s .fits .r) (c .cost-of-one .ensures) refl in
     record { fits = omega (arith, costs-le r (s .pre)) }
 
+cast-result : tie.Need-cast-result
+cast-result c = search needs
+
 returns : tie.Need-returns
 returns c = let s = c .before .before in
     let r = s .args .r in
@@ -33,4 +36,11 @@ returns c = let s = c .before .before in
     (omega arith, omega (arith, costs-le r (s .pre)))
 
 pub size-of-spec : {M : Type 1} → statement M
-size-of-spec = tie.close (tie.spec cost-of-zero-requires cost-of-one-requires add-result returns)
+size-of-spec =
+    tie.close
+    (tie.spec
+    cost-of-zero-requires
+    cost-of-one-requires
+    add-result
+    cast-result
+    returns)

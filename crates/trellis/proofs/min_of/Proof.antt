@@ -3,7 +3,7 @@
 use Rattle.trellis.specs.Rows.{limit}
 use mir.Facts.{toZ-pos}
 use mir.Val.{toZ}
-use mir.Syntax.{w32}
+use mir.Syntax.{w16}
 use lib.Signed.{leZ}
 use lib.Dec.{leb}
 use Prim.Native.Nat.{ℕ, _<_}
@@ -14,9 +14,9 @@ use borrow.Author.Needs.{needs}
 use Rattle.trellis.proofs.min_of.Statement.{statement}
 use Rattle.trellis.proofs.min_of.Tie as tie
 
--- below 2^31 the signed order is the unsigned one
-signed : (a b : ℕ) → a < limit → b < limit → leZ (toZ w32 a) (toZ w32 b) ≡ leb a b
-signed a b ha hb = ap₂ leZ (toZ-pos w32 ha) (toZ-pos w32 hb)
+-- below 2^15 the signed order is the unsigned one
+signed : (a b : ℕ) → a < limit → b < limit → leZ (toZ w16 a) (toZ w16 b) ≡ leb a b
+signed a b ha hb = ap₂ leZ (toZ-pos w16 ha) (toZ-pos w16 hb)
 
 cast-if1 : tie.Need-cast-if1
 cast-if1 c = search needs

@@ -1,107 +1,45 @@
 -- `trellis::relax` meets its contract.
 -- Assumes nothing.
-use Prim.Native.Nat.{ℕ, _<_, _≤_, _-_, _+_}
-use mathlib.Core.List.{List}
-use Rattle.trellis.specs.Rows.{Relaxed, put, less, sum}
-use Rattle.trellis.proofs.Stages.{relax-start, relax-in, relax-asks, relax-more}
-use Rattle.field.specs.Field.{xor}
-use Rattle.trellis.specs.Rows.{Relaxed}
 use native.Mathlib.Omega.{arith}
-use Prim.Native.Nat.{ℕ, _<_, _≤_, _-_, _+_}
-use mathlib.Core.Path.{_≡_, sym, ap, ap₂, _∙_, subst}
+use borrow.Author.Needs.{needs}
+use mathlib.Core.Path.{_≡_}
+use Prim.Native.Nat.{ℕ, _+_, _-_, _%_}
 use Rattle.trellis.proofs.relax.Statement.{statement}
 use Rattle.trellis.proofs.relax.Tie as tie
 
-abbrev Inv-loop : tie.InvT-loop
-Inv-loop p₀ q size h z o s₀ p s = (s ≤ size) × Relaxed size h p₀ z o s p
+relax-straight-requires : tie.Need-relax-straight-requires
+relax-straight-requires c κs = search needs
 
-abbrev μ-loop : tie.MeasureT-loop
-μ-loop p₀ q size h z o s₀ p s = size - s
+sub-relax-crossed : tie.Need-sub-relax-crossed
+sub-relax-crossed c = search needs
 
-loop-holds : tie.Need-loop-holds Inv-loop μ-loop
-loop-holds c = let st = c .before in
-    let a = st .args in
-    (omega arith, relax-start (a .q) (a .size) (a .h) (a .p .now) (a .z) (a .o) (st .pre))
+relax-crossed-requires : tie.Need-relax-crossed-requires
+relax-crossed-requires c κs = let a = c .before .before .before .args in
+    let e : a .h - 1 + 1 ≡ a .h = omega (arith, c .before .if1 .left) in
+    (rw e (c .before .before .before .pre), omega (arith, c .before .if1 .left))
 
-add-load : tie.Need-add-load Inv-loop μ-loop
-add-load c = omega arith
+same-length : tie.Need-same-length
+same-length c = search needs
 
-load-requires : tie.Need-load-requires Inv-loop μ-loop
-load-requires c κs = let n = c .before in
-    let st = n .before .before .before in
-    let a = st .args in
-    relax-in (a .q) (a .size) (a .h) (a .p .now) (a .z) (a .o) (st .pre) (n .before .loop .p) (n .before .loop .s) (n .before .loop .inv .1) (n .loop-test .taken) .1
+returns : tie.Need-returns
+returns c = search needs
 
-add-load-2 : tie.Need-add-load-2 Inv-loop μ-loop
-unfolding xor
-add-load-2 c = record {
-  fits = omega (
-    arith,
-    let n = c .before .before .before in
-        let st = n .before .before .before in
-        let a = st .args in
-        relax-in (a .q) (a .size) (a .h) (a .p .now) (a .z) (a .o) (st .pre) (n .before .loop .p) (n .before .loop .s) (n .before .loop .inv .1) (n .loop-test .taken) .2,
-  );
-}
+same-length-2 : tie.Need-same-length-2
+same-length-2 c = search needs
 
-load-requires-2 : tie.Need-load-requires-2 Inv-loop μ-loop
-unfolding xor
-load-requires-2 c κs = let n = c .before .before .before in
-    let st = n .before .before .before in
-    let a = st .args in
-    relax-in (a .q) (a .size) (a .h) (a .p .now) (a .z) (a .o) (st .pre) (n .before .loop .p) (n .before .loop .s) (n .before .loop .inv .1) (n .loop-test .taken) .2
-
-choose-requires : tie.Need-choose-requires Inv-loop μ-loop
-unfolding xor
-choose-requires c κs = rw (c .before .before .load .ensures, c .load2 .ensures) (let n = c .before .before .before .before in
-    let st = n .before .before .before in
-    let a = st .args in
-    relax-asks (a .q) (a .size) (a .h) (a .p .now) (a .z) (a .o) (st .pre) (n .before .loop .p) (n .before .loop .s) (n .before .loop .inv .1) (n .loop-test .taken))
-
-store-requires : tie.Need-store-requires Inv-loop μ-loop
-store-requires c κs = let n = c .before .before .before .before .before .before in
-    let st = n .before .before .before in
-    let a = st .args in
-    relax-in (a .q) (a .size) (a .h) (a .p .now) (a .z) (a .o) (st .pre) (n .before .loop .p) (n .before .loop .s) (n .before .loop .inv .1) (n .loop-test .taken) .0
-
-add-s : tie.Need-add-s Inv-loop μ-loop
-add-s c = omega arith
-
-loop-less : tie.Need-loop-less Inv-loop μ-loop
-loop-less c = omega arith
-
-loop-again : tie.Need-loop-again Inv-loop μ-loop
-unfolding xor
-loop-again c = (
-  omega arith,
-  let n = c .before .before .before .before .before .before .before .before .before in
-      let st = n .before .before .before in
-      let a = st .args in
-      relax-more (a .q) (a .size) (a .h) (a .p .now) (a .z) (a .o) (st .pre) (n .before .loop .p) (n .before .loop .s) (n .before .loop .inv .1) (n .loop-test .taken) (c .before .before .store .last .0) (c .before .before .store .ensures ∙ ap (put (n .before .loop .p) (n .before .loop .s)) (c .before .before .before .before .choose .ensures ∙ ap₂ (λ (x y : List ℕ). less (sum x (a .z)) (sum y (a .o))) (c .before .before .before .before .before .before .before .load .ensures) (c .before .before .before .before .before .load2 .ensures))),
-)
-
-same-length : tie.Need-same-length Inv-loop μ-loop
-same-length c = omega arith
-
-returns : tie.Need-returns Inv-loop μ-loop
-returns c = let e : c .before .loop .s ≡ c .before .before .before .args .size = omega arith in
-    rw e at (c .before .loop .inv .1)
+returns-2 : tie.Need-returns-2
+returns-2 c = let a = c .before .before .before .before .before .before .args in
+    let e : a .h - 1 + 1 ≡ a .h = omega (arith, c .before .before .before .before .if1 .left) in
+    rw e at (c .before .before .relax-crossed .ensures)
 
 pub relax-spec : {M : Type 1} → statement M
 relax-spec =
     tie.close
     (tie.spec
-    Inv-loop
-    μ-loop
-    loop-holds
-    add-load
-    load-requires
-    add-load-2
-    load-requires-2
-    choose-requires
-    store-requires
-    add-s
-    loop-less
-    loop-again
+    relax-straight-requires
+    sub-relax-crossed
+    relax-crossed-requires
     same-length
-    returns)
+    returns
+    same-length-2
+    returns-2)

@@ -123,16 +123,28 @@ advance-requires c κs = let st = c .before .before .before .before .before .bef
     let k : t .i * (a .size * 4) + a .size * 4 + a .size * 4 - t .i * (a .size * 4) ≡ a .size * 4 + a .size * 4 = omega arith in
     rw (k, c .before .before .load .ensures, c .before .load2 .ensures) (advance-ok (a .q) (a .size) (a .top) (a .big) (a .cap) (a .t .now) (a .hs .now) (a .zs .now) (a .os .now) (a .zero .now) (a .one .now) w (t .t) (t .zero) (t .one) (t .i) (t .inv .1) l)
 
-store-requires : tie.Need-store-requires Inv-loop μ-loop
-store-requires c κs = let st = c .before .before .before .before .before .before .before .before .before .before .before .before .before .before .before .before .before .before in
+mul-store-two : tie.Need-mul-store-two Inv-loop μ-loop
+mul-store-two c = let st = c .before .before .before .before .before .before .before .before .before .before .before .before .before .before .before .before .before .before in
+    let t = c .before .before .before .before .before .before .before .before .before .before .before .loop in
+    let l : suc (t .i) ≤ length (st .args .hs .now) = c .before .before .before .before .before .before .before .before .before .before .loop-test .taken in
+    record { fits = omega (arith, st .good .1 .1 .1 .0) }
+
+store-two-requires : tie.Need-store-two-requires Inv-loop μ-loop
+store-two-requires c κs = let st = c .before .before .before .before .before .before .before .before .before .before .before .before .before .before .before .before .before .before in
     let a = st .args in
     let w = st .pre in
     let t = c .before .before .before .before .before .before .before .before .before .before .before .loop in
     let l : suc (t .i) ≤ length (a .hs .now) = c .before .before .before .before .before .before .before .before .before .before .loop-test .taken in
     omega (arith, t .inv .1 .long-zero)
 
-store-requires-2 : tie.Need-store-requires-2 Inv-loop μ-loop
-store-requires-2 c κs = let st = c .before .before .before .before .before .before .before .before .before .before .before .before .before .before .before .before .before .before .before .before .before .before in
+mul-store-two-2 : tie.Need-mul-store-two-2 Inv-loop μ-loop
+mul-store-two-2 c = let st = c .before .before .before .before .before .before .before .before .before .before .before .before .before .before .before .before .before .before .before .before .before .before in
+    let t = c .before .before .before .before .before .before .before .before .before .before .before .before .before .before .before .loop in
+    let l : suc (t .i) ≤ length (st .args .hs .now) = c .before .before .before .before .before .before .before .before .before .before .before .before .before .before .loop-test .taken in
+    record { fits = omega (arith, st .good .1 .1 .1 .0) }
+
+store-two-requires-2 : tie.Need-store-two-requires-2 Inv-loop μ-loop
+store-two-requires-2 c κs = let st = c .before .before .before .before .before .before .before .before .before .before .before .before .before .before .before .before .before .before .before .before .before .before in
     let a = st .args in
     let w = st .pre in
     let t = c .before .before .before .before .before .before .before .before .before .before .before .before .before .before .before .loop in
@@ -158,7 +170,7 @@ loop-again c = let st = c .before .before .before .before .before .before .befor
     let l : suc (t .i) ≤ length (a .hs .now) = c .before .before .before .before .before .before .before .before .before .before .before .before .before .before .before .before .before .loop-test .taken in
     let k : t .i * (a .size * 4) + a .size * 4 + a .size * 4 - t .i * (a .size * 4) ≡ a .size * 4 + a .size * 4 = omega arith in
     let e = rw (k, c .before .before .before .before .before .before .before .before .before .before .before .before .before .before .before .load .ensures, c .before .before .before .before .before .before .before .before .before .before .before .before .before .before .load2 .ensures) at (c .before .before .before .before .before .before .before .before .before .before .before .before .advance .ensures) in
-    (omega arith, rw k (pass-more (a .q) (a .size) (a .top) (a .big) (a .cap) (a .t .now) (a .hs .now) (a .zs .now) (a .os .now) (a .zero .now) (a .one .now) w (t .t) (t .zero) (t .one) (t .i) (t .inv .1) l (c .before .before .before .before .before .before .before .before .before .before .before .before .advance .last .0) (c .before .before .before .before .before .before .before .before .before .before .before .before .advance .result .zero) (c .before .before .before .before .before .before .before .before .before .before .before .before .advance .result .one) _ (c .before .before .before .before .before .before .store .last .0) (c .before .before .store2 .last .0) e refl (c .before .before .before .before .before .before .store .ensures) (c .before .before .store2 .ensures)))
+    (omega arith, rw k (pass-more (a .q) (a .size) (a .top) (a .big) (a .cap) (a .t .now) (a .hs .now) (a .zs .now) (a .os .now) (a .zero .now) (a .one .now) w (t .t) (t .zero) (t .one) (t .i) (t .inv .1) l (c .before .before .before .before .before .before .before .before .before .before .before .before .advance .last .0) (c .before .before .before .before .before .before .before .before .before .before .before .before .advance .result .zero) (c .before .before .before .before .before .before .before .before .before .before .before .before .advance .result .one) _ (c .before .before .before .before .before .before .store-two .last .0) (c .before .before .store-two2 .last .0) e refl (c .before .before .before .before .before .before .store-two .ensures) (c .before .before .store-two2 .ensures)))
 
 same-length : tie.Need-same-length Inv-loop μ-loop
 same-length c = let st = c .before .before .before .before .before .before .before .before in omega (arith, c .before .loop .inv .1 .behind .long, st .pre .made .long)
@@ -194,8 +206,10 @@ soft-pass-spec =
     part-advance-start
     part-advance-end
     advance-requires
-    store-requires
-    store-requires-2
+    mul-store-two
+    store-two-requires
+    mul-store-two-2
+    store-two-requires-2
     add-i
     loop-less
     loop-again

@@ -94,6 +94,12 @@ array-read-after-4 c = search needs
 after-requires-4 : tie.Need-after-requires-4
 after-requires-4 c κs = tt
 
+mul-t56 : tie.Need-mul-t56
+mul-t56 c = record { fits = omega (arith, c .before .before .before .before .before .before .before .bit-of .ensures .1, c .before .before .before .before .before .before .bit-of2 .ensures .1, c .before .before .before .before .before .bit-of3 .ensures .1, c .before .before .before .before .bit-of4 .ensures .1) }
+
+add-t57 : tie.Need-add-t57
+add-t57 c = record { fits = omega (arith, c .before .before .before .before .before .before .before .bit-of .ensures .1, c .before .before .before .before .before .before .bit-of2 .ensures .1, c .before .before .before .before .before .bit-of3 .ensures .1, c .before .before .before .before .bit-of4 .ensures .1) }
+
 mul-t58 : tie.Need-mul-t58
 mul-t58 c = record { fits = omega (arith, c .before .before .before .before .before .before .before .bit-of .ensures .1, c .before .before .before .before .before .before .bit-of2 .ensures .1, c .before .before .before .before .before .bit-of3 .ensures .1, c .before .before .before .before .bit-of4 .ensures .1) }
 
@@ -105,12 +111,6 @@ mul-t60 c = record { fits = omega (arith, c .before .before .before .before .bef
 
 add-t61 : tie.Need-add-t61
 add-t61 c = record { fits = omega (arith, c .before .before .before .before .before .before .before .bit-of .ensures .1, c .before .before .before .before .before .before .bit-of2 .ensures .1, c .before .before .before .before .before .bit-of3 .ensures .1, c .before .before .before .before .bit-of4 .ensures .1) }
-
-mul-t62 : tie.Need-mul-t62
-mul-t62 c = record { fits = omega (arith, c .before .before .before .before .before .before .before .bit-of .ensures .1, c .before .before .before .before .before .before .bit-of2 .ensures .1, c .before .before .before .before .before .bit-of3 .ensures .1, c .before .before .before .before .bit-of4 .ensures .1) }
-
-add-t63 : tie.Need-add-t63
-add-t63 c = record { fits = omega (arith, c .before .before .before .before .before .before .before .bit-of .ensures .1, c .before .before .before .before .before .before .bit-of2 .ensures .1, c .before .before .before .before .before .bit-of3 .ensures .1, c .before .before .before .before .bit-of4 .ensures .1) }
 
 returns : tie.Need-returns
 returns c = (symbol-same (c .before .before .before .before .before .before .before .bit-of .ensures .0) (c .before .before .before .before .before .before .bit-of2 .ensures .0) (c .before .before .before .before .before .bit-of3 .ensures .0) (c .before .before .before .before .bit-of4 .ensures .0), four-same (c .before .before .before .after .ensures ∙ ap (λ (b : ℕ). xor (getD (c .before .before .before .before .before .before .before .before .before .args .t4) 0 0) (pick b 0 (c .before .before .before .before .before .before .before .before .before .args .h))) (c .before .before .before .before .before .before .before .bit-of .ensures .0)) (c .before .before .after2 .ensures ∙ ap (λ (b : ℕ). xor (getD (c .before .before .before .before .before .before .before .before .before .args .t4) 1 0) (pick b 0 (c .before .before .before .before .before .before .before .before .before .args .h))) (c .before .before .before .before .before .before .bit-of2 .ensures .0)) (c .before .after3 .ensures ∙ ap (λ (b : ℕ). xor (getD (c .before .before .before .before .before .before .before .before .before .args .t4) 2 0) (pick b 0 (c .before .before .before .before .before .before .before .before .before .args .h))) (c .before .before .before .before .before .bit-of3 .ensures .0)) (c .after4 .ensures ∙ ap (λ (b : ℕ). xor (getD (c .before .before .before .before .before .before .before .before .before .args .t4) 3 0) (pick b 0 (c .before .before .before .before .before .before .before .before .before .args .h))) (c .before .before .before .before .bit-of4 .ensures .0)))
@@ -143,10 +143,10 @@ trace-row-spec =
     after-requires-3
     array-read-after-4
     after-requires-4
+    mul-t56
+    add-t57
     mul-t58
     add-t59
     mul-t60
     add-t61
-    mul-t62
-    add-t63
     returns)

@@ -1,0 +1,15 @@
+-- `configurations::all_of_code_2` meets its contract: the test is computed entry by entry over the whole table.
+-- Assumes nothing.
+use mathlib.Core.Path.{refl}
+use Rattle.field.specs.Field.{xor, times, times-from, doubled, alpha}
+use Rattle.configurations.specs.Configurations.{configurations, configuration, of-code-2, listed-from, listed}
+use Rattle.split.specs.Split.{padded}
+use Rattle.configurations.proofs.all_of_code_2.Statement.{statement}
+use Rattle.configurations.proofs.all_of_code_2.Tie as tie
+
+returns : tie.Need-returns
+unfolding xor times times-from doubled alpha configurations configuration of-code-2 padded listed-from listed
+returns c = refl
+
+pub all-of-code-2-spec : {M : Type 1} → statement M
+all-of-code-2-spec = tie.close (tie.spec returns)

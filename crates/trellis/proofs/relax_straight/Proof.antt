@@ -1,0 +1,131 @@
+-- `trellis::relax_straight` meets its contract.
+-- Assumes nothing.
+use native.Mathlib.Omega.{arith}
+use borrow.Author.Needs.{needs}
+use mathlib.Core.Path.{_≡_, refl, sym, ap, ap₂, _∙_}
+use mathlib.Core.List.{List}
+use Prim.Native.Nat.{ℕ, _+_, _-_, _*_, _%_, _≤_, _<_}
+use Rattle.field.specs.Field.{xor}
+use Rattle.trellis.specs.Rows.{rows, two, twofold, sum, less, put-two, Relaxed}
+use Rattle.trellis.proofs.Neighbours.{straight-next, next-in}
+use Rattle.trellis.proofs.Relaxing.{relax-start, relax-in, relax-asks, relax-more}
+use Rattle.trellis.proofs.relax_straight.Statement.{statement}
+use Rattle.trellis.proofs.relax_straight.Tie as tie
+
+abbrev Inv-loop : tie.InvT-loop
+Inv-loop p₀ q size h z o s₀ p s = (s ≤ size) × (s % 2 ≡ 0) × Relaxed size h p₀ z o s p
+
+abbrev μ-loop : tie.MeasureT-loop
+μ-loop p₀ q size h z o s₀ p s = size - s
+
+loop-holds : tie.Need-loop-holds Inv-loop μ-loop
+loop-holds c = let st = c .before in
+    let a = st .args in
+    (omega arith, refl, relax-start (a .q) (a .size) (a .h) (a .p .now) (a .z) (a .o) (st .pre .0))
+
+add-u : tie.Need-add-u Inv-loop μ-loop
+unfolding xor
+add-u c = let n = c in
+    let t = n .before in
+    let st = t .before .before in
+    let a = st .args in
+    let w = st .pre .0 in
+    let inv = t .loop .inv in
+    let l = next-in (a .q) (a .size) (a .h) (a .p .now) (w .two) (t .loop .s) (n .loop-test .taken) (inv .1) in
+    let r = relax-in (a .q) (a .size) (a .h) (a .p .now) (a .z) (a .o) w (t .loop .p) (t .loop .s) (inv .2) l in
+    record { fits = omega (arith, r, straight-next (t .loop .s) (a .h) (inv .1) (st .pre .1)) }
+
+add-load-two : tie.Need-add-load-two Inv-loop μ-loop
+unfolding xor
+add-load-two c = let n = c .before in
+    let t = n .before in
+    let st = t .before .before in
+    let a = st .args in
+    let w = st .pre .0 in
+    let inv = t .loop .inv in
+    let l = next-in (a .q) (a .size) (a .h) (a .p .now) (w .two) (t .loop .s) (n .loop-test .taken) (inv .1) in
+    let r = relax-in (a .q) (a .size) (a .h) (a .p .now) (a .z) (a .o) w (t .loop .p) (t .loop .s) (inv .2) l in
+    record { fits = omega (arith, r, straight-next (t .loop .s) (a .h) (inv .1) (st .pre .1)) }
+
+load-two-requires : tie.Need-load-two-requires Inv-loop μ-loop
+unfolding xor
+load-two-requires c κs = let n = c .before in
+    let t = n .before in
+    let st = t .before .before in
+    let a = st .args in
+    let w = st .pre .0 in
+    let inv = t .loop .inv in
+    let l = next-in (a .q) (a .size) (a .h) (a .p .now) (w .two) (t .loop .s) (n .loop-test .taken) (inv .1) in
+    let r = relax-in (a .q) (a .size) (a .h) (a .p .now) (a .z) (a .o) w (t .loop .p) (t .loop .s) (inv .2) l in
+    (omega (arith, r, straight-next (t .loop .s) (a .h) (inv .1) (st .pre .1)), omega (arith, r, straight-next (t .loop .s) (a .h) (inv .1) (st .pre .1)))
+
+relax-two-requires : tie.Need-relax-two-requires Inv-loop μ-loop
+unfolding xor
+relax-two-requires c κs = let n = c .before .before .before in
+    let t = n .before in
+    let st = t .before .before in
+    let a = st .args in
+    let w = st .pre .0 in
+    let inv = t .loop .inv in
+    let l = next-in (a .q) (a .size) (a .h) (a .p .now) (w .two) (t .loop .s) (n .loop-test .taken) (inv .1) in
+    let e2 : a .size + xor (t .loop .s) (a .h) + 1 ≡ a .size + xor (t .loop .s + 1) (a .h) = omega (arith, straight-next (t .loop .s) (a .h) (inv .1) (st .pre .1)) in
+    let e = ap (rows (t .loop .p) (a .size + xor (t .loop .s) (a .h))) e2 in
+    rw (c .before .load-two .ensures, e) (relax-asks (a .q) (a .size) (a .h) (a .p .now) (a .z) (a .o) w (t .loop .p) (t .loop .s) (inv .2) l)
+
+add-s : tie.Need-add-s Inv-loop μ-loop
+add-s c = let n = c .before .before .before .before .before .before in
+    let t = n .before in
+    let st = t .before .before in
+    let a = st .args in
+    let w = st .pre .0 in
+    let inv = t .loop .inv in
+    let l = next-in (a .q) (a .size) (a .h) (a .p .now) (w .two) (t .loop .s) (n .loop-test .taken) (inv .1) in
+    record { fits = omega arith }
+
+loop-less : tie.Need-loop-less Inv-loop μ-loop
+loop-less c = let n = c .before .before .before .before .before .before in
+    let t = n .before in
+    let st = t .before .before in
+    let a = st .args in
+    let w = st .pre .0 in
+    let inv = t .loop .inv in
+    let l = next-in (a .q) (a .size) (a .h) (a .p .now) (w .two) (t .loop .s) (n .loop-test .taken) (inv .1) in
+    omega arith
+
+loop-again : tie.Need-loop-again Inv-loop μ-loop
+unfolding xor
+loop-again c = let n = c .before .before .before .before .before .before in
+    let t = n .before in
+    let st = t .before .before in
+    let a = st .args in
+    let w = st .pre .0 in
+    let inv = t .loop .inv in
+    let l = next-in (a .q) (a .size) (a .h) (a .p .now) (w .two) (t .loop .s) (n .loop-test .taken) (inv .1) in
+    let e2 : a .size + xor (t .loop .s) (a .h) + 1 ≡ a .size + xor (t .loop .s + 1) (a .h) = omega (arith, straight-next (t .loop .s) (a .h) (inv .1) (st .pre .1)) in
+    let e = ap (rows (t .loop .p) (a .size + xor (t .loop .s) (a .h))) e2 in
+    let x = c .before .before .relax-two in
+    (omega arith, omega arith, relax-more (a .q) (a .size) (a .h) (a .p .now) (a .z) (a .o) w (t .loop .p) (t .loop .s) (inv .2) l (x .last .0) (x .ensures ∙ ap (λ (y : List ℕ). put-two (t .loop .p) (t .loop .s) (less (sum (two (t .loop .p) (a .size + t .loop .s)) (twofold (a .z))) (sum y (twofold (a .o))))) (c .before .before .before .before .load-two .ensures ∙ e)))
+
+same-length : tie.Need-same-length Inv-loop μ-loop
+same-length c = omega arith
+
+returns : tie.Need-returns Inv-loop μ-loop
+returns c = let e : c .before .loop .s ≡ c .before .before .before .args .size = omega arith in
+    rw e at (c .before .loop .inv .2)
+
+pub relax-straight-spec : {M : Type 1} → statement M
+relax-straight-spec =
+    tie.close
+    (tie.spec
+    Inv-loop
+    μ-loop
+    loop-holds
+    add-u
+    add-load-two
+    load-two-requires
+    relax-two-requires
+    add-s
+    loop-less
+    loop-again
+    same-length
+    returns)
