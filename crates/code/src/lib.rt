@@ -187,7 +187,7 @@ fn value(m: u32, t: u32, word: &[u8]) -> u8
     let mut e: u32 = 0;
     let mut i: usize = 0;
     while i < word.len() {
-        sum = field::add(sum, field::multiply(m, word[i], field::power(m, e)));
+        sum = field::add(sum, field::times_power(m, word[i], e));
         e += t;
         i += 1;
     }

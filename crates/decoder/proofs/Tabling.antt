@@ -63,7 +63,7 @@ module _ (c m r q n size count : ℕ) (row : List ℤ) (cs : List ℕ) (z : Inpu
     columns-ok = (width-ok, few-ok, b .length-hs ∙ z .n-is)
 
     pub costs-ok : CostRows m n row zs os
-    costs-ok = record { width = width-ok; length-row = row-is; length-zs = b .length-zs; length-os = b .length-os }
+    costs-ok = record { width = width-ok; few = omega (arith, z .n-is, long-le m width-ok); length-row = row-is; length-zs = b .length-zs; length-os = b .length-os }
 
     -- after the columns and the costs are written
     module _ (hs' zs' os' : List ℕ) (h : Headed m r (long m) hs') (k : Costed m n row zs' os') (lz : length zs' ≡ length zs) (lo : length os' ≡ length os) where

@@ -291,7 +291,7 @@ fn zeros_1024() -> [u16; 1024]
 fn zeros_2048() -> [u16; 2048]
     ensures { λ r. ⌜ length r ≡ 2048 ⌝ }
 {
-    [0u16; 2048]
+    [BIG; 2048]
 }
 
 // Each code with buffers of its own sizes: n + 1 tables of four layers, 2^q rows each.

@@ -175,6 +175,18 @@ pub fn multiply(m: u32, a: u8, b: u8) -> u8
     power(m, log(m, a) + log(m, b))
 }
 
+// An element times α^e.
+pub fn times_power(m: u32, a: u8, e: u32) -> u8
+    requires { ⌜ Inside m a ⌝ }
+    requires { ⌜ e < 2 ^ 16 ⌝ }
+    ensures { λ r. ⌜ r ≡ times m a (alpha m e) ⌝ }
+{
+    if a == 0 {
+        return 0;
+    }
+    power(m, log(m, a) + e)
+}
+
 // The inverse of an element: the rest of a turn from its exponent; that of 0 is itself.
 fn invert(m: u32, a: u8) -> u8
     requires { ⌜ Inside m a ⌝ }

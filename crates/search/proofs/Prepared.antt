@@ -20,9 +20,8 @@ use Rattle.field.specs.Field.{width-good, alpha}
 use Rattle.field.proofs.Tests.{widths}
 use Rattle.code.specs.Code.{long}
 use Rattle.metric.specs.Cost.{costZero, costOne}
-use Rattle.trellis.specs.Rows.{entry, lane, lanes, put}
-use Rattle.trellis.proofs.Rows.{lanes-at, length-put, put-other, put-at}
-use Rattle.search.specs.Search.{pack, head, reliability, zero-cost, one-cost, Headed, CostRows, Costed}
+use Rattle.trellis.proofs.Rows.{four}
+use Rattle.search.specs.Search.{pack, head, reliability, Headed, put-four, Spread, CostsTo, Costed}
 
 -- ---- a reliability's costs, by its sign
 clash : {X : Type 0} → false ≡ true → X
@@ -99,28 +98,75 @@ headed-more m r i x hs d l e = record { count = length-set hs i x ∙ d .count; 
     go k h (no a) = getD-set-other hs i k x 0 (λ q. omega arith) ∙ d .heads k (omega arith)
 
 -- ---- costs
-pub record Costing (m n : ℕ) (row : List ℤ) (i : ℕ) (zs os : List ℕ) : Type 0 where
-  pub long-zs : length zs ≡ n * 4
-  pub long-os : length os ≡ n * 4
-  pub done : Costed m i row zs os
+module _ (w : List ℤ) (at : ℕ) (f : ℕ → ℤ) where
+  abbrev w1 : List ℤ
+  w1 = set w (at + 0) (f 0)
 
-one-more : (f : ℕ → ℕ → ℕ) (i n : ℕ) (out r out' : List ℕ) → length out ≡ n * 4 → i < n → ((k j : ℕ) → k < i → j < 4 → entry out k j ≡ f k j) → r ≡ lanes (f i) → out' ≡ put out i r →
-    (k j : ℕ) → k < i + 1 → j < 4 → entry out' k j ≡ f k j
-one-more f i n out r out' lo li p er e k j lk lj = ap (λ (x : List ℕ). entry x k j) e ∙ go (decLe i k)
+  abbrev w2 : List ℤ
+  w2 = set w1 (at + 1) (f 1)
+
+  abbrev w3 : List ℤ
+  w3 = set w2 (at + 2) (f 2)
+
+  pub length-four : length (put-four w at f) ≡ length w
+  unfolding put-four
+  length-four = simp length-set
+
+  four-other : (k : ℕ) → k < at → getD (put-four w at f) k (pos 0) ≡ getD w k (pos 0)
+  unfolding put-four
+  four-other k l =
+      getD-set-other w3 (at + 3) k (f 3) (pos 0) (λ e. omega arith)
+      ∙ getD-set-other w2 (at + 2) k (f 2) (pos 0) (λ e. omega arith)
+      ∙ getD-set-other w1 (at + 1) k (f 1) (pos 0) (λ e. omega arith)
+      ∙ getD-set-other w (at + 0) k (f 0) (pos 0) (λ e. omega arith)
+
+  four-at : at + 4 ≤ length w → (j : ℕ) → j < 4 → getD (put-four w at f) (at + j) (pos 0) ≡ f j
+  unfolding put-four
+  four-at l =
+      four (λ j. getD (put-four w at f) (at + j) (pos 0) ≡ f j)
+      (getD-set-other w3 (at + 3) (at + 0) (f 3) (pos 0) (λ e. omega arith)
+      ∙ getD-set-other w2 (at + 2) (at + 0) (f 2) (pos 0) (λ e. omega arith)
+      ∙ getD-set-other w1 (at + 1) (at + 0) (f 1) (pos 0) (λ e. omega arith)
+      ∙ getD-set-same w (at + 0) (f 0) (pos 0) (omega arith))
+      (getD-set-other w3 (at + 3) (at + 1) (f 3) (pos 0) (λ e. omega arith)
+      ∙ getD-set-other w2 (at + 2) (at + 1) (f 2) (pos 0) (λ e. omega arith)
+      ∙ getD-set-same w1 (at + 1) (f 1) (pos 0) (simp length-set (omega arith)))
+      (getD-set-other w3 (at + 3) (at + 2) (f 3) (pos 0) (λ e. omega arith)
+      ∙ getD-set-same w2 (at + 2) (f 2) (pos 0) (simp length-set (omega arith)))
+      (getD-set-same w3 (at + 3) (f 3) (pos 0) (simp length-set (omega arith)))
+
+pub four-is : (w : List ℤ) (at : ℕ) (f : ℕ → ℤ) (a b c d : ℤ) → a ≡ f 0 → b ≡ f 1 → c ≡ f 2 → d ≡ f 3 → set (set (set (set w (at + 0) a) (at + 1) b) (at + 2) c) (at + 3) d ≡ put-four w at f
+unfolding put-four
+four-is w at f a b c d ea eb ec ed = rw (ea, eb, ec, ed) refl
+
+pub spread-more : (m i : ℕ) (row wide wide' : List ℤ) → i * 4 + 4 ≤ length wide → Spread m i row wide → wide' ≡ put-four wide (i * 4) (reliability m row i) → Spread m (i + 1) row wide'
+spread-more m i row wide wide' l s e k j lk lj = ap (λ (x : List ℤ). getD x (k * 4 + j) (pos 0)) e ∙ go (decLe i k)
   where
-    go : Dec (i ≤ k) → entry (put out i r) k j ≡ f k j
-    go (yes a) = let x : k ≡ i = omega arith in rw x (put-at out i r (omega arith) j lj ∙ ap (λ (y : List ℕ). lane y j) er ∙ lanes-at (f i) j lj)
-    go (no a) = put-other out i r (k * 4 + j) (λ b c. omega arith) ∙ p k j (omega arith) lj
+    go : Dec (i ≤ k) → getD (put-four wide (i * 4) (reliability m row i)) (k * 4 + j) (pos 0) ≡ reliability m row k j
+    go (yes a) = let x : k ≡ i = omega arith in rw x (four-at wide (i * 4) (reliability m row i) l j lj)
+    go (no a) = four-other wide (i * 4) (reliability m row i) (k * 4 + j) (omega arith) ∙ s k j (omega arith) lj
 
-pub costed-more : (m n i : ℕ) (row : List ℤ) (zs os z o zs' os' : List ℕ) → Costing m n row i zs os → i < n → z ≡ lanes (zero-cost m row i) → o ≡ lanes (one-cost m row i) →
-    zs' ≡ put zs i z → os' ≡ put os i o → Costing m n row (i + 1) zs' os'
-costed-more m n i row zs os z o zs' os' d l ez eo e f = record {
-  long-zs = ap length e ∙ length-put zs i z ∙ d .long-zs;
-  long-os = ap length f ∙ length-put os i o ∙ d .long-os;
-  done = record {
-    zeros = one-more (zero-cost m row) i n zs z zs' (d .long-zs) l (d .done .zeros) ez e;
-    ones = one-more (one-cost m row) i n os o os' (d .long-os) l (d .done .ones) eo f;
-  };
+-- one place more of a list that follows another
+follow : (f : ℤ → ℕ) (wide : List ℤ) (xs : List ℕ) (b x : ℕ) → b < length xs → x ≡ f (getD wide b (pos 0)) → ((k : ℕ) → k < b → getD xs k 0 ≡ f (getD wide k (pos 0))) →
+    (k : ℕ) → k < b + 1 → getD (set xs b x) k 0 ≡ f (getD wide k (pos 0))
+follow f wide xs b x l e p k h = go (decLe b k)
+  where
+    go : Dec (b ≤ k) → getD (set xs b x) k 0 ≡ f (getD wide k (pos 0))
+    go (yes a) = let q : k ≡ b = omega arith in rw q (getD-set-same xs b x 0 l ∙ e)
+    go (no a) = getD-set-other xs b k x 0 (λ q. omega arith) ∙ p k (omega arith)
+
+pub costs-more : (wide : List ℤ) (zs os : List ℕ) (b x y : ℕ) → b < length zs → b < length os → x ≡ costZero (getD wide b (pos 0)) → y ≡ costOne (getD wide b (pos 0)) →
+    CostsTo b wide zs os → CostsTo (b + 1) wide (set zs b x) (set os b y)
+costs-more wide zs os b x y lz lo ex ey d = record {
+  zeros = follow costZero wide zs b x lz ex (d .zeros);
+  ones = follow costOne wide os b y lo ey (d .ones);
+}
+
+-- the costs of all places are those of all positions
+pub costed : (m n : ℕ) (row wide : List ℤ) (zs os : List ℕ) → Spread m n row wide → CostsTo (n * 4) wide zs os → Costed m n row zs os
+costed m n row wide zs os s d = record {
+  zeros = λ i j li lj. d .zeros (i * 4 + j) (omega arith) ∙ ap costZero (s i j li lj);
+  ones = λ i j li lj. d .ones (i * 4 + j) (omega arith) ∙ ap costOne (s i j li lj);
 }
 
 pub inside : (m n i : ℕ) → i < n → i * m + m ≤ n * m

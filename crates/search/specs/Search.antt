@@ -5,7 +5,7 @@ use mathlib.Core.Bool.{true, cond}
 use mathlib.Core.List.{List, [], _∷_}
 use Prim.Native.Nat.{ℕ, suc, _+_, _*_, _/_, _%_, _^_, _≤_, _<_}
 use lib.Dec.{leb, ltb}
-use lib.ListN.{length, getD}
+use lib.ListN.{length, getD, set}
 use lib.IntN.{ℤ, pos}
 use Rattle.field.specs.Field.{width-good, alpha}
 use Rattle.code.specs.Code.{long}
@@ -51,9 +51,23 @@ pub record Headed (m r n : ℕ) (hs : List ℕ) : Type 0 where
   pub count : length hs ≡ long m
   pub heads : (i : ℕ) → i < n → getD hs i 0 ≡ head m r i
 
+-- four places written from `at` on
+unfoldable pub put-four : List ℤ → (at : ℕ) → (ℕ → ℤ) → List ℤ
+put-four w at f = set (set (set (set w (at + 0) (f 0)) (at + 1) (f 1)) (at + 2) (f 2)) (at + 3) (f 3)
+
+-- the first n positions of a row, four places each
+abbrev pub Spread : (m n : ℕ) → (row wide : List ℤ) → Type 0
+Spread m n row wide = (i j : ℕ) → i < n → j < 4 → getD wide (i * 4 + j) (pos 0) ≡ reliability m row i j
+
+-- the costs of the first n places
+pub record CostsTo (n : ℕ) (wide : List ℤ) (zs os : List ℕ) : Type 0 where
+  pub zeros : (b : ℕ) → b < n → getD zs b 0 ≡ costZero (getD wide b (pos 0))
+  pub ones : (b : ℕ) → b < n → getD os b 0 ≡ costOne (getD wide b (pos 0))
+
 -- what `cost_rows` asks
 pub record CostRows (m n : ℕ) (row : List ℤ) (zs os : List ℕ) : Type 0 where
   pub width : width-good m ≡ true
+  pub few : n ≤ 15
   pub length-row : length row ≡ n * m
   pub length-zs : length zs ≡ n * 4
   pub length-os : length os ≡ n * 4

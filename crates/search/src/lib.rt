@@ -12,7 +12,7 @@ ghost use Rattle.configurations.specs.Configurations.{configurations, listed};
 ghost use Rattle.metric.specs.Row.{reliability-good, row-good};
 ghost use Rattle.metric.specs.Cost.{costZero, costOne, weight-of, cost};
 ghost use Rattle.trellis.specs.Rows.{lane, lanes};
-ghost use Rattle.search.specs.Search.{head, reliability, zero-cost, one-cost, Head, Headed, CostRows, Costed, word-cost, Own, Symbol};
+ghost use Rattle.search.specs.Search.{head, reliability, zero-cost, one-cost, Head, Headed, put-four, Spread, CostsTo, CostRows, Costed, word-cost, Own, Symbol};
 ghost use Rattle.trellis.specs.Trellis.{pick};
 ghost use Rattle.glue.specs.Walk.{sum4};
 
@@ -73,49 +73,56 @@ fn reliability_at(m: u32, row: &[i16], i: usize, j: usize) -> i16
     0
 }
 
-// What a 0 and a 1 cost in each layer of a position.
-pub struct Costs {
-    pub zero: [u16; 4],
-    pub one: [u16; 4],
-}
-
-fn costs_at(m: u32, row: &[i16], i: usize) -> Costs
-    requires { ⌜ (width-good m ≡ true) × (i * m + m ≤ length (now row)) ⌝ }
-    ensures { λ r. ⌜ (r .zero ≡ lanes (zero-cost m (now (row .entry)) i)) × (r .one ≡ lanes (one-cost m (now (row .entry)) i)) ⌝ }
+// The reliabilities of position i, four places.
+fn spread_at(m: u32, row: &[i16], i: usize, wide: &mut [i16])
+    requires { ⌜ (width-good m ≡ true) × (i * m + m ≤ length (now row)) × (i * 4 + 4 ≤ length (now wide)) ⌝ }
+    ensures { λ _. ⌜ now (wide .exit) ≡ put-four (now (wide .entry)) (i * 4) (reliability m (now (row .entry)) i) ⌝ }
 {
     let r0 = reliability_at(m, row, i, 0);
     let r1 = reliability_at(m, row, i, 1);
     let r2 = reliability_at(m, row, i, 2);
     let r3 = reliability_at(m, row, i, 3);
-    let z = [
-        cost_of_zero(r0),
-        cost_of_zero(r1),
-        cost_of_zero(r2),
-        cost_of_zero(r3),
-    ];
-    let o = [
-        cost_of_one(r0),
-        cost_of_one(r1),
-        cost_of_one(r2),
-        cost_of_one(r3),
-    ];
-    Costs { zero: z, one: o }
+    let k = i * 4;
+    wide[k + 0] = r0;
+    wide[k + 1] = r1;
+    wide[k + 2] = r2;
+    wide[k + 3] = r3;
 }
 
-// The costs of a row, four layers to a position.
+// A row with four places to a position.
+fn spread(m: u32, n: usize, row: &[i16], wide: &mut [i16])
+    requires { ⌜ (width-good m ≡ true) × (length (now row) ≡ n * m) × (n * 4 ≤ length (now wide)) ⌝ }
+    ensures { λ _. ⌜ Spread m n (now (row .entry)) (now (wide .exit)) ⌝ }
+{
+    let mut i = 0;
+    while i < n {
+        spread_at(m, row, i, wide);
+        i += 1;
+    }
+}
+
+// What a 0 and a 1 cost at each place.
+fn costs(wide: &[i16], zs: &mut [u16], os: &mut [u16])
+    requires { ⌜ (length (now zs) ≡ length (now os)) × (length (now zs) ≤ length (now wide)) ⌝ }
+    ensures { λ _. ⌜ CostsTo (length (now (zs .entry))) (now (wide .entry)) (now (zs .exit)) (now (os .exit)) ⌝ }
+{
+    let mut b = 0;
+    while b < zs.len() {
+        let r = wide[b];
+        zs[b] = cost_of_zero(r);
+        os[b] = cost_of_one(r);
+        b += 1;
+    }
+}
+
+// The costs of a row, four layers to a position. At each place they are found without regard to positions, several at a time.
 pub fn cost_rows(m: u32, n: usize, row: &[i16], zs: &mut [u16], os: &mut [u16])
     requires { ⌜ CostRows m n (now row) (now zs) (now os) ⌝ }
     ensures { λ _. ⌜ Costed m n (now (row .entry)) (now (zs .exit)) (now (os .exit)) ⌝ }
 {
-    let mut i = 0;
-    while i < n {
-        let c = costs_at(m, row, i);
-        let z = c.zero;
-        let o = c.one;
-        trellis::store(zs, i, z);
-        trellis::store(os, i, o);
-        i += 1;
-    }
+    let mut wide = [0i16; 60];
+    spread(m, n, row, &mut wide);
+    costs(&wide, zs, os);
 }
 
 // What a bit costs.

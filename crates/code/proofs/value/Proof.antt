@@ -8,7 +8,6 @@ use lib.ListN.{length, drop}
 use borrow.Author.Needs.{needs}
 use Rattle.field.specs.Field.{xor}
 use Rattle.field.proofs.Xor as X
-use Rattle.field.proofs.Field as F
 use Rattle.code.specs.Code.{value-from, value-at}
 use Rattle.code.proofs.Loops.{good-at, value-step, value-none, long-small, next-exponent}
 use Rattle.code.proofs.value.Statement.{statement}
@@ -25,25 +24,23 @@ unfolding value-at
 loop-holds c = let a = c .before .args in
     (search needs, sym (zero-mul (a .t)), search needs, X.zero-l (value-from (a .m) (a .t) 0 (a .word .now)))
 
-shared-slice-read-multiply : tie.Need-shared-slice-read-multiply Inv-loop μ-loop
-shared-slice-read-multiply c = search needs
+shared-slice-read-times-power : tie.Need-shared-slice-read-times-power Inv-loop μ-loop
+shared-slice-read-times-power c = search needs
 
-power-requires : tie.Need-power-requires Inv-loop μ-loop
-power-requires c κs = search needs
-
-multiply-requires : tie.Need-multiply-requires Inv-loop μ-loop
-multiply-requires c κs = let s = c .before .before .before in let a = s .before .before in
-    record {
-      width = search needs;
-      first = good-at (a .args .m) (a .args .word .now) (a .pre .symbols) (s .loop .i) (search needs);
-      second = rw (c .power .ensures) (F.alpha-lt (a .args .m) (a .pre .width) (s .loop .e));
-    }
+times-power-requires : tie.Need-times-power-requires Inv-loop μ-loop
+times-power-requires c κs = let s = c .before .before in let a = s .before .before in (
+  record {
+    width = a .pre .width;
+    inside = good-at (a .args .m) (a .args .word .now) (a .pre .symbols) (s .loop .i) (c .before .loop-test .taken);
+  },
+  omega (arith, long-small (a .args .m) (a .pre .width), a .pre, s .loop .inv .2, c .before .loop-test .taken),
+)
 
 add-requires : tie.Need-add-requires Inv-loop μ-loop
 add-requires c κs = search needs
 
 add-e : tie.Need-add-e Inv-loop μ-loop
-add-e c = let a = c .before .before .before .before .before .before .before in
+add-e c = let a = c .before .before .before .before .before .before in
     omega (arith, long-small (a .args .m) (a .pre .width), a .pre)
 
 add-i : tie.Need-add-i Inv-loop μ-loop
@@ -53,13 +50,13 @@ loop-less : tie.Need-loop-less Inv-loop μ-loop
 loop-less c = search needs
 
 loop-again : tie.Need-loop-again Inv-loop μ-loop
-loop-again c = let s = c .before .before .before .before .before in let a = s .before .before .args in
-    let p = s .before .before .pre in let x = c .before .before .power .ensures in (
+loop-again c = let s = c .before .before .before .before in let a = s .before .before .args in
+    let p = s .before .before .pre in (
       search needs,
       next-exponent (s .loop .e) (s .loop .i) (a .t) (s .loop .inv .1),
       omega (arith, long-small (a .m) (p .width)),
-      rw (c .add .ensures, c .before .multiply .ensures, x, s .loop .inv .1)
-          (value-step (a .m) (a .word .now) (s .loop .i) (c .before .before .before .before .loop-test .taken) (a .t) (s .loop .sum) ∙ s .loop .inv .3),
+      rw (c .add .ensures, c .before .times-power .ensures, s .loop .inv .1)
+          (value-step (a .m) (a .word .now) (s .loop .i) (c .before .before .before .loop-test .taken) (a .t) (s .loop .sum) ∙ s .loop .inv .3),
     )
 
 returns : tie.Need-returns Inv-loop μ-loop
@@ -73,9 +70,8 @@ value-spec =
     Inv-loop
     μ-loop
     loop-holds
-    shared-slice-read-multiply
-    power-requires
-    multiply-requires
+    shared-slice-read-times-power
+    times-power-requires
     add-requires
     add-e
     add-i

@@ -1,0 +1,64 @@
+-- `search::spread` meets its contract.
+-- Assumes nothing.
+use native.Mathlib.Omega.{arith}
+use borrow.Author.Needs.{needs}
+use mathlib.Core.Path.{_≡_, refl, sym, ap, _∙_}
+use Prim.Native.Nat.{ℕ, _+_, _-_, _*_, _≤_, _<_}
+use lib.ListN.{length}
+use Rattle.search.specs.Search.{reliability, Spread}
+use Rattle.search.proofs.Prepared.{length-four, spread-more, inside}
+use Rattle.search.proofs.spread.Statement.{statement}
+use Rattle.search.proofs.spread.Tie as tie
+
+abbrev Inv-loop : tie.InvT-loop
+Inv-loop m n row wide₀ i₀ wide i = (i ≤ n) × (length wide ≡ length wide₀) × Spread m i row wide
+
+abbrev μ-loop : tie.MeasureT-loop
+μ-loop m n row wide₀ i₀ wide i = n - i
+
+loop-holds : tie.Need-loop-holds Inv-loop μ-loop
+loop-holds c = (omega arith, refl, λ i j h k. absurd (omega arith))
+
+spread-at-requires : tie.Need-spread-at-requires Inv-loop μ-loop
+spread-at-requires c κs = let n = c .before in
+    let t = n .before .loop in
+    let s = n .before .before in
+    let a = s .args in
+    let l : t .i < a .n = n .loop-test .taken in
+    (s .pre .0, omega (arith, s .pre .1, inside (a .m) (a .n) (t .i) l), omega (arith, s .pre .2, t .inv .1))
+
+add-i : tie.Need-add-i Inv-loop μ-loop
+add-i c = omega arith
+
+loop-less : tie.Need-loop-less Inv-loop μ-loop
+loop-less c = omega arith
+
+loop-again : tie.Need-loop-again Inv-loop μ-loop
+loop-again c = let n = c .before .before .before in
+    let t = n .before .loop in
+    let s = n .before .before in
+    let a = s .args in
+    let l : t .i < a .n = n .loop-test .taken in
+    let e = c .before .spread-at .ensures in
+    (omega arith, ap length e ∙ length-four (t .wide) (t .i * 4) (reliability (a .m) (a .row .now) (t .i)) ∙ t .inv .1, spread-more (a .m) (t .i) (a .row .now) (t .wide) _ (omega (arith, s .pre .2, t .inv .1)) (t .inv .2) e)
+
+same-length : tie.Need-same-length Inv-loop μ-loop
+same-length c = c .before .loop .inv .1
+
+returns : tie.Need-returns Inv-loop μ-loop
+returns c = let e : c .before .loop .i ≡ c .before .before .args .n = omega arith in
+    rw e at (c .before .loop .inv .2)
+
+pub spread-spec : {M : Type 1} → statement M
+spread-spec =
+    tie.close
+    (tie.spec
+    Inv-loop
+    μ-loop
+    loop-holds
+    spread-at-requires
+    add-i
+    loop-less
+    loop-again
+    same-length
+    returns)
