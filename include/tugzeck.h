@@ -11,7 +11,7 @@
  *
  * Every pointer belongs to the caller, and no call keeps one. Nothing is allocated, there is no global state, and nothing is locked: any
  * number of threads may call at once, each with its own outputs. A call takes less than 64 KiB of stack (tested, not proved), and of the C
- * library memset alone. Counts are in elements.
+ * library memset and memcpy alone. Counts are in elements.
  */
 #ifndef TUGZECK_H
 #define TUGZECK_H
