@@ -95,10 +95,10 @@ fn best_word(
     ensures { λ x. ⌜ Best code size count (now (row .entry)) (now (t .entry)) (now (cs .entry)) (now (g .exit)) (now (word .exit)) x ⌝ }
 {
     clear(g);
-    let least = glue::walk(t, size, cs, count, g, CAP as u32);
+    let least = glue::walk(t, size, cs, count, g, CAP);
     let at = least.at;
     trellis::trace_word(t, q, size, hs, zs, os, TOP, BIG, at, word);
-    least.total
+    least.total as u32
 }
 
 // The least costs with a 0 and with a 1 at each bit. The tables are used up.
@@ -468,9 +468,9 @@ fn excess_with(
     ensures { λ x. ⌜ Short code (now (row .entry)) (now (word .entry)) x ⌝ }
 {
     tables(code, m, r, q, n, size, count, row, cs, hs, zs, os, t);
-    let least = glue::least_of(t, size, cs, count, CAP as u32);
+    let least = glue::least_of(t, size, cs, count, CAP);
     let own = search::word_cost(TOP, zs, os, word);
-    own - least
+    own - (least as u32)
 }
 
 fn excess_1(row: &[i16], word: &[u8]) -> u32

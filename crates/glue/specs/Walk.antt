@@ -40,23 +40,23 @@ lower-at g i x = set g i (min (getD g i 0) x)
 unfoldable pub lowered : (g t : List ℕ) → (x : ℕ) → List ℕ
 lowered g t x = lower-at (lower-at (lower-at (lower-at g (lane t 0 * 4 + 0) x) (lane t 1 * 4 + 1) x) (lane t 2 * 4 + 2) x) (lane t 3 * 4 + 3) x
 
--- a tuple whose syndromes have rows, and whose total stays below 2^31
+-- a tuple whose syndromes have rows, and whose total stays below 2^16
 pub record Within (size : ℕ) (f t : List ℕ) : Type 0 where
   pub length-f : size * 4 ≤ length f
   pub in0 : lane t 0 < size
   pub in1 : lane t 1 < size
   pub in2 : lane t 2 < size
   pub in3 : lane t 3 < size
-  pub room : total f t < 2 ^ 31
+  pub room : total f t < 2 ^ 16
 
--- what the walk asks: n tuples, at least one, of syndromes below size, whose totals stay below 2^31
+-- what the walk asks: n tuples, at least one, of syndromes below size, whose totals stay below 2^16
 pub record Tuples (size n cap : ℕ) (f cs : List ℕ) : Type 0 where
   pub some : 0 < n
   pub length-f : size * 4 ≤ length f
   pub count : length cs ≡ n * 4
   pub inside : (k j : ℕ) → k < n → j < 4 → conf cs k j < size
-  pub room : (k : ℕ) → k < n → total f (tuple cs k) < 2 ^ 31
-  pub cap-small : cap < 2 ^ 31
+  pub room : (k : ℕ) → k < n → total f (tuple cs k) < 2 ^ 16
+  pub cap-small : cap < 2 ^ 16
 
 -- r is the least, and `at` a tuple that has it
 pub record Walked (n cap : ℕ) (f cs : List ℕ) (r : ℕ) (at : List ℕ) : Type 0 where

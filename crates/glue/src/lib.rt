@@ -10,12 +10,12 @@ ghost use Rattle.trellis.specs.Rows.{entry};
 ghost use Rattle.glue.specs.Walk.{conf, tuple, total, least-total, lower-at, lowered, Within, Tuples, Walked, Marginals};
 
 // What syndrome s costs in layer j.
-fn cost_at(f: &[u16], j: usize, s: u16) -> u32
+fn cost_at(f: &[u16], j: usize, s: u16) -> u16
     requires { ⌜ s * 4 + j < length (now f) ⌝ }
     ensures { λ r. ⌜ r ≡ entry (now (f .entry)) s j ⌝ }
 {
     let i = (s as usize) * 4 + j;
-    f[i] as u32
+    f[i]
 }
 
 // Tuple k.
@@ -33,7 +33,7 @@ fn tuple_at(configs: &[u16], k: usize) -> [u16; 4]
 }
 
 // What a tuple costs.
-fn total_of(f: &[u16], size: usize, t: [u16; 4]) -> u32
+fn total_of(f: &[u16], size: usize, t: [u16; 4]) -> u16
     requires { ⌜ Within size (now f) t ⌝ }
     ensures { λ r. ⌜ r ≡ total (now (f .entry)) t ⌝ }
 {
@@ -41,18 +41,18 @@ fn total_of(f: &[u16], size: usize, t: [u16; 4]) -> u32
 }
 
 // The entry of syndrome s in layer j lowered to x.
-fn lower(g: &mut [u16], j: usize, s: u16, x: u32)
+fn lower(g: &mut [u16], j: usize, s: u16, x: u16)
     requires { ⌜ s * 4 + j < length (now g) ⌝ }
     ensures { λ _. ⌜ now (g .exit) ≡ lower-at (now (g .entry)) (s * 4 + j) x ⌝ }
 {
     let i = (s as usize) * 4 + j;
-    if x < (g[i] as u32) {
-        g[i] = x as u16;
+    if x < g[i] {
+        g[i] = x;
     }
 }
 
 // One tuple: what it costs, and g lowered to that at its four places.
-fn visit(f: &[u16], size: usize, t: [u16; 4], g: &mut [u16]) -> u32
+fn visit(f: &[u16], size: usize, t: [u16; 4], g: &mut [u16]) -> u16
     requires { ⌜ Within size (now f) t ⌝ }
     requires { ⌜ length (now g) ≡ size * 4 ⌝ }
     ensures { λ r. ⌜ (r ≡ total (now (f .entry)) t) × (now (g .exit) ≡ lowered (now (g .entry)) t (total (now (f .entry)) t)) ⌝ }
@@ -66,14 +66,14 @@ fn visit(f: &[u16], size: usize, t: [u16; 4], g: &mut [u16]) -> u32
 }
 
 // The less of two costs.
-fn less(a: u32, b: u32) -> u32
+fn less(a: u16, b: u16) -> u16
     ensures { λ r. ⌜ r ≡ min a b ⌝ }
 {
     if a <= b { a } else { b }
 }
 
 // k where x is less than the least so far, else where the least was found.
-fn where_less(x: u32, least: u32, k: usize, at: usize) -> usize
+fn where_less(x: u16, least: u16, k: usize, at: usize) -> usize
     ensures { λ r. ⌜ r ≡ cond (ltb x least) k at ⌝ }
 {
     if x < least { k } else { at }
@@ -81,12 +81,12 @@ fn where_less(x: u32, least: u32, k: usize, at: usize) -> usize
 
 // The least that a tuple costs, and such a tuple.
 pub struct Least {
-    pub total: u32,
+    pub total: u16,
     pub at: [u16; 4],
 }
 
 // All n tuples: the least, and in g, which is all cap before, the least with each syndrome in each layer.
-pub fn walk(f: &[u16], size: usize, configs: &[u16], n: usize, g: &mut [u16], cap: u32) -> Least
+pub fn walk(f: &[u16], size: usize, configs: &[u16], n: usize, g: &mut [u16], cap: u16) -> Least
     requires { ⌜ Tuples size n cap (now f) (now configs) ⌝ }
     requires { ⌜ length (now g) ≡ size * 4 ⌝ }
     requires { ⌜ ((i : ℕ) → i < size * 4 → getD (now g) i 0 ≡ cap) ⌝ }
@@ -110,7 +110,7 @@ pub fn walk(f: &[u16], size: usize, configs: &[u16], n: usize, g: &mut [u16], ca
 }
 
 // The least that a tuple costs, with nothing else kept.
-pub fn least_of(f: &[u16], size: usize, configs: &[u16], n: usize, cap: u32) -> u32
+pub fn least_of(f: &[u16], size: usize, configs: &[u16], n: usize, cap: u16) -> u16
     requires { ⌜ Tuples size n cap (now f) (now configs) ⌝ }
     ensures { λ r. ⌜ r ≡ least-total cap (now (f .entry)) (now (configs .entry)) n ⌝ }
 {

@@ -17,9 +17,6 @@ tables-requires c κs = let s = c .before .before .before .before .before .befor
     let p = s .pre in
     (p .0, p .1 .0)
 
-cast-least-of : tie.Need-cast-least-of
-cast-least-of c = search needs
-
 least-of-requires : tie.Need-least-of-requires
 least-of-requires c κs = let s = c .before .before .before .before .before .before .before .before .before .before .before .before .before .before .before .before .before .before .before .before in
     let a = s .args in
@@ -31,6 +28,9 @@ word-cost-requires c κs = let s = c .before .before .before .before .before .be
     let a = s .args in
     let p = s .pre in
     own-ok (a .code) (a .m) (a .r) (a .q) (a .n) (a .size) (a .count) (a .row .now) (a .cs .now) (c .before .before .before .before .before .before .before .before .before .before .before .before .tables .last .1 .1 .1 .1 .1 .1 .1 .1 .1 .0) (c .before .before .before .before .before .before .before .before .before .before .before .before .tables .last .1 .1 .1 .1 .1 .1 .1 .1 .1 .1 .0) (c .before .before .before .before .before .before .before .before .before .before .before .before .tables .last .1 .1 .1 .1 .1 .1 .1 .1 .1 .1 .1 .0) (c .before .before .before .before .before .before .before .before .before .before .before .before .tables .last .1 .1 .1 .1 .1 .1 .1 .1 .1 .1 .1 .1 .0) (p .0) (c .before .before .before .before .before .before .before .before .before .before .before .before .tables .ensures) (a .word .now) (p .1 .1)
+
+cast-result : tie.Need-cast-result
+cast-result c = search needs
 
 sub-result : tie.Need-sub-result
 sub-result c = let s = c .before .before .before .before .before .before .before .before .before .before .before .before .before .before .before .before .before .before .before .before .before .before .before .before in
@@ -61,9 +61,9 @@ excess-with-spec =
     tie.close
     (tie.spec
     tables-requires
-    cast-least-of
     least-of-requires
     word-cost-requires
+    cast-result
     sub-result
     same-length
     same-length-2

@@ -22,12 +22,6 @@ mul-if1 c = search needs
 slice-read-if1 : tie.Need-slice-read-if1
 slice-read-if1 c = search needs
 
-cast-if1 : tie.Need-cast-if1
-cast-if1 c = let a = c .before .args in omega (arith, c .slice-known .given (a .s * 4 + a .j))
-
-cast-g : tie.Need-cast-g
-cast-g c = let a = c .before .before .args in omega (arith, c .if1 .taken, c .before .slice-known .given (a .s * 4 + a .j))
-
 mul-g : tie.Need-mul-g
 mul-g c = search needs
 
@@ -46,15 +40,4 @@ returns-2 c = let s = c .before .before in kept (s .args .g .now) (s .args .s * 
 pub lower-spec : {M : Type 1} → statement M
 lower-spec =
     tie.close
-    (tie.spec
-    mul-i
-    add-i
-    mul-if1
-    slice-read-if1
-    cast-if1
-    cast-g
-    mul-g
-    slice-write-g
-    same-length
-    returns
-    returns-2)
+    (tie.spec mul-i add-i mul-if1 slice-read-if1 mul-g slice-write-g same-length returns returns-2)
