@@ -4,8 +4,12 @@ use code::Membership;
 
 pub fn agree() -> Tally {
     words()
+        .plus(other_words())
         .plus(tests())
+        .plus(test_refusals())
+        .plus(encoder_misfits())
         .plus(encoder_refusals())
+        .plus(reader_misfits())
         .plus(reader_refusals())
 }
 
@@ -17,7 +21,10 @@ fn words() -> Tally {
             &[1, 0, 0, 0, 0, 0, 0, 0, 0, 0, 0, 0, 0],
             &[8, 6, 1, 0, 0, 0, 0, 0, 0, 0, 0, 0, 0, 0, 0],
         ))
-        .plus(carries(1, &[5, 4, 6, 2, 2], &[1, 1, 5, 4, 6, 2, 2]))
+}
+
+fn other_words() -> Tally {
+    carries(1, &[5, 4, 6, 2, 2], &[1, 1, 5, 4, 6, 2, 2])
         .plus(carries(1, &[7, 7, 7, 7, 7], &[7, 7, 7, 7, 7, 7, 7]))
         .plus(carries(2, &[0, 0, 0], &[0, 0, 0, 0, 0, 0, 0]))
 }
@@ -35,6 +42,10 @@ fn tests() -> Tally {
         .with(test_gives(1, &[1, 0, 0, 0, 0, 0, 0], 8))
         .with(test_gives(2, &[3, 6, 1, 0, 0, 0, 0], 8))
         .with(test_gives(3, &[8, 6, 1, 0, 0, 0, 0, 0, 0, 0, 0, 0, 0, 0, 1], 8))
+}
+
+fn test_refusals() -> Tally {
+    Tally::none()
         .with(test_gives(0, &[8], 1))
         .with(test_gives(4, &[8], 1))
         .with(test_gives(1, &[8, 0, 0, 0, 0, 0, 0, 0], 3))
@@ -42,13 +53,18 @@ fn tests() -> Tally {
         .with(test_gives(3, &[0, 0, 0, 0, 0, 0, 0, 0, 0, 0, 0, 0, 0, 0, 16], 6))
 }
 
-// Outputs hold nines, and keep them.
-fn encoder_refusals() -> Tally {
+// Codes and lengths. Outputs hold nines, and keep them.
+fn encoder_misfits() -> Tally {
     Tally::none()
         .with(encode_gives(4, &[8], 1, &[9]))
         .with(encode_gives(0, &[8], 1, &[9]))
         .with(encode_gives(1, &[8, 0, 0, 0], 3, &[9]))
         .with(encode_gives(1, &[8, 0, 0, 0, 0], 4, &[9, 9, 9, 9, 9, 9, 9, 9]))
+}
+
+// Symbols.
+fn encoder_refusals() -> Tally {
+    Tally::none()
         .with(encode_gives(1, &[8, 0, 0, 0, 0], 6, &[9, 9, 9, 9, 9, 9, 9]))
         .with(encode_gives(2, &[0, 0, 8], 6, &[9, 9, 9, 9, 9, 9, 9]))
         .with(encode_gives(
@@ -59,11 +75,16 @@ fn encoder_refusals() -> Tally {
         ))
 }
 
-fn reader_refusals() -> Tally {
+fn reader_misfits() -> Tally {
     Tally::none()
         .with(read_gives(4, &[8], 1, &[9]))
         .with(read_gives(1, &[8, 0, 0, 0, 0, 0], 3, &[9]))
         .with(read_gives(1, &[8, 0, 0, 0, 0, 0, 0], 4, &[9, 9, 9, 9, 9, 9]))
+}
+
+// Symbols, and words that are no codewords.
+fn reader_refusals() -> Tally {
+    Tally::none()
         .with(read_gives(1, &[8, 0, 0, 0, 0, 0, 0], 6, &[9, 9, 9, 9, 9]))
         .with(read_gives(1, &[1, 0, 0, 0, 0, 0, 0], 8, &[9, 9, 9, 9, 9]))
         .with(read_gives(2, &[3, 6, 1, 0, 0, 0, 0], 8, &[9, 9, 9]))

@@ -76,16 +76,24 @@ const TOO_HIGH: [i16; 21] = [
 ];
 
 pub fn agree() -> Tally {
-    rows().plus(ties()).plus(refusals())
+    rows().plus(one_against())
+        .plus(ties())
+        .plus(values_refused())
+        .plus(codes_refused())
+        .plus(rows_refused())
+        .plus(outputs_refused())
 }
 
-// All 10, the row of the sheet's questions; all -10; all 127; and all 10 but bit 0.
+// All 10, the row of the sheet's questions; all -10; all 127.
 fn rows() -> Tally {
-    let row = ONE_AGAINST;
     gives(&[10i16; 21], 210, &[0u8; 7], &[60i16; 21])
         .plus(gives(&[-10i16; 21], 210, &[7u8; 7], &[-60i16; 21]))
         .plus(gives(&[127i16; 21], 2667, &[0u8; 7], &[762i16; 21]))
-        .plus(gives_in_layer_1(&row, 190, &[0u8; 7], &[20i16; 7]))
+}
+
+fn one_against() -> Tally {
+    let row = ONE_AGAINST;
+    gives_in_layer_1(&row, 190, &[0u8; 7], &[20i16; 7])
 }
 
 // Decoding code 1 into nines answers a metric and leaves a word and soft outputs.
@@ -144,19 +152,51 @@ fn tied(answers: bool, word: &[u8; 7], soft: &[i16; 21]) -> Tally {
         .places(soft, &[0i16; 21])
 }
 
-// Outputs hold nines, and keep them.
-fn refusals() -> Tally {
+// In the refusals outputs hold nines, and keep them.
+fn values_refused() -> Tally {
     let low = TOO_LOW;
     let high = TOO_HIGH;
+    refuses(1, &low, &mut [9u8; 7], &mut [9i16; 21], 5).plus(refuses(
+        1,
+        &high,
+        &mut [9u8; 7],
+        &mut [9i16; 21],
+        5,
+    ))
+}
+
+fn codes_refused() -> Tally {
     let short = [128i16; 20];
-    refuses(1, &low, &mut [9u8; 7], &mut [9i16; 21], 5)
-        .plus(refuses(1, &high, &mut [9u8; 7], &mut [9i16; 21], 5))
-        .plus(refuses(4, &short, &mut [9u8; 6], &mut [9i16; 20], 1))
-        .plus(refuses(0, &short, &mut [9u8; 6], &mut [9i16; 20], 1))
-        .plus(refuses(1, &short, &mut [9u8; 6], &mut [9i16; 20], 2))
-        .plus(refuses(3, &high, &mut [9u8; 6], &mut [9i16; 20], 2))
-        .plus(refuses(1, &high, &mut [9u8; 6], &mut [9i16; 21], 4))
-        .plus(refuses(1, &high, &mut [9u8; 7], &mut [9i16; 20], 4))
+    refuses(4, &short, &mut [9u8; 6], &mut [9i16; 20], 1).plus(refuses(
+        0,
+        &short,
+        &mut [9u8; 6],
+        &mut [9i16; 20],
+        1,
+    ))
+}
+
+fn rows_refused() -> Tally {
+    let short = [128i16; 20];
+    let high = TOO_HIGH;
+    refuses(1, &short, &mut [9u8; 6], &mut [9i16; 20], 2).plus(refuses(
+        3,
+        &high,
+        &mut [9u8; 6],
+        &mut [9i16; 20],
+        2,
+    ))
+}
+
+fn outputs_refused() -> Tally {
+    let high = TOO_HIGH;
+    refuses(1, &high, &mut [9u8; 6], &mut [9i16; 21], 4).plus(refuses(
+        1,
+        &high,
+        &mut [9u8; 7],
+        &mut [9i16; 20],
+        4,
+    ))
 }
 
 // Decoding is refused by a number, with the metric 0, and both outputs keep their nines.

@@ -10,7 +10,12 @@ const POWERS_4: [u8; 15] = [1, 2, 4, 8, 3, 6, 12, 11, 5, 10, 7, 14, 15, 13, 9];
 pub fn agree() -> Tally {
     let three = powers(3, &POWERS_3).plus(inverses(3, &POWERS_3));
     let four = powers(4, &POWERS_4).plus(inverses(4, &POWERS_4));
-    three.plus(four).plus(tables()).plus(refusals())
+    three
+        .plus(four)
+        .plus(tables())
+        .plus(answers())
+        .plus(refusals_alone())
+        .plus(refusals_of_two())
 }
 
 fn tables() -> Tally {
@@ -74,27 +79,40 @@ fn is_refusal(a: Answer, number: u32) -> bool {
     }
 }
 
-// The inverse of 0 is given as 0; a wrong m or two different ones meet 1, then a number not below 2^m meets 6.
-fn refusals() -> Tally {
+// The inverse of 0 is given as 0.
+fn answers() -> Tally {
     let three = Element { m: 3, value: 5 };
-    let four = Element { m: 4, value: 5 };
-    let large = Element { m: 3, value: 8 };
-    let neither = Element { m: 5, value: 200 };
     Tally::none()
         .with(is_element(Element { m: 3, value: 0 }.inverse(), 3, 0))
         .with(is_element(Element { m: 4, value: 0 }.inverse(), 4, 0))
         .with(is_element(Element::new(3, 7), 3, 7))
         .with(is_element(Element::new(4, 15), 4, 15))
         .with(is_element(three.sum(Element { m: 3, value: 6 }), 3, 3))
+}
+
+// A wrong m meets 1, then a number not below 2^m meets 6.
+fn refusals_alone() -> Tally {
+    let large = Element { m: 3, value: 8 };
+    let neither = Element { m: 5, value: 200 };
+    Tally::none()
         .with(is_refusal(Element::new(2, 1), 1))
         .with(is_refusal(Element::new(5, 200), 1))
         .with(is_refusal(Element::new(3, 8), 6))
         .with(is_refusal(Element::new(4, 16), 6))
+        .with(is_refusal(neither.inverse(), 1))
+        .with(is_refusal(large.inverse(), 6))
+}
+
+// A wrong m or two different ones meet 1, then a number not below 2^m meets 6.
+fn refusals_of_two() -> Tally {
+    let three = Element { m: 3, value: 5 };
+    let four = Element { m: 4, value: 5 };
+    let large = Element { m: 3, value: 8 };
+    let neither = Element { m: 5, value: 200 };
+    Tally::none()
         .with(is_refusal(three.sum(four), 1))
         .with(is_refusal(large.sum(four), 1))
         .with(is_refusal(three.sum(large), 6))
         .with(is_refusal(large.product(three), 6))
         .with(is_refusal(neither.product(neither), 1))
-        .with(is_refusal(neither.inverse(), 1))
-        .with(is_refusal(large.inverse(), 6))
 }

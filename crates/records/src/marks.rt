@@ -2,7 +2,12 @@
 use crate::tally::Tally;
 
 pub fn agree() -> Tally {
-    questions().plus(others()).plus(refusals())
+    questions()
+        .plus(low())
+        .plus(one_against())
+        .plus(zero())
+        .plus(codes_and_rows_refused())
+        .plus(words_and_values_refused())
 }
 
 // The three questions of the sheet on record: all 10, and the words of 0x30000000, 0x30000163 and 0x30000001.
@@ -14,24 +19,33 @@ fn questions() -> Tally {
         .with(gives(1, &row, &[1, 0, 0, 0, 0, 0, 0], 0, 0, 0))
 }
 
-// All -10; all 10 but bit 0 at -10; all zero, where every codeword is best.
-fn others() -> Tally {
-    let low = [-10i16; 21];
-    let zero = [0i16; 21];
+// All -10.
+fn low() -> Tally {
+    let row = [-10i16; 21];
+    Tally::none()
+        .with(gives(1, &row, &[7, 7, 7, 7, 7, 7, 7], 0, 2, 0))
+        .with(gives(1, &row, &[0, 0, 0, 0, 0, 0, 0], 0, 1, 420))
+}
+
+// All 10 but bit 0 at -10.
+fn one_against() -> Tally {
     let mut row = [10i16; 21];
     row[0] = -10;
     Tally::none()
-        .with(gives(1, &low, &[7, 7, 7, 7, 7, 7, 7], 0, 2, 0))
-        .with(gives(1, &low, &[0, 0, 0, 0, 0, 0, 0], 0, 1, 420))
         .with(gives(1, &row, &[0, 0, 0, 0, 0, 0, 0], 0, 2, 0))
         .with(gives(1, &row, &[1, 0, 0, 0, 0, 0, 0], 0, 0, 0))
-        .with(gives(1, &zero, &[7, 7, 7, 7, 7, 7, 7], 0, 2, 0))
-        .with(gives(1, &zero, &[1, 1, 5, 4, 6, 2, 2], 0, 2, 0))
-        .with(gives(1, &zero, &[1, 0, 0, 0, 0, 0, 0], 0, 0, 0))
 }
 
-fn refusals() -> Tally {
-    let row = [10i16; 21];
+// All zero, where every codeword is best.
+fn zero() -> Tally {
+    let row = [0i16; 21];
+    Tally::none()
+        .with(gives(1, &row, &[7, 7, 7, 7, 7, 7, 7], 0, 2, 0))
+        .with(gives(1, &row, &[1, 1, 5, 4, 6, 2, 2], 0, 2, 0))
+        .with(gives(1, &row, &[1, 0, 0, 0, 0, 0, 0], 0, 0, 0))
+}
+
+fn codes_and_rows_refused() -> Tally {
     let low = [-128i16; 21];
     let short = [-128i16; 20];
     Tally::none()
@@ -39,6 +53,12 @@ fn refusals() -> Tally {
         .with(gives(0, &short, &[8, 0, 0, 0, 0, 0], 1, 0, 0))
         .with(gives(1, &short, &[8, 0, 0, 0, 0, 0], 2, 0, 0))
         .with(gives(3, &low, &[8, 0, 0, 0, 0, 0], 2, 0, 0))
+}
+
+fn words_and_values_refused() -> Tally {
+    let row = [10i16; 21];
+    let low = [-128i16; 21];
+    Tally::none()
         .with(gives(1, &low, &[8, 0, 0, 0, 0, 0], 3, 0, 0))
         .with(gives(1, &low, &[8, 0, 0, 0, 0, 0, 0], 5, 0, 0))
         .with(gives(1, &row, &[8, 0, 0, 0, 0, 0, 0], 6, 0, 0))

@@ -37,7 +37,11 @@ const CONFIGURATIONS: [u16; 24] = [
 ];
 
 pub fn agree() -> Tally {
-    counts().plus(lists()).plus(words()).plus(refusals())
+    counts()
+        .plus(lists())
+        .plus(words())
+        .plus(misfits())
+        .plus(refusals())
 }
 
 fn counts() -> Tally {
@@ -170,13 +174,18 @@ fn words() -> Tally {
         .plus(gives(1, &[7, 7, 7, 7, 7, 7, 7], 0, [0, 0, 0, 0], &[1u8; 21]))
 }
 
-// Outputs hold nines, and keep them.
-fn refusals() -> Tally {
+// Codes and lengths. Outputs hold nines, and keep them.
+fn misfits() -> Tally {
     let none = [0u16; 4];
     gives(4, &[8], 1, none, &[9])
         .plus(gives(1, &[8, 0, 0, 0, 0, 0], 3, none, &[9]))
         .plus(gives(1, &[8, 0, 0, 0, 0, 0, 0], 4, none, &[9u8; 20]))
-        .plus(gives(1, &[8, 0, 0, 0, 0, 0, 0], 6, none, &[9u8; 21]))
+}
+
+// Symbols, and words that are no codewords.
+fn refusals() -> Tally {
+    let none = [0u16; 4];
+    gives(1, &[8, 0, 0, 0, 0, 0, 0], 6, none, &[9u8; 21])
         .plus(gives(1, &[1, 0, 0, 0, 0, 0, 0], 8, none, &[9u8; 21]))
         .plus(gives(2, &[3, 6, 1, 0, 0, 0, 0], 8, none, &[9u8; 21]))
 }
