@@ -9,8 +9,8 @@ use lib.Dec.{T, eqb, leb, lit<, eqb→eq}
 use lib.Arith.{lt→nleb}
 use lib.Pow.{pow-pos}
 use Rattle.field.specs.Field.{xor, times, times-from, doubled, alpha, inverse, inverse-from, width-good, square}
-use Rattle.field.proofs.Tests.{at, eq1, eq2, eq3, rule2, widths}
-use Rattle.field.proofs.Xor.{assoc, left-comm, comm, zero-l, zero-r, self, below}
+use Rattle.field.proofs.Tests.{at, eq1, eq2, rule2, widths}
+use Rattle.field.proofs.Xor.{assoc, left-comm, comm, cross, half, chosen, zero-l, zero-r, self, below}
 
 -- the sum of f j, f (j + 1), ...
 unfoldable pub sum : (left j : ℕ) → (ℕ → ℕ) → ℕ
@@ -38,16 +38,51 @@ module _ (m : ℕ) (w : width-good m ≡ true) where
   unfolding xor times times-from doubled
   times-comm = eq2 (λ m a b. times m a b) (λ m a b. times m b a) tt tt m w
 
-  pub times-assoc : (a b c : ℕ) → a < 2 ^ m → b < 2 ^ m → c < 2 ^ m → times m (times m a b) c ≡ times m a (times m b c)
+  doubled-times : (a b : ℕ) → a < 2 ^ m → b < 2 ^ m → times m (doubled m a) b ≡ doubled m (times m a b)
   unfolding xor times times-from doubled
-  times-assoc = eq3 (λ m a b c. times m (times m a b) c) (λ m a b c. times m a (times m b c)) tt tt m w
+  doubled-times = eq2 (λ m a b. times m (doubled m a) b) (λ m a b. doubled m (times m a b)) tt tt m w
+
+  pub times-zero-r : (a : ℕ) → a < 2 ^ m → times m a 0 ≡ 0
+  unfolding xor times times-from doubled
+  times-zero-r = eq1 (λ m a. times m a 0) (λ m a. 0) tt tt m w
+
+  -- a product by a sum, digit by digit of the sum
+  from-add : (k a b c : ℕ) → times-from k m a (xor b c) ≡ xor (times-from k m a b) (times-from k m a c)
+  unfolding times-from
+  from-add zero a b c = sym (zero-l 0)
+  from-add (suc k) a b c =
+      ap₂ xor (chosen a b c) (ap (times-from k m (doubled m a)) (half b c) ∙ from-add k (doubled m a) (b / 2) (c / 2))
+      ∙ cross (cond (eqb (b % 2) 1) a 0) (cond (eqb (c % 2) 1) a 0) (times-from k m (doubled m a) (b / 2)) (times-from k m (doubled m a) (c / 2))
+
+  sum-times : (a b c : ℕ) → times m a (xor b c) ≡ xor (times m a b) (times m a c)
+  unfolding times
+  sum-times a b c = from-add m a b c
+
+  pub times-add-r : (a b c : ℕ) → a < 2 ^ m → b < 2 ^ m → c < 2 ^ m → times m a (xor b c) ≡ xor (times m a b) (times m a c)
+  times-add-r a b c ha hb hc = sum-times a b c
+
+  -- a product by a product, digit by digit of the last factor
+  from-through : (k a b c : ℕ) → a < 2 ^ m → b < 2 ^ m → times-from k m (times m a b) c ≡ times m a (times-from k m b c)
+  unfolding times-from
+  from-through zero a b c ha hb = sym (times-zero-r a ha)
+  from-through (suc k) a b c ha hb =
+      let d : ℕ = times-from k m (doubled m b) (c / 2) in
+      ap₂ xor (go (eqb (c % 2) 1)) (ap (λ (x : ℕ). times-from k m x (c / 2)) (sym turned) ∙ from-through k a (doubled m b) (c / 2) ha (doubled-lt b hb))
+      ∙ sym (sum-times a (cond (eqb (c % 2) 1) b 0) d)
+    where
+      go : (t : Bool) → cond t (times m a b) 0 ≡ times m a (cond t b 0)
+      go true = refl
+      go false = sym (times-zero-r a ha)
+
+      turned : times m a (doubled m b) ≡ doubled m (times m a b)
+      turned = times-comm a (doubled m b) ha (doubled-lt b hb) ∙ doubled-times b a hb ha ∙ ap (doubled m) (times-comm b a hb ha)
+
+  pub times-assoc : (a b c : ℕ) → a < 2 ^ m → b < 2 ^ m → c < 2 ^ m → times m (times m a b) c ≡ times m a (times m b c)
+  unfolding times
+  times-assoc a b c ha hb hc = from-through m a b c ha hb
 
   pub times-left-comm : (a b c : ℕ) → a < 2 ^ m → b < 2 ^ m → c < 2 ^ m → times m a (times m b c) ≡ times m b (times m a c)
   times-left-comm a b c ha hb hc = sym (times-assoc a b c ha hb hc) ∙ ap (λ (x : ℕ). times m x c) (times-comm a b ha hb) ∙ times-assoc b a c hb ha hc
-
-  pub times-add-r : (a b c : ℕ) → a < 2 ^ m → b < 2 ^ m → c < 2 ^ m → times m a (xor b c) ≡ xor (times m a b) (times m a c)
-  unfolding xor times times-from doubled
-  times-add-r = eq3 (λ m a b c. times m a (xor b c)) (λ m a b c. xor (times m a b) (times m a c)) tt tt m w
 
   pub times-add-l : (a b c : ℕ) → a < 2 ^ m → b < 2 ^ m → c < 2 ^ m → times m (xor a b) c ≡ xor (times m a c) (times m b c)
   times-add-l a b c ha hb hc =
@@ -60,10 +95,6 @@ module _ (m : ℕ) (w : width-good m ≡ true) where
   pub times-zero-l : (a : ℕ) → a < 2 ^ m → times m 0 a ≡ 0
   unfolding xor times times-from doubled
   times-zero-l = eq1 (λ m a. times m 0 a) (λ m a. 0) tt tt m w
-
-  pub times-zero-r : (a : ℕ) → a < 2 ^ m → times m a 0 ≡ 0
-  unfolding xor times times-from doubled
-  times-zero-r = eq1 (λ m a. times m a 0) (λ m a. 0) tt tt m w
 
   pub inverse-lt : (a : ℕ) → a < 2 ^ m → inverse m a < 2 ^ m
   unfolding xor times times-from doubled inverse inverse-from
@@ -120,10 +151,6 @@ module _ (m : ℕ) (w : width-good m ≡ true) where
   unfolding alpha
   alpha-lt zero = omega (arith, two-lt)
   alpha-lt (suc e) = doubled-lt (alpha m e) (alpha-lt e)
-
-  doubled-times : (a b : ℕ) → a < 2 ^ m → b < 2 ^ m → times m (doubled m a) b ≡ doubled m (times m a b)
-  unfolding xor times times-from doubled
-  doubled-times = eq2 (λ m a b. times m (doubled m a) b) (λ m a b. doubled m (times m a b)) tt tt m w
 
   pub alpha-add : (d e : ℕ) → alpha m (d + e) ≡ times m (alpha m d) (alpha m e)
   unfolding alpha

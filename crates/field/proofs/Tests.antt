@@ -59,10 +59,7 @@ same1 f g m = all (2 ^ m) (λ a. eqb (f m a) (g m a))
 abbrev pub same2 : (f g : (m a b : ℕ) → ℕ) → (m : ℕ) → Bool
 same2 f g m = all (2 ^ m) (λ a. all (2 ^ m) (λ b. eqb (f m a b) (g m a b)))
 
-abbrev pub same3 : (f g : (m a b c : ℕ) → ℕ) → (m : ℕ) → Bool
-same3 f g m = all (2 ^ m) (λ a. all (2 ^ m) (λ b. all (2 ^ m) (λ c. eqb (f m a b c) (g m a b c))))
-
--- equations of one, two and three elements, by a test at width 3 and one at width 4
+-- equations of one and two elements, by a test at width 3 and one at width 4
 pub eq1 : (f g : (m a : ℕ) → ℕ) → T (same1 f g 3) → T (same1 f g 4) → (m : ℕ) → width-good m ≡ true → (a : ℕ) → a < 2 ^ m → f m a ≡ g m a
 eq1 f g p q m w a ha = eqb→eq (f m a) (g m a) (at (2 ^ m) (λ x. eqb (f m x) (g m x)) (widths (λ x. T (same1 f g x)) p q m w) a ha)
 
@@ -73,15 +70,6 @@ eq2 f g p q m w a b ha hb =
     eqb→eq (f m a b) (g m a b)
     (at (2 ^ m) (λ y. eqb (f m a y) (g m a y))
     (at (2 ^ m) (λ x. all (2 ^ m) (λ y. eqb (f m x y) (g m x y))) (widths (λ x. T (same2 f g x)) p q m w) a ha) b hb)
-
-pub eq3 :
-    (f g : (m a b c : ℕ) → ℕ) → T (same3 f g 3) → T (same3 f g 4) →
-    (m : ℕ) → width-good m ≡ true → (a b c : ℕ) → a < 2 ^ m → b < 2 ^ m → c < 2 ^ m → f m a b c ≡ g m a b c
-eq3 f g p q m w a b c ha hb hc =
-    eqb→eq (f m a b c) (g m a b c)
-    (at (2 ^ m) (λ z. eqb (f m a b z) (g m a b z))
-    (at (2 ^ m) (λ y. all (2 ^ m) (λ z. eqb (f m a y z) (g m a y z)))
-    (at (2 ^ m) (λ x. all (2 ^ m) (λ y. all (2 ^ m) (λ z. eqb (f m x y z) (g m x y z)))) (widths (λ x. T (same3 f g x)) p q m w) a ha) b hb) c hc)
 
 -- an equation of two numbers below bounds of their own
 abbrev pub same-below : (n p : ℕ) → (f g : ℕ → ℕ → ℕ) → Bool

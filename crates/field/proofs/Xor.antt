@@ -1,8 +1,10 @@
 -- The laws of xor.
 -- Assumes nothing.
 use mathlib.Core.Path.{_≡_, refl, sym, ap, ap₂, _∙_}
-use Prim.Native.Nat.{ℕ, _+_, _*_, _/_, _%_, _^_, _<_}
+use mathlib.Core.Bool.{cond}
+use Prim.Native.Nat.{ℕ, zero, suc, _+_, _*_, _/_, _%_, _^_, _<_}
 use native.Mathlib.Nat.{mod-lt, zero-lt-suc}
+use native.Mathlib.Omega.{arith}
 use lib.Dec.{eqb, eqb→eq}
 use lib.Arith.{bin-ind}
 use lib.Bits as B
@@ -71,3 +73,24 @@ cancel a b = sym (assoc a a b) ∙ ap (λ (x : ℕ). xor x b) (self a) ∙ zero-
 
 pub uncancel : (a b : ℕ) → xor (xor a b) b ≡ a
 uncancel a b = assoc a b b ∙ ap (xor a) (self b) ∙ zero-r a
+
+-- the lowest digit of a sum, and the others
+pub half : (a b : ℕ) → xor a b / 2 ≡ xor (a / 2) (b / 2)
+unfolding xor
+half a b = xor-shr a b 1
+
+either : (a x y : ℕ) → x < 2 → y < 2 → cond (eqb (differ x y) 1) a 0 ≡ xor (cond (eqb x 1) a 0) (cond (eqb y 1) a 0)
+either a zero zero hx hy = sym (zero-l 0)
+either a zero (suc zero) hx hy = sym (zero-l a)
+either a (suc zero) zero hx hy = sym (zero-r a)
+either a (suc zero) (suc zero) hx hy = sym (self a)
+either a zero (suc (suc y)) hx hy = absurd (omega arith)
+either a (suc zero) (suc (suc y)) hx hy = absurd (omega arith)
+either a (suc (suc x)) y hx hy = absurd (omega arith)
+
+lowest : (a b : ℕ) → xor a b % 2 ≡ differ (a % 2) (b % 2)
+unfolding xor
+lowest a b = odd a b
+
+pub chosen : (a b c : ℕ) → cond (eqb (xor b c % 2) 1) a 0 ≡ xor (cond (eqb (b % 2) 1) a 0) (cond (eqb (c % 2) 1) a 0)
+chosen a b c = ap (λ (x : ℕ). cond (eqb x 1) a 0) (lowest b c) ∙ either a (b % 2) (c % 2) (mod-lt b two) (mod-lt c two)
