@@ -136,8 +136,8 @@ fn relax_two(p: &mut [u16], size: usize, s: usize, b: [u16; 8], z: [u16; 4], o: 
     store_two(p, s, r);
 }
 
-// One column from the back. The part p holds two tables, one after the other: the first is made from the second. Rows s ^ h and (s + 1) ^ h
-// stand side by side as well, in this order where h is even,
+// One column from the back, for an even h. The part p holds two tables, one after the other: the first is made from the second. Rows s ^ h
+// and (s + 1) ^ h stand side by side, in this order.
 fn relax_straight(p: &mut [u16], q: u32, size: usize, h: usize, z: [u16; 4], o: [u16; 4])
     requires { ⌜ Relax q size h (now p) z o ⌝ }
     requires { ⌜ h % 2 ≡ 0 ⌝ }
@@ -152,7 +152,7 @@ fn relax_straight(p: &mut [u16], q: u32, size: usize, h: usize, z: [u16; 4], o: 
     }
 }
 
-// and in the other order where it is odd: here g is h less 1.
+// The same for an odd h, of which g is 1 less. Rows s ^ h and (s + 1) ^ h stand side by side, in the other order.
 fn relax_crossed(p: &mut [u16], q: u32, size: usize, g: usize, z: [u16; 4], o: [u16; 4])
     requires { ⌜ Relax q size (g + 1) (now p) z o ⌝ }
     requires { ⌜ g % 2 ≡ 0 ⌝ }
@@ -208,7 +208,8 @@ fn advance_two(
 }
 
 // One column from the front. The first table of p is that of what comes before the column, the second of what comes behind it: where
-// they meet, the column's pair is found, and the second table gives way to the first one carried past the column. Where h is even,
+// they meet, the column's pair is found, and the second table gives way to the first one carried past the column. This is
+// for an even h.
 fn advance_straight(
     p: &mut [u16],
     q: u32,
@@ -238,7 +239,7 @@ fn advance_straight(
     Pair { zero, one }
 }
 
-// and where it is odd: here g is h less 1.
+// The same for an odd h, of which g is 1 less.
 fn advance_crossed(
     p: &mut [u16],
     q: u32,
