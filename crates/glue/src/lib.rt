@@ -109,16 +109,30 @@ pub fn walk(f: &[u16], size: usize, configs: &[u16], n: usize, g: &mut [u16], ca
     }
 }
 
-// The least that a tuple costs, with nothing else kept.
+// What tuple k costs.
+fn total_at(f: &[u16], size: usize, configs: &[u16], k: usize) -> u16
+    requires { ⌜ k * 4 + 4 ≤ length (now configs) ⌝ }
+    requires { ⌜ Within size (now f) (tuple (now configs) k) ⌝ }
+    ensures { λ r. ⌜ r ≡ total (now (f .entry)) (tuple (now (configs .entry)) k) ⌝ }
+{
+    total_of(f, size, tuple_at(configs, k))
+}
+
+// The least that a tuple costs, with nothing else kept. Two tuples a turn.
 pub fn least_of(f: &[u16], size: usize, configs: &[u16], n: usize, cap: u16) -> u16
     requires { ⌜ Tuples size n cap (now f) (now configs) ⌝ }
     ensures { λ r. ⌜ r ≡ least-total cap (now (f .entry)) (now (configs .entry)) n ⌝ }
 {
     let mut least = cap;
     let mut k = 0;
-    while k < n {
-        least = less(least, total_of(f, size, tuple_at(configs, k)));
-        k += 1;
+    while k + 1 < n {
+        let a = total_at(f, size, configs, k);
+        let b = total_at(f, size, configs, k + 1);
+        least = less(less(least, a), b);
+        k += 2;
+    }
+    if k < n {
+        least = less(least, total_at(f, size, configs, k));
     }
     least
 }

@@ -1,6 +1,6 @@
 -- Two rows side by side, s and s + 1 with s even, past a column: they lead to two rows that stand side by side as well.
 -- Assumes nothing.
-use mathlib.Core.Path.{_≡_, sym, ap, ap₂, _∙_}
+use mathlib.Core.Path.{_≡_, refl, sym, ap, ap₂, _∙_}
 use mathlib.Core.List.{List}
 use Prim.Native.Nat.{ℕ, zero, suc, _+_, _*_, _%_, _/_, _^_, _<_}
 use native.Mathlib.Omega.{arith}
@@ -51,3 +51,12 @@ module _ (q size h : ℕ) (p : List ℕ) (w : Two q size h p) where
       even : (q : ℕ) → 0 < q → 2 ^ q % 2 ≡ 0
       even zero x = absurd (omega arith)
       even (suc k) x = omega (arith, pow-succ' 2 k)
+
+  -- the second table begins at size, which is a bit of its own
+  pub lifted : (s g : ℕ) → s < size → g < size → xor s (size + g) ≡ size + xor s g
+  unfolding xor
+  lifted s g ls lg =
+      let e : size ≡ 2 ^ q = w .size-is in
+      let a : s ≡ 0 * 2 ^ q + s = omega arith in
+      let b : size + g ≡ 1 * 2 ^ q + g = omega arith in
+      ap₂ xor a b ∙ xor-block q 0 1 s g (omega arith) (omega arith) ∙ omega arith

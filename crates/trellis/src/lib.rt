@@ -137,15 +137,16 @@ fn relax_two(p: &mut [u16], size: usize, s: usize, b: [u16; 8], z: [u16; 4], o: 
 }
 
 // One column from the back, for an even h. The part p holds two tables, one after the other: the first is made from the second. Rows s ^ h
-// and (s + 1) ^ h stand side by side, in this order.
+// and (s + 1) ^ h stand side by side, in this order; in the second table s ^ h is at size + (s ^ h), which is s ^ (size + h).
 fn relax_straight(p: &mut [u16], q: u32, size: usize, h: usize, z: [u16; 4], o: [u16; 4])
     requires { ⌜ Relax q size h (now p) z o ⌝ }
     requires { ⌜ h % 2 ≡ 0 ⌝ }
     ensures { λ _. ⌜ Relaxed size h (now (p .entry)) z o size (now (p .exit)) ⌝ }
 {
+    let over = size + h;
     let mut s = 0;
     while s < size {
-        let u = size + (s ^ h);
+        let u = s ^ over;
         let b = load_two(p, u, u + 1);
         relax_two(p, size, s, b, z, o);
         s += 2;
@@ -158,9 +159,10 @@ fn relax_crossed(p: &mut [u16], q: u32, size: usize, g: usize, z: [u16; 4], o: [
     requires { ⌜ g % 2 ≡ 0 ⌝ }
     ensures { λ _. ⌜ Relaxed size (g + 1) (now (p .entry)) z o size (now (p .exit)) ⌝ }
 {
+    let over = size + g;
     let mut s = 0;
     while s < size {
-        let u = size + (s ^ g);
+        let u = s ^ over;
         let b = load_two(p, u + 1, u);
         relax_two(p, size, s, b, z, o);
         s += 2;

@@ -3,7 +3,7 @@
 use Rattle.glue.proofs.Walks.{tuple-in, within}
 use Rattle.trellis.specs.Trellis.{leastOf}
 use native.Mathlib.Numerals.{add-one}
-use Rattle.glue.specs.Walk.{least-total}
+use Rattle.glue.specs.Walk.{tuple, total, least-total}
 use lib.ListN.{length, getD}
 use native.Mathlib.Omega.{arith}
 use Prim.Native.Nat.{ℕ, suc, _<_, _≤_, _-_, _+_, _*_, min}
@@ -18,28 +18,42 @@ Inv-loop f size configs n cap least₀ k₀ least k = (k ≤ n) × (least ≡ le
 abbrev μ-loop : tie.MeasureT-loop
 μ-loop f size configs n cap least₀ k₀ least k = n - k
 
+-- one tuple more
+one-more : (cap : ℕ) (f cs : List ℕ) (k r a : ℕ) → r ≡ least-total cap f cs k → a ≡ total f (tuple cs k) → min r a ≡ least-total cap f cs (k + 1)
+unfolding leastOf
+one-more cap f cs k r a e g = ap₂ min e g ∙ ap (least-total cap f cs) (sym (add-one k))
+
 loop-holds : tie.Need-loop-holds Inv-loop μ-loop
 unfolding leastOf
 loop-holds c = (omega arith, refl)
 
-tuple-at-requires : tie.Need-tuple-at-requires Inv-loop μ-loop
-tuple-at-requires c κs = let st = c .before .before .before .before in
+add-loop : tie.Need-add-loop Inv-loop μ-loop
+add-loop c = omega arith
+
+total-at-requires : tie.Need-total-at-requires Inv-loop μ-loop
+total-at-requires c κs = let st = c .before .before .before .before in
     let a = st .args in
     let w = st .pre in
     let t = c .before .loop in
-    let l : t .k < a .n = c .loop-test .taken in
-    tuple-in (a .size) (a .n) (a .cap) (a .f .now) (a .configs .now) w (t .k) l
+    let l : t .k < a .n = omega arith in
+    (tuple-in (a .size) (a .n) (a .cap) (a .f .now) (a .configs .now) w (t .k) l, within (a .size) (a .n) (a .cap) (a .f .now) (a .configs .now) w (t .k) l)
 
-total-of-requires : tie.Need-total-of-requires Inv-loop μ-loop
-total-of-requires c κs = let st = c .before .before .before .before .before in
+add-total-at : tie.Need-add-total-at Inv-loop μ-loop
+add-total-at c = omega arith
+
+total-at-requires-2 : tie.Need-total-at-requires-2 Inv-loop μ-loop
+total-at-requires-2 c κs = let st = c .before .before .before .before .before in
     let a = st .args in
     let w = st .pre in
     let t = c .before .before .loop in
-    let l : t .k < a .n = c .before .loop-test .taken in
-    rw (c .tuple-at .ensures) (within (a .size) (a .n) (a .cap) (a .f .now) (a .configs .now) w (t .k) l)
+    let l : t .k + 1 < a .n = omega arith in
+    (tuple-in (a .size) (a .n) (a .cap) (a .f .now) (a .configs .now) w (t .k + 1) l, within (a .size) (a .n) (a .cap) (a .f .now) (a .configs .now) w (t .k + 1) l)
 
 less-requires : tie.Need-less-requires Inv-loop μ-loop
 less-requires c κs = tt
+
+less-requires-2 : tie.Need-less-requires-2 Inv-loop μ-loop
+less-requires-2 c κs = tt
 
 add-k : tie.Need-add-k Inv-loop μ-loop
 add-k c = omega arith
@@ -48,19 +62,34 @@ loop-less : tie.Need-loop-less Inv-loop μ-loop
 loop-less c = omega arith
 
 loop-again : tie.Need-loop-again Inv-loop μ-loop
-unfolding leastOf
-loop-again c = let st = c .before .before .before .before .before .before .before in
+loop-again c = let st = c .before .before .before .before .before .before .before .before in
+    let a = st .args in
+    let t = c .before .before .before .before .before .loop in
+    let e = one-more (a .cap) (a .f .now) (a .configs .now) in
+    let x = e (t .k) (t .least) _ (t .inv .1) (c .before .before .before .total-at .ensures) in
+    (omega arith, c .less2 .ensures ∙ e (t .k + 1) _ _ (c .before .less .ensures ∙ x) (c .before .before .total-at2 .ensures) ∙ ap (least-total (a .cap) (a .f .now) (a .configs .now)) (omega arith))
+
+total-at-requires-3 : tie.Need-total-at-requires-3 Inv-loop μ-loop
+total-at-requires-3 c κs = let st = c .before .before .before .before .before in
     let a = st .args in
     let w = st .pre in
-    let t = c .before .before .before .before .loop in
-    let l : t .k < a .n = c .before .before .before .loop-test .taken in
-    let e = rw (c .before .before .tuple-at .ensures) at (c .before .total-of .ensures) in
-    (omega arith, c .less .ensures ∙ ap₂ min (t .inv .1) e ∙ ap (least-total (a .cap) (a .f .now) (a .configs .now)) (sym (add-one (t .k))))
+    let t = c .before .before .loop in
+    let l : t .k < a .n = omega arith in
+    (tuple-in (a .size) (a .n) (a .cap) (a .f .now) (a .configs .now) w (t .k) l, within (a .size) (a .n) (a .cap) (a .f .now) (a .configs .now) w (t .k) l)
+
+less-requires-3 : tie.Need-less-requires-3 Inv-loop μ-loop
+less-requires-3 c κs = tt
 
 returns : tie.Need-returns Inv-loop μ-loop
-returns c = let a = c .before .before .before .before .args in
-    let e : c .before .loop .k ≡ a .n = omega arith in
-    rw e at (c .before .loop .inv .1)
+returns c = let a = c .before .before .before .before .before .before .before .args in
+    let t = c .before .before .before .before .loop in
+    let e : t .k + 1 ≡ a .n = omega arith in
+    rw e at (c .less3 .ensures ∙ one-more (a .cap) (a .f .now) (a .configs .now) (t .k) (t .least) _ (t .inv .1) (c .before .total-at3 .ensures))
+
+returns-2 : tie.Need-returns-2 Inv-loop μ-loop
+returns-2 c = let a = c .before .before .before .before .before .args in
+    let e : c .before .before .loop .k ≡ a .n = omega arith in
+    rw e at (c .before .before .loop .inv .1)
 
 pub least-of-spec : {M : Type 1} → statement M
 least-of-spec =
@@ -69,10 +98,16 @@ least-of-spec =
     Inv-loop
     μ-loop
     loop-holds
-    tuple-at-requires
-    total-of-requires
+    add-loop
+    total-at-requires
+    add-total-at
+    total-at-requires-2
     less-requires
+    less-requires-2
     add-k
     loop-less
     loop-again
-    returns)
+    total-at-requires-3
+    less-requires-3
+    returns
+    returns-2)

@@ -7,33 +7,26 @@ use mathlib.Core.List.{List}
 use Prim.Native.Nat.{ℕ, _+_, _-_, _*_, _%_, _≤_, _<_}
 use Rattle.field.specs.Field.{xor}
 use Rattle.trellis.specs.Rows.{rows, two, twofold, sum, less, put-two, Relaxed}
-use Rattle.trellis.proofs.Neighbours.{crossed-now, crossed-next, next-in}
+use Rattle.trellis.proofs.Neighbours.{crossed-now, crossed-next, next-in, lifted}
 use Rattle.trellis.proofs.Relaxing.{relax-start, relax-in, relax-asks, relax-more}
 use Rattle.trellis.proofs.relax_crossed.Statement.{statement}
 use Rattle.trellis.proofs.relax_crossed.Tie as tie
 
 abbrev Inv-loop : tie.InvT-loop
-Inv-loop p₀ q size g z o s₀ p s = (s ≤ size) × (s % 2 ≡ 0) × Relaxed size (g + 1) p₀ z o s p
+Inv-loop p₀ q size g z o over s₀ p s = (s ≤ size) × (s % 2 ≡ 0) × Relaxed size (g + 1) p₀ z o s p
 
 abbrev μ-loop : tie.MeasureT-loop
-μ-loop p₀ q size g z o s₀ p s = size - s
+μ-loop p₀ q size g z o over s₀ p s = size - s
+
+add-over : tie.Need-add-over Inv-loop μ-loop
+add-over c = let st = c .before in
+    let w = st .pre .0 .two in
+    record { fits = omega (arith, w .length-is, w .inside) }
 
 loop-holds : tie.Need-loop-holds Inv-loop μ-loop
 loop-holds c = let st = c .before in
     let a = st .args in
     (omega arith, refl, relax-start (a .q) (a .size) (a .g + 1) (a .p .now) (a .z) (a .o) (st .pre .0))
-
-add-u : tie.Need-add-u Inv-loop μ-loop
-unfolding xor
-add-u c = let n = c in
-    let t = n .before in
-    let st = t .before .before in
-    let a = st .args in
-    let w = st .pre .0 in
-    let inv = t .loop .inv in
-    let l = next-in (a .q) (a .size) (a .g + 1) (a .p .now) (w .two) (t .loop .s) (n .loop-test .taken) (inv .1) in
-    let r = relax-in (a .q) (a .size) (a .g + 1) (a .p .now) (a .z) (a .o) w (t .loop .p) (t .loop .s) (inv .2) l in
-    record { fits = omega (arith, r, crossed-now (t .loop .s) (a .g) (inv .1) (st .pre .1), crossed-next (t .loop .s) (a .g) (inv .1) (st .pre .1)) }
 
 add-load-two : tie.Need-add-load-two Inv-loop μ-loop
 unfolding xor
@@ -45,7 +38,7 @@ add-load-two c = let n = c .before in
     let inv = t .loop .inv in
     let l = next-in (a .q) (a .size) (a .g + 1) (a .p .now) (w .two) (t .loop .s) (n .loop-test .taken) (inv .1) in
     let r = relax-in (a .q) (a .size) (a .g + 1) (a .p .now) (a .z) (a .o) w (t .loop .p) (t .loop .s) (inv .2) l in
-    record { fits = omega (arith, r, crossed-now (t .loop .s) (a .g) (inv .1) (st .pre .1), crossed-next (t .loop .s) (a .g) (inv .1) (st .pre .1)) }
+    record { fits = omega (arith, r, crossed-now (t .loop .s) (a .g) (inv .1) (st .pre .1), crossed-next (t .loop .s) (a .g) (inv .1) (st .pre .1), lifted (a .q) (a .size) (a .g + 1) (a .p .now) (w .two) (t .loop .s) (a .g) (n .loop-test .taken) (omega (arith, w .two .inside))) }
 
 load-two-requires : tie.Need-load-two-requires Inv-loop μ-loop
 unfolding xor
@@ -57,7 +50,7 @@ load-two-requires c κs = let n = c .before in
     let inv = t .loop .inv in
     let l = next-in (a .q) (a .size) (a .g + 1) (a .p .now) (w .two) (t .loop .s) (n .loop-test .taken) (inv .1) in
     let r = relax-in (a .q) (a .size) (a .g + 1) (a .p .now) (a .z) (a .o) w (t .loop .p) (t .loop .s) (inv .2) l in
-    (omega (arith, r, crossed-now (t .loop .s) (a .g) (inv .1) (st .pre .1), crossed-next (t .loop .s) (a .g) (inv .1) (st .pre .1)), omega (arith, r, crossed-now (t .loop .s) (a .g) (inv .1) (st .pre .1), crossed-next (t .loop .s) (a .g) (inv .1) (st .pre .1)))
+    (omega (arith, r, crossed-now (t .loop .s) (a .g) (inv .1) (st .pre .1), crossed-next (t .loop .s) (a .g) (inv .1) (st .pre .1), lifted (a .q) (a .size) (a .g + 1) (a .p .now) (w .two) (t .loop .s) (a .g) (n .loop-test .taken) (omega (arith, w .two .inside))), omega (arith, r, crossed-now (t .loop .s) (a .g) (inv .1) (st .pre .1), crossed-next (t .loop .s) (a .g) (inv .1) (st .pre .1), lifted (a .q) (a .size) (a .g + 1) (a .p .now) (w .two) (t .loop .s) (a .g) (n .loop-test .taken) (omega (arith, w .two .inside))))
 
 relax-two-requires : tie.Need-relax-two-requires Inv-loop μ-loop
 unfolding xor
@@ -68,8 +61,9 @@ relax-two-requires c κs = let n = c .before .before .before in
     let w = st .pre .0 in
     let inv = t .loop .inv in
     let l = next-in (a .q) (a .size) (a .g + 1) (a .p .now) (w .two) (t .loop .s) (n .loop-test .taken) (inv .1) in
-    let e1 : a .size + xor (t .loop .s) (a .g) + 1 ≡ a .size + xor (t .loop .s) (a .g + 1) = omega (arith, crossed-now (t .loop .s) (a .g) (inv .1) (st .pre .1), crossed-next (t .loop .s) (a .g) (inv .1) (st .pre .1)) in
-    let e2 : a .size + xor (t .loop .s) (a .g) ≡ a .size + xor (t .loop .s + 1) (a .g + 1) = omega (arith, crossed-now (t .loop .s) (a .g) (inv .1) (st .pre .1), crossed-next (t .loop .s) (a .g) (inv .1) (st .pre .1)) in
+    let f = lifted (a .q) (a .size) (a .g + 1) (a .p .now) (w .two) (t .loop .s) (a .g) (n .loop-test .taken) (omega (arith, w .two .inside)) in
+    let e1 : xor (t .loop .s) (a .size + a .g) + 1 ≡ a .size + xor (t .loop .s) (a .g + 1) = omega (arith, f, crossed-now (t .loop .s) (a .g) (inv .1) (st .pre .1), crossed-next (t .loop .s) (a .g) (inv .1) (st .pre .1)) in
+    let e2 : xor (t .loop .s) (a .size + a .g) ≡ a .size + xor (t .loop .s + 1) (a .g + 1) = omega (arith, f, crossed-now (t .loop .s) (a .g) (inv .1) (st .pre .1), crossed-next (t .loop .s) (a .g) (inv .1) (st .pre .1)) in
     let e = ap₂ (rows (t .loop .p)) e1 e2 in
     rw (c .before .load-two .ensures, e) (relax-asks (a .q) (a .size) (a .g + 1) (a .p .now) (a .z) (a .o) w (t .loop .p) (t .loop .s) (inv .2) l)
 
@@ -102,8 +96,9 @@ loop-again c = let n = c .before .before .before .before .before .before in
     let w = st .pre .0 in
     let inv = t .loop .inv in
     let l = next-in (a .q) (a .size) (a .g + 1) (a .p .now) (w .two) (t .loop .s) (n .loop-test .taken) (inv .1) in
-    let e1 : a .size + xor (t .loop .s) (a .g) + 1 ≡ a .size + xor (t .loop .s) (a .g + 1) = omega (arith, crossed-now (t .loop .s) (a .g) (inv .1) (st .pre .1), crossed-next (t .loop .s) (a .g) (inv .1) (st .pre .1)) in
-    let e2 : a .size + xor (t .loop .s) (a .g) ≡ a .size + xor (t .loop .s + 1) (a .g + 1) = omega (arith, crossed-now (t .loop .s) (a .g) (inv .1) (st .pre .1), crossed-next (t .loop .s) (a .g) (inv .1) (st .pre .1)) in
+    let f = lifted (a .q) (a .size) (a .g + 1) (a .p .now) (w .two) (t .loop .s) (a .g) (n .loop-test .taken) (omega (arith, w .two .inside)) in
+    let e1 : xor (t .loop .s) (a .size + a .g) + 1 ≡ a .size + xor (t .loop .s) (a .g + 1) = omega (arith, f, crossed-now (t .loop .s) (a .g) (inv .1) (st .pre .1), crossed-next (t .loop .s) (a .g) (inv .1) (st .pre .1)) in
+    let e2 : xor (t .loop .s) (a .size + a .g) ≡ a .size + xor (t .loop .s + 1) (a .g + 1) = omega (arith, f, crossed-now (t .loop .s) (a .g) (inv .1) (st .pre .1), crossed-next (t .loop .s) (a .g) (inv .1) (st .pre .1)) in
     let e = ap₂ (rows (t .loop .p)) e1 e2 in
     let x = c .before .before .relax-two in
     (omega arith, omega arith, relax-more (a .q) (a .size) (a .g + 1) (a .p .now) (a .z) (a .o) w (t .loop .p) (t .loop .s) (inv .2) l (x .last .0) (x .ensures ∙ ap (λ (y : List ℕ). put-two (t .loop .p) (t .loop .s) (less (sum (two (t .loop .p) (a .size + t .loop .s)) (twofold (a .z))) (sum y (twofold (a .o))))) (c .before .before .before .before .load-two .ensures ∙ e)))
@@ -121,8 +116,8 @@ relax-crossed-spec =
     (tie.spec
     Inv-loop
     μ-loop
+    add-over
     loop-holds
-    add-u
     add-load-two
     load-two-requires
     relax-two-requires
