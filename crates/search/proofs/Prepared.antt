@@ -1,14 +1,14 @@
 -- Columns and costs as the program makes them: by the sign of a reliability, one position at a turn.
 -- Assumes nothing.
 use mathlib.Core.Path.{_≡_, refl, sym, ap, ap₂, _∙_, subst}
-use mathlib.Core.Bool.{Bool, true, false, cond}
+use mathlib.Core.Bool.{Bool, true, false, _&&_, cond}
 use mathlib.Core.List.{List, [], _∷_}
 use Prim.Native.Nat.{ℕ, zero, suc, _+_, _-_, _*_, _^_, _≤_, _<_}
 use native.Mathlib.Nat.{zero-add, mul-one, mul-comm, mul-zero, suc-mul, mul-le-mul-right}
 use native.Mathlib.Omega.{arith}
 use native.Mathlib.Decide.{decLe}
 use borrow.Author.Tests.{ltb-true, ltb-false, le-leb, lt-leb}
-use lib.Dec.{T, leb}
+use lib.Dec.{T, leb, eqb, eqb→eq}
 use lib.ListN.{length, getD, set, length-set}
 use lib.Seq.{getD-set-same, getD-set-other}
 use lib.IntN.{ℤ, pos, negsuc, natAbs, _-ℤ_}
@@ -17,7 +17,7 @@ use mir.Syntax.{w16, w32}
 use mir.Val.{SFits, Fits, toZ, ofZ}
 use mir.Facts.{toZ-ofZ}
 use Rattle.field.specs.Field.{width-good, alpha}
-use Rattle.field.proofs.Tests.{widths}
+use Rattle.field.proofs.Tests.{all, at, and-l, and-r, widths}
 use Rattle.code.specs.Code.{long}
 use Rattle.metric.specs.Cost.{costZero, costOne}
 use Rattle.trellis.proofs.Rows.{four}
@@ -75,27 +75,21 @@ pub through : (f : ℤ → ℕ) (x : ℕ) (r z : ℤ) → SFits w16 r → x ≡ 
 through f x r z ok e q = e ∙ ap f (toZ-ofZ ok ∙ q)
 
 -- ---- columns
-pub head-few : (m r i a : ℕ) → r < 3 → a ≡ alpha m i → a ≡ head m r i
-head-few m r i a h e =
-    e ∙ ap (alpha m) (sym (mul-one i))
-    ∙ sym (ap (λ (t : Bool). alpha m (i * 1) + 2 ^ m * cond t (alpha m (i * 3)) 0) (lt-leb 3 r h) ∙ rw (mul-zero (2 ^ m)) (omega arith))
+-- a table of them, by one test that antt computes
+abbrev columns : (m r : ℕ) → List ℕ → Bool
+columns m r hs = eqb (length hs) (long m) && all (long m) (λ i. eqb (getD hs i 0) (head m r i))
 
-pub head-more : (m r i a b q : ℕ) → 3 ≤ r → q ≡ 2 ^ m → a ≡ alpha m i → b ≡ alpha m (3 * i) → a + q * b ≡ head m r i
-head-more m r i a b q h eq ea eb =
-    ap₂ (λ (x y : ℕ). x + q * y) (ea ∙ ap (alpha m) (sym (mul-one i))) (eb ∙ ap (alpha m) (mul-comm 3 i))
-    ∙ ap (λ (x : ℕ). alpha m (i * 1) + x * alpha m (i * 3)) eq
-    ∙ sym (ap (λ (t : Bool). alpha m (i * 1) + 2 ^ m * cond t (alpha m (i * 3)) 0) (le-leb 3 r h))
+pub headed : (m r : ℕ) (hs : List ℕ) → T (columns m r hs) → Headed m r hs
+headed m r hs t =
+    let f : ℕ → Bool = (λ i. eqb (getD hs i 0) (head m r i)) in
+    record {
+      count = eqb→eq (length hs) (long m) (and-l (eqb (length hs) (long m)) (all (long m) f) t);
+      heads = λ i h. eqb→eq (getD hs i 0) (head m r i) (at (long m) f (and-r (eqb (length hs) (long m)) (all (long m) f) t) i h);
+    }
 
 pub long-le : (m : ℕ) → width-good m ≡ true → long m ≤ 15
 unfolding long
 long-le = widths (λ (m : ℕ). long m ≤ 15) (omega arith) (omega arith)
-
-pub headed-more : (m r i x : ℕ) (hs : List ℕ) → Headed m r i hs → i < long m → x ≡ head m r i → Headed m r (i + 1) (set hs i x)
-headed-more m r i x hs d l e = record { count = length-set hs i x ∙ d .count; heads = λ k h. go k h (decLe i k) }
-  where
-    go : (k : ℕ) → k < i + 1 → Dec (i ≤ k) → getD (set hs i x) k 0 ≡ head m r k
-    go k h (yes a) = let q : k ≡ i = omega arith in rw q (getD-set-same hs i x 0 (omega (arith, d .count)) ∙ e)
-    go k h (no a) = getD-set-other hs i k x 0 (λ q. omega arith) ∙ d .heads k (omega arith)
 
 -- ---- costs
 module _ (w : List ℤ) (at : ℕ) (f : ℕ → ℤ) where

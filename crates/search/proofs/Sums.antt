@@ -53,23 +53,23 @@ module _ (top : ℕ) (zs os word : List ℕ) (w : Own top zs os word) where
   pub adding-fits : (i sum x : ℕ) → i < length word → Adding i sum → x ≤ top * 4 → sum + x < 2 ^ 32
   adding-fits i sum x l a h = omega (arith, a .small, w .room, mul-le-mul-right (top * 4) l, suc-mul i (top * 4))
 
-  pub adding-more : (i sum x : ℕ) → i < length word → Adding i sum → x ≡ sum4 (λ j. pick (getD word i 0 / 2 ^ j % 2) (lane (row zs i) j) (lane (row os i) j)) → x ≤ top * 4 → Adding (i + 1) (sum + x)
+  pub adding-more : (i sum x : ℕ) → i < length word → Adding i sum → x ≡ symbol-cost zs os i (getD word i 0) → x ≤ top * 4 → Adding (i + 1) (sum + x)
   unfolding word-cost
   adding-more i sum x l a e h = record {
-    split =
-        let d : drop i word ≡ getD word i 0 ∷ drop (suc i) word = drop-cons word i 0 l in
-        let s : x ≡ symbol-cost zs os i (getD word i 0) =
-        e ∙ omega (arith, part 0 (omega arith), part 1 (omega arith), part 2 (omega arith), part 3 (omega arith)) in
-        rw add-one (omega (arith, a .split, s, ap (word-cost zs os i) d));
+    split = rw add-one (omega (arith, a .split, e, ap (word-cost zs os i) (drop-cons word i 0 l)));
     small = rw add-one (omega (arith, a .small, suc-mul i (top * 4)));
   }
-    where
-      part : (j : ℕ) → j < 4 → pick (getD word i 0 / 2 ^ j % 2) (lane (row zs i) j) (lane (row os i) j) ≡ pick (getD word i 0 / 2 ^ j % 2) (entry zs i j) (entry os i j)
-      part j lj = ap₂ (pick (getD word i 0 / 2 ^ j % 2)) (RR.row-at zs i j lj) (RR.row-at os i j lj)
 
   pub adding-end : (sum : ℕ) → Adding (length word) sum → sum ≡ word-cost zs os 0 word
   unfolding word-cost
   adding-end sum a = omega (arith, a .split, ap (word-cost zs os (length word)) (drop-length word))
+
+-- a symbol's cost, from the rows of its position
+pub from-rows : (zs os : List ℕ) (i c : ℕ) → sum4 (λ j. pick (c / 2 ^ j % 2) (lane (row zs i) j) (lane (row os i) j)) ≡ symbol-cost zs os i c
+from-rows zs os i c = omega (arith, part 0 (omega arith), part 1 (omega arith), part 2 (omega arith), part 3 (omega arith))
+  where
+    part : (j : ℕ) → j < 4 → pick (c / 2 ^ j % 2) (lane (row zs i) j) (lane (row os i) j) ≡ pick (c / 2 ^ j % 2) (entry zs i j) (entry os i j)
+    part j lj = ap₂ (pick (c / 2 ^ j % 2)) (RR.row-at zs i j lj) (RR.row-at os i j lj)
 
 -- THE COST OF A WORD
 word-layers : (hs zs os : List ℕ) (i : ℕ) (ws : List ℕ) → word-cost zs os i ws ≡ sum4 (λ j. T.cost (R.layer hs zs os j) i (P.layer j ws))

@@ -40,16 +40,10 @@ pub record Spelt (m r : ℕ) (rs : List ℤ) (hs zs os : List ℕ) : Type 0 wher
   pub zeros : (i j : ℕ) → i < long m → j < 4 → entry zs i j ≡ zero-cost m rs i j
   pub ones : (i j : ℕ) → i < long m → j < 4 → entry os i j ≡ one-cost m rs i j
 
--- what `head_of` asks
-pub record Head (m r i : ℕ) : Type 0 where
-  pub width : width-good m ≡ true
-  pub few : r ≤ 4
-  pub inside : i < long m
-
--- the first n columns are written
-pub record Headed (m r n : ℕ) (hs : List ℕ) : Type 0 where
+-- hs is the columns of a code
+pub record Headed (m r : ℕ) (hs : List ℕ) : Type 0 where
   pub count : length hs ≡ long m
-  pub heads : (i : ℕ) → i < n → getD hs i 0 ≡ head m r i
+  pub heads : (i : ℕ) → i < long m → getD hs i 0 ≡ head m r i
 
 -- four places written from `at` on
 unfoldable pub put-four : List ℤ → (at : ℕ) → (ℕ → ℤ) → List ℤ

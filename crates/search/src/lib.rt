@@ -1,4 +1,4 @@
-// The trellis and the walk at a code and a row: the columns of the code, the costs of a row, the tuples that are its valid configurations, and
+// The trellis and the walk at a code and a row: the columns of each code, the costs of a row, the tuples that are its valid configurations, and
 // what a word costs by itself. proofs/Found.antt shows that what trellis and glue then find are the least costs of codewords.
 // Its functions are for the decoder.
 ghost use mathlib.Core.Path.{_≡_};
@@ -12,39 +12,27 @@ ghost use Rattle.configurations.specs.Configurations.{configurations, listed};
 ghost use Rattle.metric.specs.Row.{reliability-good, row-good};
 ghost use Rattle.metric.specs.Cost.{costZero, costOne, weight-of, cost};
 ghost use Rattle.trellis.specs.Rows.{lane, lanes};
-ghost use Rattle.search.specs.Search.{head, reliability, zero-cost, one-cost, Head, Headed, put-four, Spread, CostsTo, CostRows, Costed, word-cost, Own, Symbol};
+ghost use Rattle.search.specs.Search.{reliability, Headed, put-four, Spread, CostsTo, CostRows, Costed, symbol-cost, word-cost, Own, Symbol};
 ghost use Rattle.trellis.specs.Trellis.{pick};
 ghost use Rattle.glue.specs.Walk.{sum4};
 
-// The syndrome that a 1 at position i adds.
-fn head_of(m: u32, r: u32, i: u32) -> u16
-    requires { ⌜ Head m r i ⌝ }
-    ensures { λ x. ⌜ x ≡ head m r i ⌝ }
+// The columns of each code: the syndromes that a 1 adds at each position.
+pub fn columns_of_code_1() -> [u16; 7]
+    ensures { λ x. ⌜ Headed 3 2 x ⌝ }
 {
-    let a = wide(field::power(m, i));
-    if r < 3 {
-        return a;
-    }
-    let b = wide(field::power(m, 3 * i));
-    if m == 3 { a + 8 * b } else { a + 16 * b }
+    [1, 2, 4, 3, 6, 7, 5]
 }
 
-fn wide(x: u8) -> u16
-    ensures { λ r. ⌜ r ≡ x ⌝ }
+pub fn columns_of_code_2() -> [u16; 7]
+    ensures { λ x. ⌜ Headed 3 4 x ⌝ }
 {
-    x as u16
+    [9, 26, 44, 35, 62, 23, 53]
 }
 
-// The columns of a code.
-pub fn columns(m: u32, r: u32, hs: &mut [u16])
-    requires { ⌜ (width-good m ≡ true) × (r ≤ 4) × (length (now hs) ≡ long m) ⌝ }
-    ensures { λ _. ⌜ Headed m r (long m) (now (hs .exit)) ⌝ }
+pub fn columns_of_code_3() -> [u16; 15]
+    ensures { λ x. ⌜ Headed 4 2 x ⌝ }
 {
-    let mut i = 0;
-    while i < hs.len() {
-        hs[i] = head_of(m, r, i as u32);
-        i += 1;
-    }
+    [1, 2, 4, 8, 3, 6, 12, 11, 5, 10, 7, 14, 15, 13, 9]
 }
 
 // What a 0 and a 1 contradicts of a reliability.
@@ -144,18 +132,30 @@ fn symbol_cost(top: u16, c: u8, z: [u16; 4], o: [u16; 4]) -> u32
     a + b + d + e
 }
 
-// What a word costs by itself.
+// What the symbol at position i costs.
+fn cost_at(top: u16, zs: &[u16], os: &[u16], word: &[u8], i: usize) -> u32
+    requires { ⌜ Own top (now zs) (now os) (now word) ⌝ }
+    requires { ⌜ i < length (now word) ⌝ }
+    ensures { λ r. ⌜ (r ≡ symbol-cost (now (zs .entry)) (now (os .entry)) i (getD (now (word .entry)) i 0)) × (r ≤ top * 4) ⌝ }
+{
+    symbol_cost(top, word[i], trellis::load(zs, i), trellis::load(os, i))
+}
+
+// What a word costs by itself. Two symbols a turn.
 pub fn word_cost(top: u16, zs: &[u16], os: &[u16], word: &[u8]) -> u32
     requires { ⌜ Own top (now zs) (now os) (now word) ⌝ }
     ensures { λ r. ⌜ r ≡ word-cost (now (zs .entry)) (now (os .entry)) 0 (now (word .entry)) ⌝ }
 {
     let mut sum = 0;
     let mut i = 0;
-    while i < word.len() {
-        let c = word[i];
-        let x = symbol_cost(top, c, trellis::load(zs, i), trellis::load(os, i));
-        sum += x;
-        i += 1;
+    while i + 1 < word.len() {
+        let a = cost_at(top, zs, os, word, i);
+        let b = cost_at(top, zs, os, word, i + 1);
+        sum += a + b;
+        i += 2;
+    }
+    if i < word.len() {
+        sum += cost_at(top, zs, os, word, i);
     }
     sum
 }

@@ -1,6 +1,6 @@
 -- `search::word_cost` meets its contract.
 -- Assumes nothing.
-use Rattle.search.proofs.Sums.{Adding, own-in, symbol-ok, adding-fits, adding-more, adding-end}
+use Rattle.search.proofs.Sums.{Adding, adding-fits, adding-more, adding-end}
 use Rattle.search.specs.Search.{Own}
 use lib.ListN.{length, getD}
 use native.Mathlib.Omega.{arith}
@@ -19,36 +19,29 @@ abbrev μ-loop : tie.MeasureT-loop
 loop-holds : tie.Need-loop-holds Inv-loop μ-loop
 loop-holds c = (omega arith, λ w. record { split = omega arith; small = omega arith })
 
-shared-slice-read-c : tie.Need-shared-slice-read-c Inv-loop μ-loop
-shared-slice-read-c c = omega arith
+add-loop : tie.Need-add-loop Inv-loop μ-loop
+add-loop c = omega arith
 
-load-requires : tie.Need-load-requires Inv-loop μ-loop
-load-requires c κs = let s = c .before .before .before .before .before .before in
-    let a = s .args in
-    let t = c .before .before .loop in
-    let l : t .i < length (a .word .now) = c .before .loop-test .taken in
-    own-in (a .top) (a .zs .now) (a .os .now) (a .word .now) (s .pre) (t .i) l .0
+cost-at-requires : tie.Need-cost-at-requires Inv-loop μ-loop
+cost-at-requires c κs = (c .before .before .before .before .before .pre, omega arith)
 
-load-requires-2 : tie.Need-load-requires-2 Inv-loop μ-loop
-load-requires-2 c κs = let s = c .before .before .before .before .before .before .before in
+add-cost-at : tie.Need-add-cost-at Inv-loop μ-loop
+add-cost-at c = omega arith
+
+cost-at-requires-2 : tie.Need-cost-at-requires-2 Inv-loop μ-loop
+cost-at-requires-2 c κs = (c .before .before .before .before .before .before .pre, omega arith)
+
+-- one symbol more, and another
+add-sum : tie.Need-add-sum Inv-loop μ-loop
+add-sum c = let s = c .before .before .before .before .before .before .before in
+    omega (arith, c .before .cost-at .ensures .1, c .cost-at2 .ensures .1, s .pre .room)
+
+add-sum-2 : tie.Need-add-sum-2 Inv-loop μ-loop
+add-sum-2 c = let s = c .before .before .before .before .before .before .before in
     let a = s .args in
     let t = c .before .before .before .loop in
-    let l : t .i < length (a .word .now) = c .before .before .loop-test .taken in
-    own-in (a .top) (a .zs .now) (a .os .now) (a .word .now) (s .pre) (t .i) l .1
-
-symbol-cost-requires : tie.Need-symbol-cost-requires Inv-loop μ-loop
-symbol-cost-requires c κs = let s = c .before .before .before .before .before .before .before .before in
-    let a = s .args in
-    let t = c .before .before .before .before .loop in
-    let l : t .i < length (a .word .now) = c .before .before .before .loop-test .taken in
-    rw (c .before .load .ensures, c .load2 .ensures) (symbol-ok (a .top) (a .zs .now) (a .os .now) (a .word .now) (s .pre) (t .i) l)
-
-add-sum : tie.Need-add-sum Inv-loop μ-loop
-add-sum c = let s = c .before .before .before .before .before .before .before .before .before in
-    let a = s .args in
-    let t = c .before .before .before .before .before .loop in
-    let l : t .i < length (a .word .now) = c .before .before .before .before .loop-test .taken in
-    record { fits = adding-fits (a .top) (a .zs .now) (a .os .now) (a .word .now) (s .pre) (t .i) (t .sum) (c .symbol-cost .result) l (t .inv .1 (s .pre)) (c .symbol-cost .ensures .1) }
+    let x = adding-more (a .top) (a .zs .now) (a .os .now) (a .word .now) (s .pre) (t .i) (t .sum) (c .before .cost-at .result) (omega arith) (t .inv .1 (s .pre)) (c .before .cost-at .ensures .0) (c .before .cost-at .ensures .1) in
+    record { fits = omega (arith, adding-fits (a .top) (a .zs .now) (a .os .now) (a .word .now) (s .pre) (t .i + 1) (t .sum + c .before .cost-at .result) (c .cost-at2 .result) (omega arith) x (c .cost-at2 .ensures .1)) }
 
 add-i : tie.Need-add-i Inv-loop μ-loop
 add-i c = omega arith
@@ -57,17 +50,37 @@ loop-less : tie.Need-loop-less Inv-loop μ-loop
 loop-less c = omega arith
 
 loop-again : tie.Need-loop-again Inv-loop μ-loop
-loop-again c = let s = c .before .before .before .before .before .before .before .before .before in
+loop-again c = let s = c .before .before .before .before .before .before .before in
     let a = s .args in
-    let t = c .before .before .before .before .before .loop in
-    let l : t .i < length (a .word .now) = c .before .before .before .before .loop-test .taken in
-    let e = rw (c .before .before .load .ensures, c .before .load2 .ensures) at (c .symbol-cost .ensures .0) in
-    (omega arith, λ w. adding-more (a .top) (a .zs .now) (a .os .now) (a .word .now) w (t .i) (t .sum) (c .symbol-cost .result) l (t .inv .1 w) e (c .symbol-cost .ensures .1))
+    let t = c .before .before .before .loop in
+    (omega arith, λ w.
+        let x = adding-more (a .top) (a .zs .now) (a .os .now) (a .word .now) w (t .i) (t .sum) (c .before .cost-at .result) (omega arith) (t .inv .1 w) (c .before .cost-at .ensures .0) (c .before .cost-at .ensures .1) in
+        let y = adding-more (a .top) (a .zs .now) (a .os .now) (a .word .now) w (t .i + 1) (t .sum + c .before .cost-at .result) (c .cost-at2 .result) (omega arith) x (c .cost-at2 .ensures .0) (c .cost-at2 .ensures .1) in
+        let e : t .i + 1 + 1 ≡ t .i + 2 = omega arith in
+        let f : t .sum + c .before .cost-at .result + c .cost-at2 .result ≡ t .sum + (c .before .cost-at .result + c .cost-at2 .result) = omega arith in
+        rw (e, f) at y)
+
+cost-at-requires-3 : tie.Need-cost-at-requires-3 Inv-loop μ-loop
+cost-at-requires-3 c κs = (c .before .before .before .before .before .before .pre, omega arith)
+
+add-sum-3 : tie.Need-add-sum-3 Inv-loop μ-loop
+add-sum-3 c = let s = c .before .before .before .before .before .before .before in
+    let a = s .args in
+    let t = c .before .before .before .loop in
+    record { fits = adding-fits (a .top) (a .zs .now) (a .os .now) (a .word .now) (s .pre) (t .i) (t .sum) (c .cost-at3 .result) (omega arith) (t .inv .1 (s .pre)) (c .cost-at3 .ensures .1) }
 
 returns : tie.Need-returns Inv-loop μ-loop
-returns c = let s = c .before .before .before .before .before in
+returns c = let s = c .before .before .before .before .before .before .before in
     let a = s .args in
-    let t = c .before .loop in
+    let t = c .before .before .before .loop in
+    let x = adding-more (a .top) (a .zs .now) (a .os .now) (a .word .now) (s .pre) (t .i) (t .sum) (c .cost-at3 .result) (omega arith) (t .inv .1 (s .pre)) (c .cost-at3 .ensures .0) (c .cost-at3 .ensures .1) in
+    let e : t .i + 1 ≡ length (a .word .now) = omega arith in
+    adding-end (a .top) (a .zs .now) (a .os .now) (a .word .now) (s .pre) (t .sum + c .cost-at3 .result) (rw e at x)
+
+returns-2 : tie.Need-returns-2 Inv-loop μ-loop
+returns-2 c = let s = c .before .before .before .before .before .before in
+    let a = s .args in
+    let t = c .before .before .loop in
     let e : t .i ≡ length (a .word .now) = omega arith in
     adding-end (a .top) (a .zs .now) (a .os .now) (a .word .now) (s .pre) (t .sum) (rw e at (t .inv .1 (s .pre)))
 
@@ -78,12 +91,16 @@ word-cost-spec =
     Inv-loop
     μ-loop
     loop-holds
-    shared-slice-read-c
-    load-requires
-    load-requires-2
-    symbol-cost-requires
+    add-loop
+    cost-at-requires
+    add-cost-at
+    cost-at-requires-2
     add-sum
+    add-sum-2
     add-i
     loop-less
     loop-again
-    returns)
+    cost-at-requires-3
+    add-sum-3
+    returns
+    returns-2)
