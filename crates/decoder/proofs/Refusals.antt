@@ -17,18 +17,6 @@ use Rattle.decoder.specs.Calls.{decode-refusal, mark-refusal}
 use Rattle.decoder.specs.Within.{Accepted}
 
 -- ---- a row, entry by entry
-pub row-bad : (rs : List ℤ) (i : ℕ) → i < length rs → reliability-good (getD rs i (pos 0)) ≡ false → row-good rs ≡ row-good (drop i rs) → false ≡ row-good rs
-unfolding row-good
-row-bad rs i l e f = sym (f ∙ ap row-good (drop-cons rs i (pos 0) l) ∙ ap (λ (b : Bool). b && row-good (drop (suc i) rs)) e)
-
-pub row-next : (rs : List ℤ) (i : ℕ) → i < length rs → reliability-good (getD rs i (pos 0)) ≡ true → row-good rs ≡ row-good (drop i rs) → row-good rs ≡ row-good (drop (suc i) rs)
-unfolding row-good
-row-next rs i l e f = f ∙ ap row-good (drop-cons rs i (pos 0) l) ∙ ap (λ (b : Bool). b && row-good (drop (suc i) rs)) e
-
-pub row-end : (rs : List ℤ) → row-good rs ≡ row-good (drop (length rs) rs) → true ≡ row-good rs
-unfolding row-good
-row-end rs f = sym (f ∙ ap row-good (drop-length rs))
-
 -- ---- the decoder's
 module _ (c : ℕ) (rs : List ℤ) (a b : ℕ) where
   pub decode-1 : code-good c ≡ false → 1 ≡ decode-refusal c rs a b

@@ -58,16 +58,13 @@ module _ (c m r q n size count : ℕ) (row : List ℤ) (cs : List ℕ) (z : Inpu
       go true = row-at row (i * m + j) (z .good-row)
       go false = refl
 
-  module _ (hs zs os t : List ℕ) (b : Buffers n size hs zs os t) where
-    pub columns-ok : (width-good m ≡ true) × (r ≤ 4) × (length hs ≡ long m)
-    columns-ok = (width-ok, few-ok, b .length-hs ∙ z .n-is)
-
+  module _ (zs os t : List ℕ) (b : Buffers n size zs os t) where
     pub costs-ok : CostRows m n row zs os
     costs-ok = record { width = width-ok; few = omega (arith, z .n-is, long-le m width-ok); length-row = row-is; length-zs = b .length-zs; length-os = b .length-os }
 
-    -- after the columns and the costs are written
-    module _ (hs' zs' os' : List ℕ) (h : Headed m r (long m) hs') (k : Costed m n row zs' os') (lz : length zs' ≡ length zs) (lo : length os' ≡ length os) where
-      pub layers-ok : Layers q size top hs' zs' os'
+    -- after the costs are written
+    module _ (hs zs' os' : List ℕ) (h : Headed m r hs) (k : Costed m n row zs' os') (lz : length zs' ≡ length zs) (lo : length os' ≡ length os) where
+      pub layers-ok : Layers q size top hs zs' os'
       layers-ok = record {
         some = z .some;
         size-is = z .size-is;
@@ -80,16 +77,16 @@ module _ (c m r q n size count : ℕ) (row : List ℤ) (cs : List ℕ) (z : Inpu
         cost-os = λ i j l lj. rw (k .ones i j (omega (arith, h .count, z .n-is)) lj) (cost-one-le (reliability m row i j) (rel-good i j));
       }
 
-      pub make-ok : Make q size top big t hs' zs' os'
+      pub make-ok : Make q size top big t hs zs' os'
       make-ok =
-          let e : length hs' ≡ n = h .count ∙ sym (z .n-is) in
+          let e : length hs ≡ n = h .count ∙ sym (z .n-is) in
           record {
             layers = layers-ok;
             length-t = rw e (b .length-t);
             room = omega (arith, short, e);
           }
 
-      pub spelt-ok : Spelt (width c) (roots c) row hs' zs' os'
+      pub spelt-ok : Spelt (width c) (roots c) row hs zs' os'
       spelt-ok = rw (← z .m-is, ← z .r-is) (record {
         count = h .count;
         heads = h .heads;

@@ -42,8 +42,7 @@ pub record Input (code m r q n size count : ℕ) (row : List ℤ) (cs : List ℕ
   pub length-cs : length cs ≡ count * 4
 
 -- buffers of the lengths that the search wants
-pub record Buffers (n size : ℕ) (hs zs os t : List ℕ) : Type 0 where
-  pub length-hs : length hs ≡ n
+pub record Buffers (n size : ℕ) (zs os t : List ℕ) : Type 0 where
   pub length-zs : length zs ≡ n * 4
   pub length-os : length os ≡ n * 4
   pub length-t : length t ≡ n * (size * 4) + size * 4

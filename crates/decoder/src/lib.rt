@@ -9,9 +9,9 @@ ghost use Rattle.decoder.specs.Within.{cap, Input, Buffers, Tabled, Best
 ghost use lib.IntN.{pos, _-ℤ_};
 ghost use mathlib.Core.Bool.{true};
 ghost use Rattle.code.specs.Code.{code-good, width, roots, is-codeword};
-ghost use Rattle.metric.specs.Row.{row-good};
 ghost use Rattle.metric.specs.Metric.{Decoded};
 ghost use Rattle.glue.specs.Walk.{Marginals};
+ghost use Rattle.search.specs.Search.{Headed};
 
 // 0 and the best metric, or the number of a refusal and 0.
 #[repr(C)]
@@ -46,16 +46,16 @@ fn tables(
     count: usize,
     row: &[i16],
     cs: &[u16],
-    hs: &mut [u16],
+    hs: &[u16],
     zs: &mut [u16],
     os: &mut [u16],
     t: &mut [u16],
 )
     requires { ⌜ Input code m r q n size count (now row) (now cs) ⌝ }
-    requires { ⌜ Buffers n size (now hs) (now zs) (now os) (now t) ⌝ }
-    ensures { λ _. ⌜ Tabled code q size (now (row .entry)) (now (hs .exit)) (now (zs .exit)) (now (os .exit)) (now (t .exit)) ⌝ }
+    requires { ⌜ Headed m r (now hs) ⌝ }
+    requires { ⌜ Buffers n size (now zs) (now os) (now t) ⌝ }
+    ensures { λ _. ⌜ Tabled code q size (now (row .entry)) (now (hs .entry)) (now (zs .exit)) (now (os .exit)) (now (t .exit)) ⌝ }
 {
-    search::columns(m, r, hs);
     search::cost_rows(m, n, row, zs, os);
     trellis::make_tables(t, q, size, hs, zs, os, TOP, BIG);
 }
@@ -185,7 +185,7 @@ fn decode_with(
     count: usize,
     row: &[i16],
     cs: &[u16],
-    hs: &mut [u16],
+    hs: &[u16],
     zs: &mut [u16],
     os: &mut [u16],
     t: &mut [u16],
@@ -196,7 +196,8 @@ fn decode_with(
     soft: &mut [i16],
 ) -> i32
     requires { ⌜ Input code m r q n size count (now row) (now cs) ⌝ }
-    requires { ⌜ Buffers n size (now hs) (now zs) (now os) (now t) ⌝ }
+    requires { ⌜ Headed m r (now hs) ⌝ }
+    requires { ⌜ Buffers n size (now zs) (now os) (now t) ⌝ }
     requires { ⌜ Outputs m n size (now g) (now zero) (now one) (now word) (now soft) ⌝ }
     ensures { λ x. ⌜ Decoded (width code) (roots code) (now (row .entry)) (now (word .exit)) x (now (soft .exit)) ⌝ }
 {
@@ -240,21 +241,6 @@ fn decode_with(
     minus(search::weight(row), 2 * least)
 }
 
-// Whether every entry of a row is a reliability.
-fn is_row(row: &[i16]) -> bool
-    ensures { λ r. ⌜ r ≡ row-good (now (row .entry)) ⌝ }
-{
-    let mut i = 0;
-    while i < row.len() {
-        let r = row[i];
-        if !metric::is_reliability(r) {
-            return false;
-        }
-        i += 1;
-    }
-    true
-}
-
 fn decode_refusal(code: u32, row: &[i16], word: usize, soft: usize) -> u32
     ensures { λ r. ⌜ r ≡ decode-refusal code (now (row .entry)) word soft ⌝ }
 {
@@ -272,7 +258,7 @@ fn decode_refusal(code: u32, row: &[i16], word: usize, soft: usize) -> u32
     if soft != long {
         return 4;
     }
-    if is_row(row) { 0 } else { 5 }
+    if metric::is_row(row) { 0 } else { 5 }
 }
 
 // Buffers.
@@ -288,19 +274,13 @@ fn zeros_1024() -> [u16; 1024]
     [0u16; 1024]
 }
 
-fn zeros_2048() -> [u16; 2048]
-    ensures { λ r. ⌜ length r ≡ 2048 ⌝ }
-{
-    [BIG; 2048]
-}
-
 // Each code with buffers of its own sizes: n + 1 tables of four layers, 2^q rows each.
 fn decode_1(row: &[i16], word: &mut [u8], soft: &mut [i16]) -> i32
     requires { ⌜ Accepted 1 (now row) (length (now word)) (length (now soft)) ⌝ }
     ensures { λ x. ⌜ Decoded (width 1) (roots 1) (now (row .entry)) (now (word .exit)) x (now (soft .exit)) ⌝ }
 {
     let all = configurations::all_of_code_1();
-    let mut hs = [0u16; 7];
+    let hs = search::columns_of_code_1();
     let mut zs = [0u16; 28];
     let mut os = [0u16; 28];
     let mut zero = [0u16; 56];
@@ -317,7 +297,7 @@ fn decode_1(row: &[i16], word: &mut [u8], soft: &mut [i16]) -> i32
         8,
         row,
         &all,
-        &mut hs,
+        &hs,
         &mut zs,
         &mut os,
         &mut t,
@@ -334,12 +314,12 @@ fn decode_2(row: &[i16], word: &mut [u8], soft: &mut [i16]) -> i32
     ensures { λ x. ⌜ Decoded (width 2) (roots 2) (now (row .entry)) (now (word .exit)) x (now (soft .exit)) ⌝ }
 {
     let all = configurations::all_of_code_2();
-    let mut hs = [0u16; 7];
+    let hs = search::columns_of_code_2();
     let mut zs = [0u16; 28];
     let mut os = [0u16; 28];
     let mut zero = [0u16; 56];
     let mut one = [0u16; 56];
-    let mut t = zeros_2048();
+    let mut t = [BIG; 2048];
     let mut g = zeros_256();
     decode_with(
         2,
@@ -351,7 +331,7 @@ fn decode_2(row: &[i16], word: &mut [u8], soft: &mut [i16]) -> i32
         64,
         row,
         &all,
-        &mut hs,
+        &hs,
         &mut zs,
         &mut os,
         &mut t,
@@ -368,7 +348,7 @@ fn decode_3(row: &[i16], word: &mut [u8], soft: &mut [i16]) -> i32
     ensures { λ x. ⌜ Decoded (width 3) (roots 3) (now (row .entry)) (now (word .exit)) x (now (soft .exit)) ⌝ }
 {
     let all = configurations::all_of_code_3();
-    let mut hs = [0u16; 15];
+    let hs = search::columns_of_code_3();
     let mut zs = [0u16; 60];
     let mut os = [0u16; 60];
     let mut zero = [0u16; 120];
@@ -385,7 +365,7 @@ fn decode_3(row: &[i16], word: &mut [u8], soft: &mut [i16]) -> i32
         256,
         row,
         &all,
-        &mut hs,
+        &hs,
         &mut zs,
         &mut os,
         &mut t,
@@ -439,7 +419,7 @@ fn mark_refusal(code: u32, row: &[i16], word: &[u8]) -> u32
     if word.len() != code::long_of(m) {
         return 3;
     }
-    if !is_row(row) {
+    if !metric::is_row(row) {
         return 5;
     }
     if code::symbols_good(m, word) { 0 } else { 6 }
@@ -456,14 +436,15 @@ fn excess_with(
     count: usize,
     row: &[i16],
     cs: &[u16],
-    hs: &mut [u16],
+    hs: &[u16],
     zs: &mut [u16],
     os: &mut [u16],
     t: &mut [u16],
     word: &[u8],
 ) -> u32
     requires { ⌜ Input code m r q n size count (now row) (now cs) ⌝ }
-    requires { ⌜ Buffers n size (now hs) (now zs) (now os) (now t) ⌝ }
+    requires { ⌜ Headed m r (now hs) ⌝ }
+    requires { ⌜ Buffers n size (now zs) (now os) (now t) ⌝ }
     requires { ⌜ is-codeword (width code) (roots code) (now word) ≡ true ⌝ }
     ensures { λ x. ⌜ Short code (now (row .entry)) (now (word .entry)) x ⌝ }
 {
@@ -478,7 +459,7 @@ fn excess_1(row: &[i16], word: &[u8]) -> u32
     ensures { λ x. ⌜ Short 1 (now (row .entry)) (now (word .entry)) x ⌝ }
 {
     let all = configurations::all_of_code_1();
-    let mut hs = [0u16; 7];
+    let hs = search::columns_of_code_1();
     let mut zs = [0u16; 28];
     let mut os = [0u16; 28];
     let mut t = zeros_256();
@@ -492,7 +473,7 @@ fn excess_1(row: &[i16], word: &[u8]) -> u32
         8,
         row,
         &all,
-        &mut hs,
+        &hs,
         &mut zs,
         &mut os,
         &mut t,
@@ -505,10 +486,10 @@ fn excess_2(row: &[i16], word: &[u8]) -> u32
     ensures { λ x. ⌜ Short 2 (now (row .entry)) (now (word .entry)) x ⌝ }
 {
     let all = configurations::all_of_code_2();
-    let mut hs = [0u16; 7];
+    let hs = search::columns_of_code_2();
     let mut zs = [0u16; 28];
     let mut os = [0u16; 28];
-    let mut t = zeros_2048();
+    let mut t = [BIG; 2048];
     excess_with(
         2,
         3,
@@ -519,7 +500,7 @@ fn excess_2(row: &[i16], word: &[u8]) -> u32
         64,
         row,
         &all,
-        &mut hs,
+        &hs,
         &mut zs,
         &mut os,
         &mut t,
@@ -532,7 +513,7 @@ fn excess_3(row: &[i16], word: &[u8]) -> u32
     ensures { λ x. ⌜ Short 3 (now (row .entry)) (now (word .entry)) x ⌝ }
 {
     let all = configurations::all_of_code_3();
-    let mut hs = [0u16; 15];
+    let hs = search::columns_of_code_3();
     let mut zs = [0u16; 60];
     let mut os = [0u16; 60];
     let mut t = zeros_1024();
@@ -546,7 +527,7 @@ fn excess_3(row: &[i16], word: &[u8]) -> u32
         256,
         row,
         &all,
-        &mut hs,
+        &hs,
         &mut zs,
         &mut os,
         &mut t,

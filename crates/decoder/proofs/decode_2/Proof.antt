@@ -1,21 +1,17 @@
 -- `decoder::decode_2` meets its contract.
 -- Assumes nothing.
-use Rattle.decoder.proofs.Inputs.{input-2, outputs}
-use Rattle.code.specs.Code.{code-good, width, long}
-use lib.ListN.{length, getD, take}
-use native.Mathlib.Omega.{arith}
-use Prim.Native.Nat.{ℕ, suc, _<_, _≤_, _-_, _+_, _*_, _/_, _%_, _^_}
-use mathlib.Core.List.{List}
-use mathlib.Core.Path.{_≡_, sym, ap, ap₂, _∙_, subst, refl}
+use mathlib.Core.Path.{refl}
 use borrow.Author.Needs.{needs}
+use Rattle.code.specs.Code.{width, long}
+use Rattle.decoder.proofs.Inputs.{input-2, outputs}
 use Rattle.decoder.proofs.decode_2.Statement.{statement}
 use Rattle.decoder.proofs.decode_2.Tie as tie
 
 all-of-code-2-requires : tie.Need-all-of-code-2-requires
 all-of-code-2-requires c κs = search needs
 
-zeros-2048-requires : tie.Need-zeros-2048-requires
-zeros-2048-requires c κs = search needs
+columns-of-code-2-requires : tie.Need-columns-of-code-2-requires
+columns-of-code-2-requires c κs = search needs
 
 zeros-256-requires : tie.Need-zeros-256-requires
 zeros-256-requires c κs = search needs
@@ -47,13 +43,10 @@ slice-aggregate-decode-with-8 c = search needs
 decode-with-requires : tie.Need-decode-with-requires
 unfolding width long
 decode-with-requires c κs = let s = c .before .before .before .before .before .before .before .before .before .before .before .before .before .before in
-    let a = s .args in (
-      input-2 (a .row .now) (s .pre .good-row) (s .pre .long-row) (c .before .before .before .before .before .before .before .before .before .before .before .before .all-of-code-2 .result) (c .before .before .before .before .before .before .before .before .before .before .before .before .all-of-code-2 .ensures),
-      (
-        record { length-hs = refl; length-zs = refl; length-os = refl; length-t = c .before .before .before .before .before .before .before .before .before .before .before .zeros-2048 .ensures },
-        outputs 2 3 7 64 (a .row .now) _ _ _ (a .word .now) (a .soft .now) (s .pre) refl refl (c .before .before .before .before .before .before .before .before .before .before .zeros-256 .ensures) refl refl,
-      ),
-    )
+    let a = s .args in
+    let all = c .before .before .before .before .before .before .before .before .before .before .before .before .all-of-code-2 in
+    let hs = c .before .before .before .before .before .before .before .before .before .before .before .columns-of-code-2 in
+    (input-2 (a .row .now) (s .pre .good-row) (s .pre .long-row) (all .result) (all .ensures), (hs .ensures, (record { length-zs = refl; length-os = refl; length-t = refl }, outputs 2 3 7 64 (a .row .now) _ _ _ (a .word .now) (a .soft .now) (s .pre) refl refl (c .before .before .before .before .before .before .before .before .before .before .zeros-256 .ensures) refl refl)))
 
 same-length : tie.Need-same-length
 same-length c = search needs
@@ -69,7 +62,7 @@ decode-2-spec =
     tie.close
     (tie.spec
     all-of-code-2-requires
-    zeros-2048-requires
+    columns-of-code-2-requires
     zeros-256-requires
     slice-aggregate-decode-with
     slice-aggregate-decode-with-2

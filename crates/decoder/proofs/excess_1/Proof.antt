@@ -1,18 +1,17 @@
 -- `decoder::excess_1` meets its contract.
 -- Assumes nothing.
-use Rattle.decoder.proofs.Inputs.{input-1}
-use Rattle.code.specs.Code.{code-good, width, long}
-use lib.ListN.{length, getD, take}
-use native.Mathlib.Omega.{arith}
-use Prim.Native.Nat.{ℕ, suc, _<_, _≤_, _-_, _+_, _*_, _/_, _%_, _^_}
-use mathlib.Core.List.{List}
-use mathlib.Core.Path.{_≡_, sym, ap, ap₂, _∙_, subst, refl}
+use mathlib.Core.Path.{refl}
 use borrow.Author.Needs.{needs}
+use Rattle.code.specs.Code.{width, long}
+use Rattle.decoder.proofs.Inputs.{input-1}
 use Rattle.decoder.proofs.excess_1.Statement.{statement}
 use Rattle.decoder.proofs.excess_1.Tie as tie
 
 all-of-code-1-requires : tie.Need-all-of-code-1-requires
 all-of-code-1-requires c κs = search needs
+
+columns-of-code-1-requires : tie.Need-columns-of-code-1-requires
+columns-of-code-1-requires c κs = search needs
 
 zeros-256-requires : tie.Need-zeros-256-requires
 zeros-256-requires c κs = search needs
@@ -34,11 +33,11 @@ slice-aggregate-excess-with-5 c = search needs
 
 excess-with-requires : tie.Need-excess-with-requires
 unfolding width long
-excess-with-requires c κs = let s = c .before .before .before .before .before .before .before .before in
-    let a = s .args in (
-      input-1 (a .row .now) (s .pre .good-row) (s .pre .long-row) (c .before .before .before .before .before .before .all-of-code-1 .result) (c .before .before .before .before .before .before .all-of-code-1 .ensures),
-      (record { length-hs = refl; length-zs = refl; length-os = refl; length-t = c .before .before .before .before .before .zeros-256 .ensures }, s .pre .codeword),
-    )
+excess-with-requires c κs = let s = c .before .before .before .before .before .before .before .before .before in
+    let a = s .args in
+    let all = c .before .before .before .before .before .before .before .all-of-code-1 in
+    let hs = c .before .before .before .before .before .before .columns-of-code-1 in
+    (input-1 (a .row .now) (s .pre .good-row) (s .pre .long-row) (all .result) (all .ensures), (hs .ensures, (record { length-zs = refl; length-os = refl; length-t = c .before .before .before .before .before .zeros-256 .ensures }, s .pre .codeword)))
 
 returns : tie.Need-returns
 returns c = search needs
@@ -48,6 +47,7 @@ excess-1-spec =
     tie.close
     (tie.spec
     all-of-code-1-requires
+    columns-of-code-1-requires
     zeros-256-requires
     slice-aggregate-excess-with
     slice-aggregate-excess-with-2

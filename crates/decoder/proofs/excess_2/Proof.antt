@@ -1,21 +1,17 @@
 -- `decoder::excess_2` meets its contract.
 -- Assumes nothing.
-use Rattle.decoder.proofs.Inputs.{input-2}
-use Rattle.code.specs.Code.{code-good, width, long}
-use lib.ListN.{length, getD, take}
-use native.Mathlib.Omega.{arith}
-use Prim.Native.Nat.{ℕ, suc, _<_, _≤_, _-_, _+_, _*_, _/_, _%_, _^_}
-use mathlib.Core.List.{List}
-use mathlib.Core.Path.{_≡_, sym, ap, ap₂, _∙_, subst, refl}
+use mathlib.Core.Path.{refl}
 use borrow.Author.Needs.{needs}
+use Rattle.code.specs.Code.{width, long}
+use Rattle.decoder.proofs.Inputs.{input-2}
 use Rattle.decoder.proofs.excess_2.Statement.{statement}
 use Rattle.decoder.proofs.excess_2.Tie as tie
 
 all-of-code-2-requires : tie.Need-all-of-code-2-requires
 all-of-code-2-requires c κs = search needs
 
-zeros-2048-requires : tie.Need-zeros-2048-requires
-zeros-2048-requires c κs = search needs
+columns-of-code-2-requires : tie.Need-columns-of-code-2-requires
+columns-of-code-2-requires c κs = search needs
 
 slice-aggregate-excess-with : tie.Need-slice-aggregate-excess-with
 slice-aggregate-excess-with c = search needs
@@ -35,10 +31,10 @@ slice-aggregate-excess-with-5 c = search needs
 excess-with-requires : tie.Need-excess-with-requires
 unfolding width long
 excess-with-requires c κs = let s = c .before .before .before .before .before .before .before .before in
-    let a = s .args in (
-      input-2 (a .row .now) (s .pre .good-row) (s .pre .long-row) (c .before .before .before .before .before .before .all-of-code-2 .result) (c .before .before .before .before .before .before .all-of-code-2 .ensures),
-      (record { length-hs = refl; length-zs = refl; length-os = refl; length-t = c .before .before .before .before .before .zeros-2048 .ensures }, s .pre .codeword),
-    )
+    let a = s .args in
+    let all = c .before .before .before .before .before .before .all-of-code-2 in
+    let hs = c .before .before .before .before .before .columns-of-code-2 in
+    (input-2 (a .row .now) (s .pre .good-row) (s .pre .long-row) (all .result) (all .ensures), (hs .ensures, (record { length-zs = refl; length-os = refl; length-t = refl }, s .pre .codeword)))
 
 returns : tie.Need-returns
 returns c = search needs
@@ -48,7 +44,7 @@ excess-2-spec =
     tie.close
     (tie.spec
     all-of-code-2-requires
-    zeros-2048-requires
+    columns-of-code-2-requires
     slice-aggregate-excess-with
     slice-aggregate-excess-with-2
     slice-aggregate-excess-with-3

@@ -1,42 +1,41 @@
 -- `decoder::excess_with` meets its contract.
 -- Assumes nothing.
+use borrow.Author.Needs.{needs}
 use Rattle.decoder.proofs.Marking.{own-ok, excess-fits, excess-ok}
 use Rattle.decoder.proofs.Searching.{tuples-ok}
-use lib.ListN.{length, getD, take}
-use native.Mathlib.Omega.{arith}
-use Prim.Native.Nat.{ℕ, suc, _<_, _≤_, _-_, _+_, _*_, _/_, _%_, _^_}
-use mathlib.Core.List.{List}
-use mathlib.Core.Path.{_≡_, sym, ap, ap₂, _∙_, subst, refl}
-use borrow.Author.Needs.{needs}
 use Rattle.decoder.proofs.excess_with.Statement.{statement}
 use Rattle.decoder.proofs.excess_with.Tie as tie
 
 tables-requires : tie.Need-tables-requires
-tables-requires c κs = let s = c .before .before .before .before .before .before .before .before .before .before in
+tables-requires c κs = let s = c .before .before .before .before .before .before .before .before .before in
     let a = s .args in
     let p = s .pre in
-    (p .0, p .1 .0)
+    (p .0, (p .1 .0, p .1 .1 .0))
 
 least-of-requires : tie.Need-least-of-requires
-least-of-requires c κs = let s = c .before .before .before .before .before .before .before .before .before .before .before .before .before .before .before .before .before .before .before .before in
+least-of-requires c κs = let s = c .before .before .before .before .before .before .before .before .before .before .before .before .before .before .before .before .before in
     let a = s .args in
     let p = s .pre in
-    tuples-ok (a .code) (a .m) (a .r) (a .q) (a .n) (a .size) (a .count) (a .row .now) (a .cs .now) (c .before .before .before .before .before .before .before .before .before .tables .last .1 .1 .1 .1 .1 .1 .1 .1 .1 .0) (c .before .before .before .before .before .before .before .before .before .tables .last .1 .1 .1 .1 .1 .1 .1 .1 .1 .1 .0) (c .before .before .before .before .before .before .before .before .before .tables .last .1 .1 .1 .1 .1 .1 .1 .1 .1 .1 .1 .0) (c .before .before .before .before .before .before .before .before .before .tables .last .1 .1 .1 .1 .1 .1 .1 .1 .1 .1 .1 .1 .0) (p .0) (c .before .before .before .before .before .before .before .before .before .tables .ensures)
+    let t = c .before .before .before .before .before .before .before .tables in
+    tuples-ok (a .code) (a .m) (a .r) (a .q) (a .n) (a .size) (a .count) (a .row .now) (a .cs .now) (a .hs .now) (t .last .1 .1 .1 .1 .1 .1 .1 .1 .1 .1 .0) (t .last .1 .1 .1 .1 .1 .1 .1 .1 .1 .1 .1 .0) (t .last .1 .1 .1 .1 .1 .1 .1 .1 .1 .1 .1 .1 .0) (p .0) (t .ensures)
 
 word-cost-requires : tie.Need-word-cost-requires
-word-cost-requires c κs = let s = c .before .before .before .before .before .before .before .before .before .before .before .before .before .before .before .before .before .before .before .before .before .before .before in
+word-cost-requires c κs = let s = c .before .before .before .before .before .before .before .before .before .before .before .before .before .before .before .before .before .before .before .before in
     let a = s .args in
     let p = s .pre in
-    own-ok (a .code) (a .m) (a .r) (a .q) (a .n) (a .size) (a .count) (a .row .now) (a .cs .now) (c .before .before .before .before .before .before .before .before .before .before .before .before .tables .last .1 .1 .1 .1 .1 .1 .1 .1 .1 .0) (c .before .before .before .before .before .before .before .before .before .before .before .before .tables .last .1 .1 .1 .1 .1 .1 .1 .1 .1 .1 .0) (c .before .before .before .before .before .before .before .before .before .before .before .before .tables .last .1 .1 .1 .1 .1 .1 .1 .1 .1 .1 .1 .0) (c .before .before .before .before .before .before .before .before .before .before .before .before .tables .last .1 .1 .1 .1 .1 .1 .1 .1 .1 .1 .1 .1 .0) (p .0) (c .before .before .before .before .before .before .before .before .before .before .before .before .tables .ensures) (a .word .now) (p .1 .1)
+    let t = c .before .before .before .before .before .before .before .before .before .before .tables in
+    own-ok (a .code) (a .m) (a .r) (a .q) (a .n) (a .size) (a .count) (a .row .now) (a .cs .now) (a .hs .now) (t .last .1 .1 .1 .1 .1 .1 .1 .1 .1 .1 .0) (t .last .1 .1 .1 .1 .1 .1 .1 .1 .1 .1 .1 .0) (t .last .1 .1 .1 .1 .1 .1 .1 .1 .1 .1 .1 .1 .0) (p .0) (t .ensures) (a .word .now) (p .1 .1 .1)
 
 cast-result : tie.Need-cast-result
 cast-result c = search needs
 
 sub-result : tie.Need-sub-result
-sub-result c = let s = c .before .before .before .before .before .before .before .before .before .before .before .before .before .before .before .before .before .before .before .before .before .before .before .before in
+sub-result c = let s = c .before .before .before .before .before .before .before .before .before .before .before .before .before .before .before .before .before .before .before .before .before in
     let a = s .args in
     let p = s .pre in
-    excess-fits (a .code) (a .m) (a .r) (a .q) (a .n) (a .size) (a .count) (a .row .now) (a .cs .now) (c .before .before .before .before .before .before .before .before .before .before .before .before .before .tables .last .1 .1 .1 .1 .1 .1 .1 .1 .1 .0) (c .before .before .before .before .before .before .before .before .before .before .before .before .before .tables .last .1 .1 .1 .1 .1 .1 .1 .1 .1 .1 .0) (c .before .before .before .before .before .before .before .before .before .before .before .before .before .tables .last .1 .1 .1 .1 .1 .1 .1 .1 .1 .1 .1 .0) (c .before .before .before .before .before .before .before .before .before .before .before .before .before .tables .last .1 .1 .1 .1 .1 .1 .1 .1 .1 .1 .1 .1 .0) (p .0) (c .before .before .before .before .before .before .before .before .before .before .before .before .before .tables .ensures) (a .word .now) (p .1 .1) (c .before .before .before .least-of .result) (c .word-cost .result) (c .before .before .before .least-of .ensures) (c .word-cost .ensures)
+    let t = c .before .before .before .before .before .before .before .before .before .before .before .tables in
+    let l = c .before .before .before .least-of in
+    excess-fits (a .code) (a .m) (a .r) (a .q) (a .n) (a .size) (a .count) (a .row .now) (a .cs .now) (a .hs .now) (t .last .1 .1 .1 .1 .1 .1 .1 .1 .1 .1 .0) (t .last .1 .1 .1 .1 .1 .1 .1 .1 .1 .1 .1 .0) (t .last .1 .1 .1 .1 .1 .1 .1 .1 .1 .1 .1 .1 .0) (p .0) (t .ensures) (a .word .now) (p .1 .1 .1) (l .result) (c .word-cost .result) (l .ensures) (c .word-cost .ensures)
 
 same-length : tie.Need-same-length
 same-length c = search needs
@@ -47,14 +46,13 @@ same-length-2 c = search needs
 same-length-3 : tie.Need-same-length-3
 same-length-3 c = search needs
 
-same-length-4 : tie.Need-same-length-4
-same-length-4 c = search needs
-
 returns : tie.Need-returns
-returns c = let s = c .before .before .before .before .before .before .before .before .before .before .before .before .before .before .before .before .before .before .before .before .before .before .before .before in
+returns c = let s = c .before .before .before .before .before .before .before .before .before .before .before .before .before .before .before .before .before .before .before .before .before in
     let a = s .args in
     let p = s .pre in
-    excess-ok (a .code) (a .m) (a .r) (a .q) (a .n) (a .size) (a .count) (a .row .now) (a .cs .now) (c .before .before .before .before .before .before .before .before .before .before .before .before .before .tables .last .1 .1 .1 .1 .1 .1 .1 .1 .1 .0) (c .before .before .before .before .before .before .before .before .before .before .before .before .before .tables .last .1 .1 .1 .1 .1 .1 .1 .1 .1 .1 .0) (c .before .before .before .before .before .before .before .before .before .before .before .before .before .tables .last .1 .1 .1 .1 .1 .1 .1 .1 .1 .1 .1 .0) (c .before .before .before .before .before .before .before .before .before .before .before .before .before .tables .last .1 .1 .1 .1 .1 .1 .1 .1 .1 .1 .1 .1 .0) (p .0) (c .before .before .before .before .before .before .before .before .before .before .before .before .before .tables .ensures) (a .word .now) (p .1 .1) (c .before .before .before .least-of .result) (c .word-cost .result) (c .before .before .before .least-of .ensures) (c .word-cost .ensures)
+    let t = c .before .before .before .before .before .before .before .before .before .before .before .tables in
+    let l = c .before .before .before .least-of in
+    excess-ok (a .code) (a .m) (a .r) (a .q) (a .n) (a .size) (a .count) (a .row .now) (a .cs .now) (a .hs .now) (t .last .1 .1 .1 .1 .1 .1 .1 .1 .1 .1 .0) (t .last .1 .1 .1 .1 .1 .1 .1 .1 .1 .1 .1 .0) (t .last .1 .1 .1 .1 .1 .1 .1 .1 .1 .1 .1 .1 .0) (p .0) (t .ensures) (a .word .now) (p .1 .1 .1) (l .result) (c .word-cost .result) (l .ensures) (c .word-cost .ensures)
 
 pub excess-with-spec : {M : Type 1} → statement M
 excess-with-spec =
@@ -68,5 +66,4 @@ excess-with-spec =
     same-length
     same-length-2
     same-length-3
-    same-length-4
     returns)

@@ -1,0 +1,31 @@
+-- The test of a row, entry by entry.
+-- Assumes nothing.
+use mathlib.Core.Path.{_≡_, refl, sym, ap, _∙_}
+use mathlib.Core.Bool.{Bool, true, false, _&&_}
+use mathlib.Core.List.{List}
+use Prim.Native.Nat.{ℕ, suc, _+_, _<_}
+use native.Mathlib.Numerals.{add-one}
+use lib.ListN.{length, getD, drop}
+use lib.Seq.{drop-cons, drop-length}
+use lib.IntN.{ℤ, pos}
+use Rattle.metric.specs.Row.{reliability-good, row-good}
+
+-- so far, and what is left
+abbrev pub Rowing : (rs : List ℤ) (i : ℕ) (so : Bool) → Type 0
+Rowing rs i so = row-good rs ≡ so && row-good (drop i rs)
+
+pub row-next : (rs : List ℤ) (i : ℕ) (so : Bool) → i < length rs → Rowing rs i so → Rowing rs (i + 1) (so && reliability-good (getD rs i (pos 0)))
+unfolding row-good
+row-next rs i so l f = rw add-one (f ∙ ap (λ (xs : List ℤ). so && row-good xs) (drop-cons rs i (pos 0) l) ∙ turned so)
+  where
+    turned : (so : Bool) → so && (reliability-good (getD rs i (pos 0)) && row-good (drop (suc i) rs)) ≡ (so && reliability-good (getD rs i (pos 0))) && row-good (drop (suc i) rs)
+    turned true = refl
+    turned false = refl
+
+pub row-end : (rs : List ℤ) (so : Bool) → Rowing rs (length rs) so → so ≡ row-good rs
+unfolding row-good
+row-end rs so f = sym (f ∙ ap (λ (xs : List ℤ). so && row-good xs) (drop-length rs) ∙ whole so)
+  where
+    whole : (so : Bool) → so && true ≡ so
+    whole true = refl
+    whole false = refl

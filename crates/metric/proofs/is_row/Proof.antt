@@ -1,0 +1,70 @@
+-- `metric::is_row` meets its contract.
+-- Assumes nothing.
+use mathlib.Core.Path.{_≡_, refl, ap, _∙_}
+use mathlib.Core.Bool.{Bool, _&&_}
+use Prim.Native.Nat.{_≤_, _-_}
+use native.Mathlib.Omega.{arith}
+use lib.ListN.{length, getD}
+use lib.IntN.{pos}
+use mir.Facts.{toZ-ofZ}
+use mir.Syntax.{w16}
+use Rattle.metric.proofs.Rowing.{Rowing, row-next, row-end}
+use Rattle.metric.proofs.is_row.Statement.{statement}
+use Rattle.metric.proofs.is_row.Tie as tie
+
+abbrev Inv-loop : tie.InvT-loop
+Inv-loop row good₀ i₀ good i = (i ≤ length row) × Rowing row i good
+
+abbrev μ-loop : tie.MeasureT-loop
+μ-loop row good₀ i₀ good i = length row - i
+
+loop-holds : tie.Need-loop-holds Inv-loop μ-loop
+loop-holds c = (omega arith, refl)
+
+mul-r : tie.Need-mul-r Inv-loop μ-loop
+mul-r c = record { fits = omega (arith, c .before .before .good .0) }
+
+shared-slice-copy-out-r : tie.Need-shared-slice-copy-out-r Inv-loop μ-loop
+shared-slice-copy-out-r c = omega arith
+
+is-reliability-requires : tie.Need-is-reliability-requires Inv-loop μ-loop
+is-reliability-requires c κs = tt
+
+both-requires : tie.Need-both-requires Inv-loop μ-loop
+both-requires c κs = tt
+
+add-i : tie.Need-add-i Inv-loop μ-loop
+add-i c = omega arith
+
+loop-less : tie.Need-loop-less Inv-loop μ-loop
+loop-less c = omega arith
+
+loop-again : tie.Need-loop-again Inv-loop μ-loop
+loop-again c = let row = c .before .before .before .before .before .args .row .now in
+    let t = c .before .before .before .before .loop in
+    let e = toZ-ofZ {w = w16} {z = getD row (t .i) (pos 0)} (record { sfits = c .before .before .r .given }) in
+    let f = rw e at (c .before .is-reliability .ensures) in
+    let g = c .both .ensures ∙ ap (λ (b : Bool). t .good && b) f in
+    (omega arith, rw g (row-next row (t .i) (t .good) (c .before .before .before .loop-test .taken) (t .inv .1)))
+
+returns : tie.Need-returns Inv-loop μ-loop
+returns c = let row = c .before .before .args .row .now in
+    let t = c .before .loop in
+    let e : t .i ≡ length row = omega arith in
+    row-end row (t .good) (rw e at (t .inv .1))
+
+pub is-row-spec : {M : Type 1} → statement M
+is-row-spec =
+    tie.close
+    (tie.spec
+    Inv-loop
+    μ-loop
+    loop-holds
+    mul-r
+    shared-slice-copy-out-r
+    is-reliability-requires
+    both-requires
+    add-i
+    loop-less
+    loop-again
+    returns)
