@@ -1,18 +1,17 @@
 -- The refusals, test by test, and what an accepted call has passed.
 -- Assumes nothing.
-use mathlib.Core.Path.{_≡_, refl, sym, ap, ap₂, _∙_, subst}
-use mathlib.Core.Bool.{Bool, true, false, _&&_, not, cond, false≢true}
-use mathlib.Core.List.{List, [], _∷_}
-use Prim.Native.Nat.{ℕ, zero, suc, _≤_, _<_}
+use mathlib.Core.Path.{_≡_, refl}
+use mathlib.Core.Bool.{Bool, true, false, _&&_, not, cond}
+use mathlib.Core.List.{List}
+use Prim.Native.Nat.{ℕ}
 use native.Mathlib.Omega.{arith}
 use borrow.Author.Tests.{eq-eqb, ne-eqb, eqb-true}
 use lib.Dec.{eqb}
-use lib.ListN.{length, getD, drop}
-use lib.Seq.{drop-cons, drop-length}
-use lib.IntN.{ℤ, pos}
-use Rattle.code.specs.Code.{code-good, width, roots, long, symbols-good}
+use lib.ListN.{length}
+use lib.IntN.{ℤ}
+use Rattle.code.specs.Code.{code-good, width, long, symbols-good}
 use Rattle.code.specs.Bits.{row-long}
-use Rattle.metric.specs.Row.{reliability-good, row-good}
+use Rattle.metric.specs.Row.{row-good}
 use Rattle.decoder.specs.Calls.{decode-refusal, mark-refusal}
 use Rattle.decoder.specs.Within.{Accepted}
 

@@ -1,31 +1,26 @@
 -- The tables of an accepted row: what is asked of the buffers, and that columns and costs are those of the row.
 -- Assumes nothing.
-use mathlib.Core.Path.{_≡_, refl, sym, ap, ap₂, _∙_, subst}
+use mathlib.Core.Path.{_≡_, refl, sym, ap, _∙_}
 use mathlib.Core.Bool.{Bool, true, false, cond}
 use mathlib.Core.List.{List}
-use Prim.Native.Nat.{ℕ, zero, suc, _+_, _-_, _*_, _^_, _≤_, _<_}
+use Prim.Native.Nat.{ℕ, _+_, _*_, _≤_, _<_}
 use native.Mathlib.Omega.{arith}
-use lib.Dec.{T, ltb, ltb→lt}
+use lib.Dec.{ltb, ltb→lt}
 use lib.ListN.{length, getD}
 use lib.IntN.{ℤ, pos}
 use Rattle.field.specs.Field.{width-good, xor, doubled, alpha}
-use Rattle.field.proofs.Tests.{all, at}
+use Rattle.field.proofs.Tests.{at}
 use Rattle.code.specs.Code.{code-good, width, roots, long}
 use Rattle.code.specs.Bits.{row-long}
 use Rattle.code.specs.Promise.{Codes-inside}
 use Rattle.code.proofs.Promise.{codes, codes-inside}
 use Rattle.split.specs.Split.{cosets}
-use Rattle.metric.specs.Row.{bound, reliability-good, row-good}
-use Rattle.metric.specs.Cost.{costZero, costOne}
+use Rattle.metric.specs.Row.{bound, reliability-good}
 use Rattle.metric.proofs.Bounds.{row-at, cost-zero-le, cost-one-le}
-use Rattle.trellis.specs.Rows.{entry, Layers, Make, Made}
-use Rattle.search.specs.Search.{head, pack, reliability, zero-cost, one-cost, Headed, CostRows, Costed, Spelt}
+use Rattle.trellis.specs.Rows.{Layers, Make}
+use Rattle.search.specs.Search.{head, reliability, Headed, CostRows, Costed, Spelt}
 use Rattle.search.proofs.Prepared.{long-le}
-use Rattle.decoder.specs.Within.{top, big, Input, Buffers, Tabled}
-
-few : (c : ℕ) → code-good c ≡ true → roots c ≤ 4
-unfolding roots
-few = codes (λ c. roots c ≤ 4) (omega arith) (omega arith) (omega arith)
+use Rattle.decoder.specs.Within.{top, big, Input, Buffers}
 
 -- the columns' syndromes are syndromes, by a test of each code's
 heads-in : (c : ℕ) → code-good c ≡ true → (i : ℕ) → i < long (width c) → head (width c) (roots c) i < cosets (width c) (roots c)
@@ -39,9 +34,6 @@ module _ (c m r q n size count : ℕ) (row : List ℤ) (cs : List ℕ) (z : Inpu
   pub width-ok : width-good m ≡ true
   unfolding Codes-inside
   width-ok = rw (z .m-is) (codes-inside c (z .code-is) .0)
-
-  pub few-ok : r ≤ 4
-  few-ok = rw (z .r-is) (few c (z .code-is))
 
   pub short : n ≤ 15
   short = rw (z .n-is) (long-le m width-ok)

@@ -1,14 +1,14 @@
 -- Columns and costs as the program makes them: by the sign of a reliability, one position at a turn.
 -- Assumes nothing.
-use mathlib.Core.Path.{_≡_, refl, sym, ap, ap₂, _∙_, subst}
-use mathlib.Core.Bool.{Bool, true, false, _&&_, cond}
-use mathlib.Core.List.{List, [], _∷_}
-use Prim.Native.Nat.{ℕ, zero, suc, _+_, _-_, _*_, _^_, _≤_, _<_}
-use native.Mathlib.Nat.{zero-add, mul-one, mul-comm, mul-zero, suc-mul, mul-le-mul-right}
+use mathlib.Core.Path.{_≡_, refl, sym, ap, _∙_, subst}
+use mathlib.Core.Bool.{Bool, true, false, _&&_}
+use mathlib.Core.List.{List}
+use Prim.Native.Nat.{ℕ, suc, _+_, _*_, _≤_, _<_}
+use native.Mathlib.Nat.{zero-add, suc-mul, mul-le-mul-right}
 use native.Mathlib.Omega.{arith}
 use native.Mathlib.Decide.{decLe}
-use borrow.Author.Tests.{ltb-true, ltb-false, le-leb, lt-leb}
-use lib.Dec.{T, leb, eqb, eqb→eq}
+use borrow.Author.Tests.{ltb-true, ltb-false}
+use lib.Dec.{T, eqb, eqb→eq}
 use lib.ListN.{length, getD, set, length-set}
 use lib.Seq.{getD-set-same, getD-set-other}
 use lib.IntN.{ℤ, pos, negsuc, natAbs, _-ℤ_}
@@ -16,12 +16,12 @@ use lib.Signed.{ltZ, nonNeg}
 use mir.Syntax.{w16, w32}
 use mir.Val.{SFits, Fits, toZ, ofZ}
 use mir.Facts.{toZ-ofZ}
-use Rattle.field.specs.Field.{width-good, alpha}
+use Rattle.field.specs.Field.{width-good}
 use Rattle.field.proofs.Tests.{all, at, and-l, and-r, widths}
 use Rattle.code.specs.Code.{long}
 use Rattle.metric.specs.Cost.{costZero, costOne}
 use Rattle.trellis.proofs.Rows.{four}
-use Rattle.search.specs.Search.{pack, head, reliability, Headed, put-four, Spread, CostsTo, Costed}
+use Rattle.search.specs.Search.{head, reliability, Headed, put-four, Spread, CostsTo, Costed}
 
 -- ---- a reliability's costs, by its sign
 clash : {X : Type 0} → false ≡ true → X

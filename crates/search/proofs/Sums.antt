@@ -1,9 +1,9 @@
 -- What a word costs by itself, added up symbol by symbol, and the sum of a row's sizes.
 -- Assumes nothing.
-use mathlib.Core.Path.{_≡_, refl, sym, ap, ap₂, _∙_, subst}
+use mathlib.Core.Path.{_≡_, refl, sym, ap, ap₂, _∙_}
 use mathlib.Core.Bool.{true}
 use mathlib.Core.List.{List, [], _∷_}
-use Prim.Native.Nat.{ℕ, zero, suc, _+_, _-_, _*_, _/_, _%_, _^_, _≤_, _<_}
+use Prim.Native.Nat.{ℕ, zero, suc, _+_, _*_, _/_, _%_, _^_, _≤_, _<_}
 use native.Mathlib.Nat.{suc-mul, mul-le-mul-right}
 use native.Mathlib.Omega.{arith}
 use native.Mathlib.Numerals.{add-one}
@@ -14,9 +14,8 @@ use Rattle.field.specs.Field.{width-good}
 use Rattle.code.specs.Code.{long}
 use Rattle.code.specs.Bits.{row-long}
 use Rattle.split.specs.Split as P
-use Rattle.metric.specs.Row.{row-good}
 use Rattle.metric.specs.Cost.{costZero, costOne, weight-of, cost}
-use Rattle.metric.proofs.Bounds.{row-at, costs-le}
+use Rattle.metric.proofs.Bounds.{row-at}
 use Rattle.trellis.specs.Trellis as T
 use Rattle.trellis.specs.Trellis.{pick}
 use Rattle.trellis.specs.Rows as R

@@ -1,7 +1,7 @@
 -- One turn of each loop that checks a question list.
 -- Assumes nothing.
 use mathlib.Core.Path.{_≡_, refl}
-use mathlib.Core.Bool.{true, false, _&&_, not, cond}
+use mathlib.Core.Bool.{true, false, not, cond}
 use mathlib.Core.List.{List, [], _∷_}
 use Prim.Native.Nat.{ℕ, zero, suc, _+_, _*_, _-_, _^_, _<_, _≤_}
 use native.Mathlib.Numerals.{add-one}
@@ -10,31 +10,15 @@ use borrow.Author.Tests.{eqb-true, leb-true, not-false, lt-ltb, le-ltb}
 use lib.Dec.{ltb, leb, eqb}
 use lib.ListN.{length, getD, take, drop, length-drop, drop-of-length-le}
 use lib.Seq.{drop-cons}
-use lib.IntN.{ℤ, pos}
+use lib.IntN.{ℤ}
 use Rattle.code.specs.Code.{code-good, width, long, symbols-good}
 use Rattle.code.specs.Bits.{row-long}
-use Rattle.metric.specs.Row.{reliability-good, row-good}
+use Rattle.metric.specs.Row.{row-good}
 use Rattle.sheet.specs.Sheet.{numbers, first, row-words, symbol-words}
 use Rattle.sheet.proofs.Items.{passed}
 use Rattle.sheet.proofs.Judging.{width-fine, row-words-le, symbol-words-le}
 use Rattle.sheet_writer.specs.Calls.{fits, parts-refusal, asked-refusal, list-refusal}
 use Rattle.sheet_writer.specs.Steps.{words-needed}
-
-pub row-step : (rs : List ℤ) (i : ℕ) → i < length rs → row-good (drop i rs) ≡ (reliability-good (getD rs i (pos 0)) && row-good (drop (i + 1) rs))
-unfolding row-good
-row-step rs i h = rw (add-one, drop-cons rs i (pos 0) h)
-
-pub row-end : (rs : List ℤ) (i : ℕ) → length rs ≤ i → row-good (drop i rs) ≡ true
-unfolding row-good
-row-end rs i h = rw (drop-of-length-le rs h)
-
-pub symbol-step : (m : ℕ) (ws : List ℕ) (i : ℕ) → i < length ws → symbols-good m (drop i ws) ≡ (ltb (getD ws i 0) (2 ^ m) && symbols-good m (drop (i + 1) ws))
-unfolding symbols-good
-symbol-step m ws i h = rw (add-one, drop-cons ws i 0 h)
-
-pub symbol-end : (m : ℕ) (ws : List ℕ) (i : ℕ) → length ws ≤ i → symbols-good m (drop i ws) ≡ true
-unfolding symbols-good
-symbol-end m ws i h = rw (drop-of-length-le ws h)
 
 pub fits-last : (k l n : ℕ) → k ≡ 0 → fits k l n ≡ eqb l n
 unfolding fits

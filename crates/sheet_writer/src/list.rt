@@ -2,47 +2,10 @@
 ghost use mathlib.Core.Path.{_≡_};
 ghost use mathlib.Core.Bool.{true};
 ghost use Prim.Native.Nat.{_+_, _*_, _<_, _≤_};
-ghost use lib.Dec.{ltb};
 ghost use lib.ListN.{length};
 ghost use Rattle.field.specs.Field.{width-good};
-ghost use Rattle.code.specs.Code.{symbols-good};
-ghost use Rattle.metric.specs.Row.{row-good};
 ghost use Rattle.sheet_writer.specs.Calls.{fits, parts-refusal, asked-refusal, list-refusal};
 ghost use Rattle.sheet_writer.specs.Steps.{words-needed};
-
-fn is_row_good(row: &[i16]) -> bool
-    ensures { λ r. ⌜ r ≡ row-good (now (row .entry)) ⌝ }
-{
-    let mut i = 0;
-    while i < row.len() {
-        if !metric::is_reliability(row[i]) {
-            return false;
-        }
-        i += 1;
-    }
-    true
-}
-
-fn is_symbol(size: u32, s: u8) -> bool
-    ensures { λ r. ⌜ r ≡ ltb s size ⌝ }
-{
-    (s as u32) < size
-}
-
-fn are_symbols_good(m: u32, word: &[u8]) -> bool
-    requires { ⌜ width-good m ≡ true ⌝ }
-    ensures { λ r. ⌜ r ≡ symbols-good m (now (word .entry)) ⌝ }
-{
-    let size = sheet::refusal::size_of(m);
-    let mut i = 0;
-    while i < word.len() {
-        if !is_symbol(size, word[i]) {
-            return false;
-        }
-        i += 1;
-    }
-    true
-}
 
 fn is_enough(after: usize, left: usize, needed: usize) -> bool
     ensures { λ r. ⌜ r ≡ fits after left needed ⌝ }
@@ -66,10 +29,10 @@ fn refused_parts(m: u32, after: usize, rows: &[i16], words: &[u8]) -> u32
     if !is_enough(after, words.len(), k) {
         return 3;
     }
-    if !is_row_good(&rows[..n]) {
+    if !metric::is_row(&rows[..n]) {
         return 5;
     }
-    if !are_symbols_good(m, &words[..k]) {
+    if !code::symbols_good(m, &words[..k]) {
         return 6;
     }
     0

@@ -4,11 +4,10 @@ use Rattle.glue.proofs.Walks.{tuple-in, within}
 use Rattle.trellis.specs.Trellis.{leastOf}
 use native.Mathlib.Numerals.{add-one}
 use Rattle.glue.specs.Walk.{tuple, total, least-total}
-use lib.ListN.{length, getD}
 use native.Mathlib.Omega.{arith}
-use Prim.Native.Nat.{ℕ, suc, _<_, _≤_, _-_, _+_, _*_, min}
+use Prim.Native.Nat.{ℕ, _<_, _≤_, _-_, _+_, min}
 use mathlib.Core.List.{List}
-use mathlib.Core.Path.{_≡_, sym, ap, ap₂, _∙_, subst, refl}
+use mathlib.Core.Path.{_≡_, sym, ap, ap₂, _∙_, refl}
 use Rattle.glue.proofs.least_of.Statement.{statement}
 use Rattle.glue.proofs.least_of.Tie as tie
 

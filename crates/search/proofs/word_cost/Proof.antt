@@ -2,11 +2,10 @@
 -- Assumes nothing.
 use Rattle.search.proofs.Sums.{Adding, adding-fits, adding-more, adding-end}
 use Rattle.search.specs.Search.{Own}
-use lib.ListN.{length, getD}
+use lib.ListN.{length}
 use native.Mathlib.Omega.{arith}
-use Prim.Native.Nat.{ℕ, suc, _<_, _≤_, _-_, _+_, _*_, _/_, _%_, _^_}
-use mathlib.Core.List.{List}
-use mathlib.Core.Path.{_≡_, sym, ap, ap₂, _∙_, subst, refl}
+use Prim.Native.Nat.{_≤_, _-_, _+_}
+use mathlib.Core.Path.{_≡_}
 use Rattle.search.proofs.word_cost.Statement.{statement}
 use Rattle.search.proofs.word_cost.Tie as tie
 
@@ -52,13 +51,15 @@ loop-less c = omega arith
 loop-again : tie.Need-loop-again Inv-loop μ-loop
 loop-again c = let s = c .before .before .before .before .before .before .before in
     let a = s .args in
-    let t = c .before .before .before .loop in
-    (omega arith, λ w.
-        let x = adding-more (a .top) (a .zs .now) (a .os .now) (a .word .now) w (t .i) (t .sum) (c .before .cost-at .result) (omega arith) (t .inv .1 w) (c .before .cost-at .ensures .0) (c .before .cost-at .ensures .1) in
-        let y = adding-more (a .top) (a .zs .now) (a .os .now) (a .word .now) w (t .i + 1) (t .sum + c .before .cost-at .result) (c .cost-at2 .result) (omega arith) x (c .cost-at2 .ensures .0) (c .cost-at2 .ensures .1) in
-        let e : t .i + 1 + 1 ≡ t .i + 2 = omega arith in
-        let f : t .sum + c .before .cost-at .result + c .cost-at2 .result ≡ t .sum + (c .before .cost-at .result + c .cost-at2 .result) = omega arith in
-        rw (e, f) at y)
+    let t = c .before .before .before .loop in (
+      omega arith,
+      λ w.
+          let x = adding-more (a .top) (a .zs .now) (a .os .now) (a .word .now) w (t .i) (t .sum) (c .before .cost-at .result) (omega arith) (t .inv .1 w) (c .before .cost-at .ensures .0) (c .before .cost-at .ensures .1) in
+          let y = adding-more (a .top) (a .zs .now) (a .os .now) (a .word .now) w (t .i + 1) (t .sum + c .before .cost-at .result) (c .cost-at2 .result) (omega arith) x (c .cost-at2 .ensures .0) (c .cost-at2 .ensures .1) in
+          let e : t .i + 1 + 1 ≡ t .i + 2 = omega arith in
+          let f : t .sum + c .before .cost-at .result + c .cost-at2 .result ≡ t .sum + (c .before .cost-at .result + c .cost-at2 .result) = omega arith in
+          rw (e, f) at y,
+    )
 
 cost-at-requires-3 : tie.Need-cost-at-requires-3 Inv-loop μ-loop
 cost-at-requires-3 c κs = (c .before .before .before .before .before .before .pre, omega arith)

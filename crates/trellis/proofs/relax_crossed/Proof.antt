@@ -2,9 +2,9 @@
 -- Assumes nothing.
 use native.Mathlib.Omega.{arith}
 use borrow.Author.Needs.{needs}
-use mathlib.Core.Path.{_≡_, refl, sym, ap, ap₂, _∙_}
+use mathlib.Core.Path.{_≡_, refl, ap, ap₂, _∙_}
 use mathlib.Core.List.{List}
-use Prim.Native.Nat.{ℕ, _+_, _-_, _*_, _%_, _≤_, _<_}
+use Prim.Native.Nat.{ℕ, _+_, _-_, _%_, _≤_}
 use Rattle.field.specs.Field.{xor}
 use Rattle.trellis.specs.Rows.{rows, two, twofold, sum, less, put-two, Relaxed}
 use Rattle.trellis.proofs.Neighbours.{crossed-now, crossed-next, next-in, lifted}

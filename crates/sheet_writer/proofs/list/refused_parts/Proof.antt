@@ -30,17 +30,17 @@ word-fits c =
 word-fits-now : (c : tie.Else2) → let s = c .before .before .before .before .before .before .before .args in fits (s .after) (length (now (s .words))) (long (s .m)) ≡ true
 word-fits-now c = sym (word-fits (c .before)) ∙ not-false (c .before .is-enough2 .result) (c .if2 .left)
 
-row-test : (c : tie.After-is-row-good) → let s = c .before .before .before .before .before .before .before .before .before .args in c .is-row-good .result ≡ row-good (take (row-long (s .m)) (now (s .rows)))
+row-test : (c : tie.After-is-row) → let s = c .before .before .before .before .before .before .before .before .before .args in c .is-row .result ≡ row-good (take (row-long (s .m)) (now (s .rows)))
 row-test c =
     let r = c .before .before .before .before .before .before .before in let s = r .before .before .args in
-    c .is-row-good .ensures ∙ ap (λ (n : ℕ). row-good (take n (now (s .rows)))) (r .row-long-of .ensures)
+    c .is-row .ensures ∙ ap (λ (n : ℕ). row-good (take n (now (s .rows)))) (r .row-long-of .ensures)
 
-last : (c : tie.After-are-symbols-good) → (t : Bool) → c .are-symbols-good .result ≡ t → let s = c .before .before .before .before .before .before .before .before .before .before .before .before .args in
+last : (c : tie.After-symbols-good) → (t : Bool) → c .symbols-good .result ≡ t → let s = c .before .before .before .before .before .before .before .before .before .before .before .before .args in
     parts-refusal (s .m) (s .after) (now (s .rows)) (now (s .words)) ≡ cond t 0 6
 last c t e =
     let g = c .before .before in let h = g .before in let o = h .before .before in let l = o .before .before .before .before in let s = l .before .before .before .args in
-    word-last (s .m) (s .after) (now (s .rows)) (now (s .words)) (row-fits-now (o .before .before)) (word-fits-now o) (sym (row-test h) ∙ not-false (h .is-row-good .result) (g .if3 .left))
-    ∙ ap (λ (x : Bool). cond x 0 6) (sym (c .are-symbols-good .ensures ∙ ap (λ (n : ℕ). symbols-good (s .m) (take n (now (s .words)))) (l .long-of .ensures)) ∙ e)
+    word-last (s .m) (s .after) (now (s .rows)) (now (s .words)) (row-fits-now (o .before .before)) (word-fits-now o) (sym (row-test h) ∙ not-false (h .is-row .result) (g .if3 .left))
+    ∙ ap (λ (x : Bool). cond x 0 6) (sym (c .symbols-good .ensures ∙ ap (λ (n : ℕ). symbols-good (s .m) (take n (now (s .words)))) (l .long-of .ensures)) ∙ e)
 
 row-long-of-requires : tie.Need-row-long-of-requires
 row-long-of-requires c κs = search needs
@@ -62,29 +62,29 @@ returns-2 : tie.Need-returns-2
 returns-2 c = let s = c .before .before .before .before .before .before .before .args in
     sym (word-misfit (s .m) (s .after) (now (s .rows)) (now (s .words)) (row-fits-now (c .before .before)) (sym (word-fits (c .before)) ∙ not-true (c .before .is-enough2 .result) (c .if2 .taken)))
 
-slice-aggregate-is-row-good : tie.Need-slice-aggregate-is-row-good
-slice-aggregate-is-row-good c = let o = c .before .before .before in let r = o .before .before .before in let s = r .before .before .args in
+slice-aggregate-is-row : tie.Need-slice-aggregate-is-row
+slice-aggregate-is-row c = let o = c .before .before .before in let r = o .before .before .before in let s = r .before .before .args in
     sym (length-take-le (r .row-long-of .result) (now (s .rows)) (subst (λ (n : ℕ). n ≤ length (now (s .rows))) (sym (r .row-long-of .ensures)) (enough (s .after) (length (now (s .rows))) (row-long (s .m)) (row-fits-now o))))
 
-is-row-good-requires : tie.Need-is-row-good-requires
-is-row-good-requires c κs = search needs
+is-row-requires : tie.Need-is-row-requires
+is-row-requires c κs = search needs
 
 returns-3 : tie.Need-returns-3
 returns-3 c = let h = c .before in let o = h .before .before in let s = o .before .before .before .before .before .before .before .args in
-    sym (row-bad (s .m) (s .after) (now (s .rows)) (now (s .words)) (row-fits-now (o .before .before)) (word-fits-now o) (sym (row-test h) ∙ not-true (h .is-row-good .result) (c .if3 .taken)))
+    sym (row-bad (s .m) (s .after) (now (s .rows)) (now (s .words)) (row-fits-now (o .before .before)) (word-fits-now o) (sym (row-test h) ∙ not-true (h .is-row .result) (c .if3 .taken)))
 
-slice-aggregate-are-symbols-good : tie.Need-slice-aggregate-are-symbols-good
-slice-aggregate-are-symbols-good c = let o = c .before .before .before .before in let l = o .before .before .before .before in let s = l .before .before .before .args in
+slice-aggregate-symbols-good : tie.Need-slice-aggregate-symbols-good
+slice-aggregate-symbols-good c = let o = c .before .before .before .before in let l = o .before .before .before .before in let s = l .before .before .before .args in
     sym (length-take-le (l .long-of .result) (now (s .words)) (subst (λ (n : ℕ). n ≤ length (now (s .words))) (sym (l .long-of .ensures)) (enough (s .after) (length (now (s .words))) (long (s .m)) (word-fits-now o))))
 
-are-symbols-good-requires : tie.Need-are-symbols-good-requires
-are-symbols-good-requires c κs = search needs
+symbols-good-requires : tie.Need-symbols-good-requires
+symbols-good-requires c κs = search needs
 
 returns-4 : tie.Need-returns-4
-returns-4 c = sym (last (c .before) false (not-true (c .before .are-symbols-good .result) (c .if4 .taken)))
+returns-4 c = sym (last (c .before) false (not-true (c .before .symbols-good .result) (c .if4 .taken)))
 
 returns-5 : tie.Need-returns-5
-returns-5 c = sym (last (c .before) true (not-false (c .before .are-symbols-good .result) (c .if4 .left)))
+returns-5 c = sym (last (c .before) true (not-false (c .before .symbols-good .result) (c .if4 .left)))
 
 pub refused-parts-spec : {M : Type 1} → statement M
 refused-parts-spec =
@@ -96,10 +96,10 @@ refused-parts-spec =
     returns
     is-enough-requires-2
     returns-2
-    slice-aggregate-is-row-good
-    is-row-good-requires
+    slice-aggregate-is-row
+    is-row-requires
     returns-3
-    slice-aggregate-are-symbols-good
-    are-symbols-good-requires
+    slice-aggregate-symbols-good
+    symbols-good-requires
     returns-4
     returns-5)
