@@ -106,7 +106,7 @@ fn with_mark(t: Tally, code: u32, words: &[u32], s: Sought, word: u32) -> Tally 
     let row = s.row;
     let levels = s.levels;
     let symbols = words::symbols(word);
-    let mark = decoder::judge_word(code, &row, &symbols);
+    let mark = marker::judge_word(code, &row, &symbols);
     let own = words::metric(&levels, word);
     let verdict = if is_listed(code, words, word) {
         if own == s.best { 2 } else { 1 }

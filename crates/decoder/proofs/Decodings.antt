@@ -1,26 +1,24 @@
 -- A decoding is right: from the least costs that the search found to metrics.
 -- Assumes nothing.
-use mathlib.Core.Path.{_≡_, refl, sym, ap, ap₂, _∙_, subst}
-use mathlib.Core.Bool.{Bool, true}
+use mathlib.Core.Path.{_≡_, sym, ap, ap₂, _∙_, subst}
 use mathlib.Core.List.{List}
-use Prim.Native.Nat.{ℕ, zero, suc, _+_, _-_, _*_, _/_, _%_, _^_, _≤_, _<_}
+use Prim.Native.Nat.{ℕ, _+_, _*_, _/_, _%_, _≤_, _<_}
 use native.Mathlib.Nat.{div-add-mod', mod-lt, div-lt-iff-lt-mul}
 use native.Mathlib.Omega.{arith}
 use lib.ListN.{length, getD}
 use lib.IntN.{ℤ, pos, _-ℤ_}
-use Rattle.field.specs.Field.{width-good}
 use Rattle.field.proofs.Tests.{widths}
-use Rattle.code.specs.Code.{code-good, width, roots, long, is-codeword}
+use Rattle.code.specs.Code.{width, roots, long}
 use Rattle.code.specs.Bits.{row-long}
-use Rattle.code.proofs.Promise.{codes}
 use Rattle.metric.specs.Metric.{Decoded}
-use Rattle.metric.specs.Cost.{weight-of, cost, top, Least, Least-with}
+use Rattle.metric.specs.Cost.{weight-of, top, Least-with}
 use Rattle.metric.proofs.Costs.{decoded}
 use Rattle.metric.proofs.Bounds.{weight-le, cost-le}
 use Rattle.trellis.specs.Rows.{folded}
-use Rattle.decoder.specs.Within.{big, Input, Best, Softs, SoftRows, Softened, soft-of}
-use Rattle.decoder.proofs.Tabling.{width-ok}
-use Rattle.decoder.proofs.Searching.{row-le}
+use Rattle.tables.specs.Within.{Input}
+use Rattle.decoder.specs.Within.{Best, Softs, SoftRows, Softened}
+use Rattle.tables.proofs.Tabling.{width-ok}
+use Rattle.tables.proofs.Searching.{row-le}
 
 module _ (c m r q n size count : ℕ) (row : List ℤ) (cs : List ℕ) (z : Input c m r q n size count row cs) where
   l : length row ≡ row-long (width c)

@@ -1,6 +1,6 @@
--- The calls' outcomes, from their refusals and from what the accepted paths give.
+-- The decoder's outcomes, from its refusal and from what the accepted paths give.
 -- Assumes nothing.
-use mathlib.Core.Path.{_≡_, refl, sym, ap, _∙_, subst}
+use mathlib.Core.Path.{_≡_, refl, sym, _∙_, subst}
 use mathlib.Core.Bool.{true}
 use mathlib.Core.List.{List}
 use Prim.Native.Nat.{ℕ}
@@ -8,15 +8,11 @@ use native.Mathlib.Omega.{arith}
 use lib.ListN.{length}
 use lib.IntN.{ℤ, pos}
 use Rattle.code.specs.Code.{code-good, width, roots}
-use Rattle.code.proofs.Promise.{codes}
 use Rattle.code.proofs.Outcomes.{outcome-done, outcome-refused}
-use Rattle.metric.specs.Metric.{Decoded, Marked}
-use Rattle.decoder.specs.Calls.{decode-refusal, Decode-says, mark-refusal, Mark-says}
+use Rattle.metric.specs.Metric.{Decoded}
+use Rattle.decoder.specs.Calls.{decode-refusal, Decode-says}
 use Rattle.decoder.specs.Within.{Accepted}
 use Rattle.decoder.proofs.Refusals.{decode-accepted}
-
-pub third : (c : ℕ) → code-good c ≡ true → (c ≡ 1 → ⊥) → (c ≡ 2 → ⊥) → c ≡ 3
-third = codes (λ c. (c ≡ 1 → ⊥) → (c ≡ 2 → ⊥) → c ≡ 3) (λ a b. absurd (a refl)) (λ a b. absurd (b refl)) (λ a b. refl)
 
 module _ (c : ℕ) (rs : List ℤ) (word : List ℕ) (soft : List ℤ) (r : ℕ) (e : r ≡ decode-refusal c rs (length word) (length soft)) where
   pub decode-refused : (r ≡ 0 → ⊥) → Decode-says c rs (record { number = r; metric = pos 0 }) word word soft soft

@@ -1,9 +1,9 @@
 -- Soft outputs as the program writes them: differences of costs in 16 signed bits, position by position.
 -- Assumes nothing.
-use mathlib.Core.Path.{_≡_, refl, sym, ap, ap₂, _∙_, subst}
-use mathlib.Core.Bool.{Bool, true, false}
-use mathlib.Core.List.{List, [], _∷_}
-use Prim.Native.Nat.{ℕ, zero, suc, _+_, _-_, _*_, _^_, _≤_, _<_}
+use mathlib.Core.Path.{_≡_, refl, ap₂, _∙_}
+use mathlib.Core.Bool.{true}
+use mathlib.Core.List.{List}
+use Prim.Native.Nat.{ℕ, zero, suc, _+_, _*_, _^_, _≤_, _<_}
 use native.Mathlib.Nat.{suc-mul, mul-le-mul-right}
 use native.Mathlib.Omega.{arith}
 use native.Mathlib.Decide.{decLe}
@@ -20,8 +20,9 @@ use Rattle.field.proofs.Tests.{widths}
 use Rattle.metric.specs.Cost.{costZero, costOne}
 use Rattle.metric.proofs.Integers as I
 use Rattle.trellis.specs.Rows.{folded, lane, lanes}
-use Rattle.trellis.proofs.Rows.{lanes-at, four}
-use Rattle.decoder.specs.Within.{big, soft-of, SoftRow, Written, SoftRows, Softened}
+use Rattle.trellis.proofs.Rows.{lanes-at}
+use Rattle.tables.specs.Within.{big}
+use Rattle.decoder.specs.Within.{soft-of, SoftRow, Written, SoftRows, Softened}
 
 -- a difference is no larger than its parts
 pub within : (a b k : ℕ) → a < k → b < k → mag (pos a -ℤ pos b) < k

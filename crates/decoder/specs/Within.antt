@@ -1,57 +1,18 @@
--- What the functions of the search ask of their buffers, and leave in them. A reader need not believe these definitions. Assumes nothing.
+-- What the decoder's functions ask of their buffers, and leave in them. A reader need not believe these definitions. Assumes nothing.
 use mathlib.Core.Path.{_≡_}
 use mathlib.Core.Bool.{true}
 use mathlib.Core.List.{List}
-use Prim.Native.Nat.{ℕ, _+_, _*_, _^_, _<_, _≤_}
+use Prim.Native.Nat.{ℕ, _+_, _*_, _<_, _≤_}
 use lib.ListN.{length, getD}
 use lib.IntN.{ℤ, pos, _-ℤ_}
 use Rattle.field.specs.Field.{width-good}
-use Rattle.code.specs.Code.{code-good, width, roots, long, is-codeword}
+use Rattle.code.specs.Code.{width, roots, long, is-codeword}
 use Rattle.code.specs.Bits.{row-long}
-use Rattle.split.specs.Split.{cosets}
-use Rattle.configurations.specs.Configurations.{configurations, listed}
-use Rattle.metric.specs.Row.{bound, row-good}
-use Rattle.trellis.specs.Rows.{entry, lane, Layers, Made, folded}
-use Rattle.glue.specs.Walk.{Marginals}
+use Rattle.metric.specs.Row.{row-good}
 use Rattle.metric.specs.Cost.{cost, Least, Least-with}
-use Rattle.search.specs.Search.{Spelt}
-
--- a reliability's greatest size, a number above every cost of a word, and one above twice that and a layer's cost
-abbrev pub top : ℕ
-top = 127
-
-abbrev pub big : ℕ
-big = 7621
-
-abbrev pub cap : ℕ
-cap = 17147
-
--- a code with its sizes, an accepted row of it, and its configurations
-pub record Input (code m r q n size count : ℕ) (row : List ℤ) (cs : List ℕ) : Type 0 where
-  pub code-is : code-good code ≡ true
-  pub m-is : m ≡ width code
-  pub r-is : r ≡ roots code
-  pub n-is : n ≡ long m
-  pub some : 0 < q
-  pub size-is : size ≡ 2 ^ q
-  pub cosets-is : size ≡ cosets m r
-  pub count-is : count ≡ configurations code
-  pub length-row : length row ≡ row-long m
-  pub good-row : row-good row ≡ true
-  pub listed-is : (i : ℕ) → i < count * 4 → getD cs i 0 ≡ getD (listed code) i 0
-  pub length-cs : length cs ≡ count * 4
-
--- buffers of the lengths that the search wants
-pub record Buffers (n size : ℕ) (zs os t : List ℕ) : Type 0 where
-  pub length-zs : length zs ≡ n * 4
-  pub length-os : length os ≡ n * 4
-  pub length-t : length t ≡ n * (size * 4) + size * 4
-
--- what the tables are made of, and the tables
-pub record Tabled (code q size : ℕ) (row : List ℤ) (hs zs os t : List ℕ) : Type 0 where
-  pub spelt : Spelt (width code) (roots code) row hs zs os
-  pub layers : Layers q size top hs zs os
-  pub made : Made size big hs zs os 0 t
+use Rattle.trellis.specs.Rows.{lane, folded}
+use Rattle.glue.specs.Walk.{Marginals}
+use Rattle.tables.specs.Within.{big, cap}
 
 -- what the walk and the trace leave: the least cost, a codeword that has it, and the least total with each syndrome in each layer
 pub record Best (code size count : ℕ) (row : List ℤ) (t cs g word : List ℕ) (least : ℕ) : Type 0 where
@@ -113,15 +74,3 @@ pub record Accepted (code : ℕ) (row : List ℤ) (word soft : ℕ) : Type 0 whe
   pub good-row : row-good row ≡ true
   pub long-word : word ≡ long (width code)
   pub long-soft : soft ≡ row-long (width code)
-
--- a word's cost is the least cost of a codeword and x
-pub record Short (code : ℕ) (row : List ℤ) (word : List ℕ) (x : ℕ) : Type 0 where
-  pub least : ℕ
-  pub is-least : Least (width code) (roots code) row least
-  pub own : cost (width code) row word ≡ least + x
-
--- an accepted row and a codeword
-pub record Judged (code : ℕ) (row : List ℤ) (word : List ℕ) : Type 0 where
-  pub long-row : length row ≡ row-long (width code)
-  pub good-row : row-good row ≡ true
-  pub codeword : is-codeword (width code) (roots code) word ≡ true

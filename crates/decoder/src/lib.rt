@@ -1,17 +1,16 @@
-// The decoder with its soft outputs, and the marker. `decode` and `judge_word` are offered to callers: they take any input and promise what
-// specs/Calls.antt says, in the words of the crate metric; how the search goes is no part of the promise.
+// The decoder with its soft outputs. `decode` is offered to callers: it takes any input and promises what specs/Calls.antt says, in the words of
+// the crate metric; how the search goes is no part of the promise.
 ghost use mathlib.Core.Path.{_≡_};
 ghost use Prim.Native.Nat.{_+_, _*_, _^_, _<_, _≤_};
 ghost use lib.ListN.{length};
-ghost use Rattle.decoder.specs.Calls.{decode-refusal, Decode-says, mark-refusal, Mark-says};
-ghost use Rattle.decoder.specs.Verdict.{Verdict};
-ghost use Rattle.decoder.specs.Within.{cap, Input, Buffers, Tabled, Best, Softs, All, big, SoftRow, Written, SoftRows, Softened, Outputs, Accepted, Short, Judged};
 ghost use lib.IntN.{pos, _-ℤ_};
-ghost use mathlib.Core.Bool.{true};
-ghost use Rattle.code.specs.Code.{code-good, width, roots, is-codeword};
+ghost use Rattle.code.specs.Code.{width, roots};
 ghost use Rattle.metric.specs.Metric.{Decoded};
 ghost use Rattle.glue.specs.Walk.{Marginals};
 ghost use Rattle.search.specs.Search.{Headed};
+ghost use Rattle.tables.specs.Within.{cap, big, Input, Buffers, Tabled};
+ghost use Rattle.decoder.specs.Calls.{decode-refusal, Decode-says};
+ghost use Rattle.decoder.specs.Within.{Best, Softs, All, SoftRow, Written, SoftRows, Softened, Outputs, Accepted};
 
 // 0 and the best metric, or the number of a refusal and 0.
 #[repr(C)]
@@ -20,53 +19,13 @@ pub struct Decoding {
     pub metric: i32,
 }
 
-// 0 with the verdict (0 none, 1 short, 2 best) and the shortfall, or the number of a refusal with 0 and 0.
-#[repr(C)]
-pub struct Mark {
-    pub number: u32,
-    pub verdict: u32,
-    pub shortfall: i32,
-}
-
-// A reliability's greatest size, a number above every cost of a word, and one above twice that and a layer's cost.
-const TOP: u16 = 127;
-
-const BIG: u16 = 60 * TOP + 1;
-
-const CAP: u16 = 2 * BIG + 15 * TOP;
-
-// The layers' tables of a row.
-fn tables(
-    code: u32,
-    m: u32,
-    r: u32,
-    q: u32,
-    n: usize,
-    size: usize,
-    count: usize,
-    row: &[i16],
-    cs: &[u16],
-    hs: &[u16],
-    zs: &mut [u16],
-    os: &mut [u16],
-    t: &mut [u16],
-)
-    requires { ⌜ Input code m r q n size count (now row) (now cs) ⌝ }
-    requires { ⌜ Headed m r (now hs) ⌝ }
-    requires { ⌜ Buffers n size (now zs) (now os) (now t) ⌝ }
-    ensures { λ _. ⌜ Tabled code q size (now (row .entry)) (now (hs .entry)) (now (zs .exit)) (now (os .exit)) (now (t .exit)) ⌝ }
-{
-    search::cost_rows(m, n, row, zs, os);
-    trellis::make_tables(t, q, size, hs, zs, os, TOP, BIG);
-}
-
-// Every entry is CAP.
+// Every entry is tables::CAP.
 fn clear(g: &mut [u16])
     ensures { λ _. ⌜ (length (now (g .exit)) ≡ length (now (g .entry))) × All cap (now (g .exit)) ⌝ }
 {
     let mut i = 0;
     while i < g.len() {
-        g[i] = CAP;
+        g[i] = tables::CAP;
         i += 1;
     }
 }
@@ -95,9 +54,9 @@ fn best_word(
     ensures { λ x. ⌜ Best code size count (now (row .entry)) (now (t .entry)) (now (cs .entry)) (now (g .exit)) (now (word .exit)) x ⌝ }
 {
     clear(g);
-    let least = glue::walk(t, size, cs, count, g, CAP);
+    let least = glue::walk(t, size, cs, count, g, tables::CAP);
     let at = least.at;
-    trellis::trace_word(t, q, size, hs, zs, os, TOP, BIG, at, word);
+    trellis::trace_word(t, q, size, hs, zs, os, tables::TOP, tables::BIG, at, word);
     least.total as u32
 }
 
@@ -127,7 +86,19 @@ fn soft_costs(
     ensures { λ _. ⌜ Softs code m n (now (row .entry)) (now (zero .exit)) (now (one .exit)) ⌝ }
 {
     glue::subtract(g, t);
-    trellis::soft_pass(t, q, size, hs, zs, os, TOP, BIG, CAP, zero, one);
+    trellis::soft_pass(
+        t,
+        q,
+        size,
+        hs,
+        zs,
+        os,
+        tables::TOP,
+        tables::BIG,
+        tables::CAP,
+        zero,
+        one,
+    );
 }
 
 // a less b.
@@ -201,7 +172,7 @@ fn decode_with(
     requires { ⌜ Outputs m n size (now g) (now zero) (now one) (now word) (now soft) ⌝ }
     ensures { λ x. ⌜ Decoded (width code) (roots code) (now (row .entry)) (now (word .exit)) x (now (soft .exit)) ⌝ }
 {
-    tables(code, m, r, q, n, size, count, row, cs, hs, zs, os, t);
+    tables::of_row(code, m, r, q, n, size, count, row, cs, hs, zs, os, t);
     let least = best_word(
         code,
         m,
@@ -261,19 +232,6 @@ fn decode_refusal(code: u32, row: &[i16], word: usize, soft: usize) -> u32
     if metric::is_row(row) { 0 } else { 5 }
 }
 
-// Buffers.
-fn zeros_256() -> [u16; 256]
-    ensures { λ r. ⌜ length r ≡ 256 ⌝ }
-{
-    [0u16; 256]
-}
-
-fn zeros_1024() -> [u16; 1024]
-    ensures { λ r. ⌜ length r ≡ 1024 ⌝ }
-{
-    [0u16; 1024]
-}
-
 // Each code with buffers of its own sizes: n + 1 tables of four layers, 2^q rows each.
 fn decode_1(row: &[i16], word: &mut [u8], soft: &mut [i16]) -> i32
     requires { ⌜ Accepted 1 (now row) (length (now word)) (length (now soft)) ⌝ }
@@ -285,7 +243,7 @@ fn decode_1(row: &[i16], word: &mut [u8], soft: &mut [i16]) -> i32
     let mut os = [0u16; 28];
     let mut zero = [0u16; 56];
     let mut one = [0u16; 56];
-    let mut t = zeros_256();
+    let mut t = [0u16; 256];
     let mut g = [0u16; 32];
     decode_with(
         1,
@@ -319,8 +277,8 @@ fn decode_2(row: &[i16], word: &mut [u8], soft: &mut [i16]) -> i32
     let mut os = [0u16; 28];
     let mut zero = [0u16; 56];
     let mut one = [0u16; 56];
-    let mut t = [BIG; 2048];
-    let mut g = zeros_256();
+    let mut t = [tables::BIG; 2048];
+    let mut g = [0u16; 256];
     decode_with(
         2,
         3,
@@ -353,7 +311,7 @@ fn decode_3(row: &[i16], word: &mut [u8], soft: &mut [i16]) -> i32
     let mut os = [0u16; 60];
     let mut zero = [0u16; 120];
     let mut one = [0u16; 120];
-    let mut t = zeros_1024();
+    let mut t = [0u16; 1024];
     let mut g = [0u16; 64];
     decode_with(
         3,
@@ -404,188 +362,4 @@ pub fn decode(code: u32, row: &[i16], word: &mut [u8], soft: &mut [i16]) -> Deco
         number: 0,
         metric: x,
     }
-}
-
-fn mark_refusal(code: u32, row: &[i16], word: &[u8]) -> u32
-    ensures { λ r. ⌜ r ≡ mark-refusal code (now (row .entry)) (now (word .entry)) ⌝ }
-{
-    if !code::is_code(code) {
-        return 1;
-    }
-    let m = code::width_of(code);
-    if row.len() != code::row_long_of(m) {
-        return 2;
-    }
-    if word.len() != code::long_of(m) {
-        return 3;
-    }
-    if !metric::is_row(row) {
-        return 5;
-    }
-    if code::symbols_good(m, word) { 0 } else { 6 }
-}
-
-// What a codeword costs more than the least, with every buffer lent. It needs no marginals.
-fn excess_with(
-    code: u32,
-    m: u32,
-    r: u32,
-    q: u32,
-    n: usize,
-    size: usize,
-    count: usize,
-    row: &[i16],
-    cs: &[u16],
-    hs: &[u16],
-    zs: &mut [u16],
-    os: &mut [u16],
-    t: &mut [u16],
-    word: &[u8],
-) -> u32
-    requires { ⌜ Input code m r q n size count (now row) (now cs) ⌝ }
-    requires { ⌜ Headed m r (now hs) ⌝ }
-    requires { ⌜ Buffers n size (now zs) (now os) (now t) ⌝ }
-    requires { ⌜ is-codeword (width code) (roots code) (now word) ≡ true ⌝ }
-    ensures { λ x. ⌜ Short code (now (row .entry)) (now (word .entry)) x ⌝ }
-{
-    tables(code, m, r, q, n, size, count, row, cs, hs, zs, os, t);
-    let least = glue::least_of(t, size, cs, count, CAP);
-    let own = search::word_cost(TOP, zs, os, word);
-    own - (least as u32)
-}
-
-fn excess_1(row: &[i16], word: &[u8]) -> u32
-    requires { ⌜ Judged 1 (now row) (now word) ⌝ }
-    ensures { λ x. ⌜ Short 1 (now (row .entry)) (now (word .entry)) x ⌝ }
-{
-    let all = configurations::all_of_code_1();
-    let hs = search::columns_of_code_1();
-    let mut zs = [0u16; 28];
-    let mut os = [0u16; 28];
-    let mut t = zeros_256();
-    excess_with(
-        1,
-        3,
-        2,
-        3,
-        7,
-        8,
-        8,
-        row,
-        &all,
-        &hs,
-        &mut zs,
-        &mut os,
-        &mut t,
-        word,
-    )
-}
-
-fn excess_2(row: &[i16], word: &[u8]) -> u32
-    requires { ⌜ Judged 2 (now row) (now word) ⌝ }
-    ensures { λ x. ⌜ Short 2 (now (row .entry)) (now (word .entry)) x ⌝ }
-{
-    let all = configurations::all_of_code_2();
-    let hs = search::columns_of_code_2();
-    let mut zs = [0u16; 28];
-    let mut os = [0u16; 28];
-    let mut t = [BIG; 2048];
-    excess_with(
-        2,
-        3,
-        4,
-        6,
-        7,
-        64,
-        64,
-        row,
-        &all,
-        &hs,
-        &mut zs,
-        &mut os,
-        &mut t,
-        word,
-    )
-}
-
-fn excess_3(row: &[i16], word: &[u8]) -> u32
-    requires { ⌜ Judged 3 (now row) (now word) ⌝ }
-    ensures { λ x. ⌜ Short 3 (now (row .entry)) (now (word .entry)) x ⌝ }
-{
-    let all = configurations::all_of_code_3();
-    let hs = search::columns_of_code_3();
-    let mut zs = [0u16; 60];
-    let mut os = [0u16; 60];
-    let mut t = zeros_1024();
-    excess_with(
-        3,
-        4,
-        2,
-        4,
-        15,
-        16,
-        256,
-        row,
-        &all,
-        &hs,
-        &mut zs,
-        &mut os,
-        &mut t,
-        word,
-    )
-}
-
-fn excess(code: u32, row: &[i16], word: &[u8]) -> u32
-    requires { ⌜ code-good code ≡ true ⌝ }
-    requires { ⌜ Judged code (now row) (now word) ⌝ }
-    ensures { λ x. ⌜ Short code (now (row .entry)) (now (word .entry)) x ⌝ }
-{
-    if code == 1 {
-        return excess_1(row, word);
-    }
-    if code == 2 {
-        return excess_2(row, word);
-    }
-    excess_3(row, word)
-}
-
-// The verdict on a codeword, from what it costs more than the least.
-fn verdict_on(x: u32) -> Mark
-    requires { ⌜ x < 2 ^ 30 ⌝ }
-    ensures { λ r. ⌜ Verdict x r ⌝ }
-{
-    if x == 0 {
-        return Mark {
-            number: 0,
-            verdict: 2,
-            shortfall: 0,
-        };
-    }
-    Mark {
-        number: 0,
-        verdict: 1,
-        shortfall: minus(2 * x, 0),
-    }
-}
-
-// The marker: none, short by exactly what is lacking, or best.
-pub fn judge_word(code: u32, row: &[i16], word: &[u8]) -> Mark
-    ensures { λ r. ⌜ Mark-says code (now (row .entry)) (now (word .entry)) r ⌝ }
-{
-    let number = mark_refusal(code, row, word);
-    if number != 0 {
-        return Mark {
-            number,
-            verdict: 0,
-            shortfall: 0,
-        };
-    }
-    if !code::is_codeword(code::width_of(code), code::roots_of(code), word) {
-        return Mark {
-            number: 0,
-            verdict: 0,
-            shortfall: 0,
-        };
-    }
-    verdict_on(excess(code, row, word))
 }

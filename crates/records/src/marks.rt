@@ -65,6 +65,6 @@ fn words_and_values_refused() -> Tally {
 }
 
 fn gives(code: u32, row: &[i16], word: &[u8], number: u32, verdict: u32, shortfall: i32) -> bool {
-    let m = decoder::judge_word(code, row, word);
+    let m = marker::judge_word(code, row, word);
     m.number == number && m.verdict == verdict && m.shortfall == shortfall
 }

@@ -13,8 +13,9 @@ use Rattle.code.specs.Bits.{row-long}
 use Rattle.code.specs.Calls.{Outcome}
 use Rattle.metric.specs.Metric.{Marked}
 use Rattle.decoder.specs.declared.Decoding.{Decoding}
-use Rattle.decoder.specs.declared.Mark.{Mark}
-use Rattle.decoder.specs.Calls.{decode-refusal, Decode-says, mark-refusal, Mark-says}
+use Rattle.marker.specs.declared.Mark.{Mark}
+use Rattle.decoder.specs.Calls.{decode-refusal, Decode-says}
+use Rattle.marker.specs.Calls.{mark-refusal, Mark-says}
 use Rattle.sheet.specs.Sheet.{question-good}
 use Rattle.sheet.proofs.Trips.{good-parts}
 use Rattle.text.specs.Text.{question-line}

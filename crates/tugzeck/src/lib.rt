@@ -4,14 +4,15 @@
 // Nothing here covers what a caller hands over: pointers valid for their lengths, and outputs that overlap nothing.
 use code::Membership;
 use decoder::Decoding;
-use decoder::Mark;
+use marker::Mark;
 use report::Listed;
 use sheet_reader::Yield;
 use split::Splitting;
 ghost use mathlib.Core.Path.{_≡_};
 ghost use Rattle.code.specs.Calls.{Encode-says, Read-says, checked, number-of};
 ghost use Rattle.split.specs.Calls.{Split-says};
-ghost use Rattle.decoder.specs.Calls.{Decode-says, Mark-says};
+ghost use Rattle.decoder.specs.Calls.{Decode-says};
+ghost use Rattle.marker.specs.Calls.{Mark-says};
 ghost use Rattle.quantiser.specs.Calls.{Quantise-says};
 ghost use Rattle.sheet_writer.specs.Calls.{Write-says};
 ghost use Rattle.report.specs.Calls.{List-says};
@@ -97,7 +98,7 @@ pub extern "C" fn tugzeck_decode(
 pub extern "C" fn tugzeck_mark(code: u32, row: &[i16], word: &[u8]) -> Mark
     ensures { λ r. ⌜ Mark-says code (now (row .entry)) (now (word .entry)) r ⌝ }
 {
-    decoder::judge_word(code, row, word)
+    marker::judge_word(code, row, word)
 }
 
 // Turns the n·m samples of a row into reliabilities. Answers 0, or refuses by 1, 2, 4 or 7 and writes nothing.

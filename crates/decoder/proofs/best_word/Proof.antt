@@ -1,11 +1,9 @@
 -- `decoder::best_word` meets its contract.
 -- Assumes nothing.
-use Rattle.decoder.proofs.Searching.{tuples-ok, trace-ok, best-ok}
-use lib.ListN.{length, getD}
+use Rattle.tables.proofs.Searching.{tuples-ok}
+use Rattle.decoder.proofs.Finding.{trace-ok, best-ok}
 use native.Mathlib.Omega.{arith}
-use Prim.Native.Nat.{ℕ, suc, _<_, _≤_, _-_, _+_, _*_, _^_}
-use mathlib.Core.List.{List}
-use mathlib.Core.Path.{_≡_, sym, ap, ap₂, _∙_, subst, refl}
+use mathlib.Core.Path.{_∙_}
 use borrow.Author.Needs.{needs}
 use Rattle.decoder.proofs.best_word.Statement.{statement}
 use Rattle.decoder.proofs.best_word.Tie as tie

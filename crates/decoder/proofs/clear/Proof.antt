@@ -1,13 +1,12 @@
 -- `decoder::clear` meets its contract.
 -- Assumes nothing.
-use Rattle.decoder.proofs.Searching.{set-all}
-use Rattle.decoder.specs.Within.{cap}
+use Rattle.decoder.proofs.Finding.{set-all}
+use Rattle.tables.specs.Within.{cap}
 use lib.ListN.{length-set}
 use lib.ListN.{length, getD}
 use native.Mathlib.Omega.{arith}
-use Prim.Native.Nat.{ℕ, suc, _<_, _≤_, _-_, _+_, _*_, _^_}
-use mathlib.Core.List.{List}
-use mathlib.Core.Path.{_≡_, sym, ap, ap₂, _∙_, subst, refl}
+use Prim.Native.Nat.{ℕ, _<_, _-_}
+use mathlib.Core.Path.{_≡_, _∙_, refl}
 use Rattle.decoder.proofs.clear.Statement.{statement}
 use Rattle.decoder.proofs.clear.Tie as tie
 

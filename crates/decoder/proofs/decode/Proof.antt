@@ -1,8 +1,8 @@
 -- `decoder::decode` meets its contract.
 -- Assumes nothing.
-use Rattle.decoder.proofs.Joins.{decode-refused, good-code, accepted, decode-done, third}
+use Rattle.tables.proofs.Inputs.{third}
+use Rattle.decoder.proofs.Joins.{decode-refused, good-code, accepted, decode-done}
 use mir.Facts.{toZ-ofZ}
-use mathlib.Core.Path.{_≡_, sym, ap, ap₂, _∙_, subst, refl}
 use borrow.Author.Needs.{needs}
 use Rattle.decoder.proofs.decode.Statement.{statement}
 use Rattle.decoder.proofs.decode.Tie as tie

@@ -7,11 +7,8 @@ use Rattle.code.specs.Bits.{row-long}
 use Rattle.code.specs.Code.{long}
 use borrow.Author.Tests.{not-true, not-false}
 use mathlib.Core.Bool.{true, false}
-use lib.ListN.{length, getD, drop}
 use native.Mathlib.Omega.{arith}
-use Prim.Native.Nat.{ℕ, suc, _<_, _≤_, _-_, _+_, _*_, _/_, _%_, _^_}
-use mathlib.Core.List.{List}
-use mathlib.Core.Path.{_≡_, sym, ap, ap₂, _∙_, subst, refl}
+use mathlib.Core.Path.{sym, ap, _∙_}
 use borrow.Author.Needs.{needs}
 use Rattle.decoder.proofs.decode_refusal.Statement.{statement}
 use Rattle.decoder.proofs.decode_refusal.Tie as tie

@@ -1,11 +1,7 @@
 -- `decoder::soft_costs` meets its contract.
 -- Assumes nothing.
-use Rattle.decoder.proofs.Searching.{subtract-ok, pass-ok, softs-ok}
-use lib.ListN.{length, getD}
+use Rattle.decoder.proofs.Finding.{subtract-ok, pass-ok, softs-ok}
 use native.Mathlib.Omega.{arith}
-use Prim.Native.Nat.{ℕ, suc, _<_, _≤_, _-_, _+_, _*_, _^_}
-use mathlib.Core.List.{List}
-use mathlib.Core.Path.{_≡_, sym, ap, ap₂, _∙_, subst, refl}
 use borrow.Author.Needs.{needs}
 use Rattle.decoder.proofs.soft_costs.Statement.{statement}
 use Rattle.decoder.proofs.soft_costs.Tie as tie

@@ -2,11 +2,8 @@
 -- Assumes nothing.
 use Rattle.decoder.proofs.Writing.{soft-fits, minus-fits}
 use mir.Facts.{toZ-ofZ}
-use lib.ListN.{length, getD}
 use native.Mathlib.Omega.{arith}
-use Prim.Native.Nat.{ℕ, suc, _<_, _≤_, _-_, _+_, _*_, _/_, _%_, _^_}
-use mathlib.Core.List.{List}
-use mathlib.Core.Path.{_≡_, sym, ap, ap₂, _∙_, subst, refl}
+use Prim.Native.Nat.{_*_}
 use borrow.Author.Needs.{needs}
 use Rattle.decoder.proofs.soft_from.Statement.{statement}
 use Rattle.decoder.proofs.soft_from.Tie as tie

@@ -3,11 +3,9 @@
 use Rattle.decoder.proofs.Writing.{at-least, not-four, written-is, width-3, width-4}
 use lib.IntN.{pos}
 use lib.ListN.{length-set}
-use lib.ListN.{length, getD}
 use native.Mathlib.Omega.{arith}
-use Prim.Native.Nat.{ℕ, suc, _<_, _≤_, _-_, _+_, _*_, _/_, _%_, _^_}
-use mathlib.Core.List.{List}
-use mathlib.Core.Path.{_≡_, sym, ap, ap₂, _∙_, subst, refl}
+use Prim.Native.Nat.{_≤_}
+use mathlib.Core.Path.{_≡_, refl}
 use borrow.Author.Needs.{needs}
 use Rattle.decoder.proofs.soft_row.Statement.{statement}
 use Rattle.decoder.proofs.soft_row.Tie as tie

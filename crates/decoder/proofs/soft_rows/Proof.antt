@@ -2,11 +2,9 @@
 -- Assumes nothing.
 use Rattle.decoder.proofs.Writing.{row-ok, rows-more, next}
 use Rattle.decoder.specs.Within.{Softened}
-use lib.ListN.{length, getD}
 use native.Mathlib.Omega.{arith}
-use Prim.Native.Nat.{ℕ, suc, _<_, _≤_, _-_, _+_, _*_, _/_, _%_, _^_}
-use mathlib.Core.List.{List}
-use mathlib.Core.Path.{_≡_, sym, ap, ap₂, _∙_, subst, refl}
+use Prim.Native.Nat.{_<_, _≤_, _-_, _*_}
+use mathlib.Core.Path.{_≡_, refl}
 use Rattle.decoder.proofs.soft_rows.Statement.{statement}
 use Rattle.decoder.proofs.soft_rows.Tie as tie
 

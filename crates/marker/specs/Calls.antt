@@ -1,0 +1,26 @@
+-- What the marker answers, for every input. Refusals in document 01's order: code 1; lengths 2, 3; contents 5 before 6.
+-- Assumes nothing: these are definitions.
+use mathlib.Core.Path.{_≡_}
+use mathlib.Core.Bool.{not, cond}
+use mathlib.Core.List.{List}
+use Prim.Native.Nat.{ℕ}
+use lib.Dec.{eqb}
+use lib.ListN.{length}
+use lib.IntN.{ℤ, pos}
+use Rattle.code.specs.Code.{code-good, width, roots, long, symbols-good}
+use Rattle.code.specs.Bits.{row-long}
+use Rattle.code.specs.Calls.{Outcome}
+use Rattle.metric.specs.Row.{row-good}
+use Rattle.metric.specs.Metric.{Marked}
+use Rattle.marker.specs.declared.Mark.{Mark}
+
+unfoldable pub mark-refusal : (code : ℕ) → (row : List ℤ) → (word : List ℕ) → ℕ
+mark-refusal c rs ws =
+    cond (not (code-good c)) 1
+    (cond (not (eqb (length rs) (row-long (width c)))) 2
+    (cond (not (eqb (length ws) (long (width c)))) 3 (cond (not (row-good rs)) 5 (cond (symbols-good (width c) ws) 0 6))))
+
+-- none, short by exactly what is lacking, or best; refused, the verdict and the shortfall are 0
+unfoldable pub Mark-says : (code : ℕ) → (row : List ℤ) → (word : List ℕ) → Mark → Type 0
+Mark-says c rs ws r =
+    Outcome (mark-refusal c rs ws) (r .number) (Marked (r .verdict) (r .shortfall) (width c) (roots c) rs ws) ((r .verdict ≡ 0) × (r .shortfall ≡ pos 0))

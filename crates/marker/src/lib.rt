@@ -1,0 +1,203 @@
+// The marker. `judge_word` is offered to callers: it takes any input and promises what specs/Calls.antt says, in the words of the crate metric; how
+// the search goes is no part of the promise.
+ghost use mathlib.Core.Path.{_≡_};
+ghost use mathlib.Core.Bool.{true};
+ghost use Prim.Native.Nat.{_^_, _<_};
+ghost use Rattle.code.specs.Code.{code-good, width, roots, is-codeword};
+ghost use Rattle.search.specs.Search.{Headed};
+ghost use Rattle.tables.specs.Within.{Input, Buffers};
+ghost use Rattle.marker.specs.Calls.{mark-refusal, Mark-says};
+ghost use Rattle.marker.specs.Verdict.{Verdict};
+ghost use Rattle.marker.specs.Within.{Short, Judged};
+
+// 0 with the verdict (0 none, 1 short, 2 best) and the shortfall, or the number of a refusal with 0 and 0.
+#[repr(C)]
+pub struct Mark {
+    pub number: u32,
+    pub verdict: u32,
+    pub shortfall: i32,
+}
+
+fn mark_refusal(code: u32, row: &[i16], word: &[u8]) -> u32
+    ensures { λ r. ⌜ r ≡ mark-refusal code (now (row .entry)) (now (word .entry)) ⌝ }
+{
+    if !code::is_code(code) {
+        return 1;
+    }
+    let m = code::width_of(code);
+    if row.len() != code::row_long_of(m) {
+        return 2;
+    }
+    if word.len() != code::long_of(m) {
+        return 3;
+    }
+    if !metric::is_row(row) {
+        return 5;
+    }
+    if code::symbols_good(m, word) { 0 } else { 6 }
+}
+
+// What a codeword costs more than the least, with every buffer lent. It needs no marginals.
+fn excess_with(
+    code: u32,
+    m: u32,
+    r: u32,
+    q: u32,
+    n: usize,
+    size: usize,
+    count: usize,
+    row: &[i16],
+    cs: &[u16],
+    hs: &[u16],
+    zs: &mut [u16],
+    os: &mut [u16],
+    t: &mut [u16],
+    word: &[u8],
+) -> u32
+    requires { ⌜ Input code m r q n size count (now row) (now cs) ⌝ }
+    requires { ⌜ Headed m r (now hs) ⌝ }
+    requires { ⌜ Buffers n size (now zs) (now os) (now t) ⌝ }
+    requires { ⌜ is-codeword (width code) (roots code) (now word) ≡ true ⌝ }
+    ensures { λ x. ⌜ Short code (now (row .entry)) (now (word .entry)) x ⌝ }
+{
+    tables::of_row(code, m, r, q, n, size, count, row, cs, hs, zs, os, t);
+    let least = glue::least_of(t, size, cs, count, tables::CAP);
+    let own = search::word_cost(tables::TOP, zs, os, word);
+    own - (least as u32)
+}
+
+fn excess_1(row: &[i16], word: &[u8]) -> u32
+    requires { ⌜ Judged 1 (now row) (now word) ⌝ }
+    ensures { λ x. ⌜ Short 1 (now (row .entry)) (now (word .entry)) x ⌝ }
+{
+    let all = configurations::all_of_code_1();
+    let hs = search::columns_of_code_1();
+    let mut zs = [0u16; 28];
+    let mut os = [0u16; 28];
+    let mut t = [0u16; 256];
+    excess_with(
+        1,
+        3,
+        2,
+        3,
+        7,
+        8,
+        8,
+        row,
+        &all,
+        &hs,
+        &mut zs,
+        &mut os,
+        &mut t,
+        word,
+    )
+}
+
+fn excess_2(row: &[i16], word: &[u8]) -> u32
+    requires { ⌜ Judged 2 (now row) (now word) ⌝ }
+    ensures { λ x. ⌜ Short 2 (now (row .entry)) (now (word .entry)) x ⌝ }
+{
+    let all = configurations::all_of_code_2();
+    let hs = search::columns_of_code_2();
+    let mut zs = [0u16; 28];
+    let mut os = [0u16; 28];
+    let mut t = [tables::BIG; 2048];
+    excess_with(
+        2,
+        3,
+        4,
+        6,
+        7,
+        64,
+        64,
+        row,
+        &all,
+        &hs,
+        &mut zs,
+        &mut os,
+        &mut t,
+        word,
+    )
+}
+
+fn excess_3(row: &[i16], word: &[u8]) -> u32
+    requires { ⌜ Judged 3 (now row) (now word) ⌝ }
+    ensures { λ x. ⌜ Short 3 (now (row .entry)) (now (word .entry)) x ⌝ }
+{
+    let all = configurations::all_of_code_3();
+    let hs = search::columns_of_code_3();
+    let mut zs = [0u16; 60];
+    let mut os = [0u16; 60];
+    let mut t = [0u16; 1024];
+    excess_with(
+        3,
+        4,
+        2,
+        4,
+        15,
+        16,
+        256,
+        row,
+        &all,
+        &hs,
+        &mut zs,
+        &mut os,
+        &mut t,
+        word,
+    )
+}
+
+fn excess(code: u32, row: &[i16], word: &[u8]) -> u32
+    requires { ⌜ code-good code ≡ true ⌝ }
+    requires { ⌜ Judged code (now row) (now word) ⌝ }
+    ensures { λ x. ⌜ Short code (now (row .entry)) (now (word .entry)) x ⌝ }
+{
+    if code == 1 {
+        return excess_1(row, word);
+    }
+    if code == 2 {
+        return excess_2(row, word);
+    }
+    excess_3(row, word)
+}
+
+// The verdict on a codeword, from what it costs more than the least.
+fn verdict_on(x: u32) -> Mark
+    requires { ⌜ x < 2 ^ 30 ⌝ }
+    ensures { λ r. ⌜ Verdict x r ⌝ }
+{
+    if x == 0 {
+        return Mark {
+            number: 0,
+            verdict: 2,
+            shortfall: 0,
+        };
+    }
+    Mark {
+        number: 0,
+        verdict: 1,
+        shortfall: (2 * x) as i32,
+    }
+}
+
+// The marker: none, short by exactly what is lacking, or best.
+pub fn judge_word(code: u32, row: &[i16], word: &[u8]) -> Mark
+    ensures { λ r. ⌜ Mark-says code (now (row .entry)) (now (word .entry)) r ⌝ }
+{
+    let number = mark_refusal(code, row, word);
+    if number != 0 {
+        return Mark {
+            number,
+            verdict: 0,
+            shortfall: 0,
+        };
+    }
+    if !code::is_codeword(code::width_of(code), code::roots_of(code), word) {
+        return Mark {
+            number: 0,
+            verdict: 0,
+            shortfall: 0,
+        };
+    }
+    verdict_on(excess(code, row, word))
+}
