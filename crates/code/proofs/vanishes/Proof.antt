@@ -20,7 +20,8 @@ loop-holds c = let a = c .before .before .before .args in let n : a .r ≡ a .r 
     (search needs, search needs, ap (λ k. vanishes k 1 (a .m) (a .word .now)) n)
 
 value-requires : tie.Need-value-requires Inv-loop μ-loop
-value-requires c κs = search needs
+value-requires c κs = let p = c .before .before .before .before .before .pre in
+    (p .0, record { width = p .1 .width; count = p .1 .count; symbols = p .1 .symbols; few = omega (arith, p .1 .few) })
 
 returns : tie.Need-returns Inv-loop μ-loop
 returns c = let s = c .before .before .before in let b = s .before .before .before .before in let a = b .args in

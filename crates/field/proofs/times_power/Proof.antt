@@ -35,7 +35,7 @@ sub-k c = search needs
 
 shared-slice-read-result-2 : tie.Need-shared-slice-read-result-2
 shared-slice-read-result-2 c = let b = c .before .before .before .before in
-    turn-off (b .pre .0) (b .args .a) (b .args .t) (search needs) (b .pre .1)
+    omega (arith, turn-off (b .pre .0) (b .args .a) (b .args .t) (search needs) (b .pre .1))
 
 returns-3 : tie.Need-returns-3
 returns-3 c = let b = c .before .before .before .before in
