@@ -2,28 +2,22 @@
 -- Assumes nothing.
 use mathlib.Core.Path.{_≡_, refl, sym, ap, ap₂, _∙_}
 use mathlib.Core.Bool.{true, false}
-use mathlib.Core.List.{List, [], _∷_, _++_, append-nil}
-use Prim.Native.Nat.{ℕ, zero, suc, _+_, _-_, _*_, _^_, _<_, _≤_}
-use native.Mathlib.Nat.{not-suc-le-zero, le-of-suc-le-suc, suc-mul}
+use mathlib.Core.List.{List, _++_, append-nil}
+use Prim.Native.Nat.{ℕ, suc, _+_, _-_, _*_, _^_, _<_, _≤_}
+use native.Mathlib.Nat.{le-refl, suc-mul}
 use native.Mathlib.Numerals.{add-one}
 use native.Mathlib.Omega.{arith}
 use lib.Dec.{lit≤}
 use lib.ListN.{length, getD, set, take, drop, drop-of-length-le}
-use lib.Seq.{take-suc, take-all, drop-cons, append-snoc, set-at, length-take-le}
+use lib.Seq.{take-suc, take-all, drop-cons, drop-length, append-snoc, set-at, length-take-le}
 use borrow.Author.Tests.{lt-ltb, le-ltb, eq-eqb, ne-eqb}
 use Rattle.field.specs.Field.{xor, times, alpha, width-good}
 use Rattle.field.proofs.Tests.{to-T, widths}
 use Rattle.field.proofs.Xor as X
+use Rattle.field.proofs.Field as F
 use Rattle.code.specs.Code.{long, symbols-good, value-from, value-at, vanishes, is-codeword}
-use Rattle.code.proofs.Words.{Below, below}
-
-below-at : (n : ℕ) (ws : List ℕ) → Below n ws → (i : ℕ) → i < length ws → getD ws i 0 < n
-below-at n [] b i h = absurd (not-suc-le-zero h)
-below-at n (c ∷ cs) b zero h = b .0
-below-at n (c ∷ cs) b (suc i) h = below-at n cs (b .1) i (le-of-suc-le-suc h)
-
-pub good-at : (m : ℕ) (ws : List ℕ) → symbols-good m ws ≡ true → (i : ℕ) → i < length ws → getD ws i 0 < 2 ^ m
-good-at m ws g i h = below-at (2 ^ m) ws (below m ws (to-T g)) i h
+use Rattle.code.specs.Within.{Word-within}
+use Rattle.code.proofs.Words.{below, horner, horner-inside, value-horner}
 
 module _ (m : ℕ) (ws : List ℕ) (i : ℕ) (h : i < length ws) where
   pub symbol-good : getD ws i 0 < 2 ^ m → symbols-good m (drop i ws) ≡ symbols-good m (drop (i + 1) ws)
@@ -45,6 +39,40 @@ symbols-none m ws i h = rw (drop-of-length-le ws h) refl
 pub value-none : (m t : ℕ) (ws : List ℕ) (i v : ℕ) → length ws ≤ i → xor v (value-from m t i (drop i ws)) ≡ v
 unfolding value-from
 value-none m t ws i v h = rw (drop-of-length-le ws h) (X.zero-r v)
+
+-- Horner's rule from the top symbol down: v is the value at α^t of what stands from place i on
+pub record Valued (m t : ℕ) (ws : List ℕ) (v i : ℕ) : Type 0 where
+  pub few : i ≤ length ws
+  pub so-far : v ≡ horner m (alpha m t) (drop i ws)
+
+pub value-start : (m t : ℕ) (ws : List ℕ) → Valued m t ws 0 (length ws)
+unfolding horner
+value-start m t ws = record { few = le-refl (length ws); so-far = rw (drop-length ws) refl }
+
+module _ {m t : ℕ} {ws : List ℕ} {v i : ℕ} (given : Word-within m t ws) (s : Valued m t ws v i) where
+  hx : alpha m t < 2 ^ m
+  hx = F.alpha-lt m (given .width) t
+
+  pub value-inside : v < 2 ^ m
+  value-inside = horner-inside m (given .width) (alpha m t) ws i v hx (given .symbols) (s .so-far)
+
+  pub value-turn : (j : ℕ) → i ≡ suc j → Valued m t ws (xor (getD ws j 0) (times m v (alpha m t))) j
+  unfolding horner
+  value-turn j q =
+      let x : ℕ = alpha m t in
+      let h : j < length ws = omega (arith, s .few) in
+      record {
+        few = omega (arith, s .few);
+        so-far =
+            ap (xor (getD ws j 0))
+            (F.times-comm m (given .width) v x value-inside hx ∙ ap (times m x) (s .so-far ∙ ap (λ (k : ℕ). horner m x (drop k ws)) q))
+            ∙ ap (horner m x) (sym (drop-cons ws j 0 h));
+      }
+
+  pub value-end : i ≤ 0 → v ≡ value-at m t ws
+  value-end h =
+      let z : i ≡ 0 = omega arith in
+      s .so-far ∙ ap (λ (k : ℕ). horner m (alpha m t) (drop k ws)) z ∙ sym (value-horner m (given .width) t ws (below m ws (to-T (given .symbols))))
 
 pub long-small : (m : ℕ) → width-good m ≡ true → long m ≤ 15
 unfolding long
@@ -71,9 +99,9 @@ unfolding vanishes
 roots-none m r t ws h = let n : r + 1 - t ≡ 0 = omega arith in rw n refl
 
 -- for a word of n symbols the roots decide
-pub roots-decide : (m r : ℕ) (ws : List ℕ) → length ws ≡ long m → symbols-good m ws ≡ true → is-codeword m r ws ≡ vanishes r 1 m ws
+pub roots-decide : {m r : ℕ} {ws : List ℕ} → Word-within m r ws → vanishes r 1 m ws ≡ is-codeword m r ws
 unfolding is-codeword
-roots-decide m r ws n g = rw (eq-eqb _ _ n, g) refl
+roots-decide given = rw (eq-eqb _ _ (given .count), given .symbols) refl
 
 -- a copy
 pub copy-step : (from to : List ℕ) (i : ℕ) → i < length from → i < length to →

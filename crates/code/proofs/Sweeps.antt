@@ -16,7 +16,7 @@ use Rattle.field.proofs.Xor as X
 use Rattle.field.proofs.Field as F
 use Rattle.code.specs.Code.{symbols-good}
 use Rattle.code.specs.Division.{horner, tails, product, spread}
-use Rattle.code.proofs.Words.{Below, below, drop-below, horner-lt}
+use Rattle.code.proofs.Words.{Below, below, drop-below, horner-inside}
 
 module _ (l r : List ℕ) (j : ℕ) (h : j < length l) where
   cut : take (suc j) l ++ r ≡ take j l ++ (getD l j 0 ∷ r)
@@ -111,7 +111,7 @@ module _ (m : ℕ) (w : width-good m ≡ true) (x : ℕ) (hx : x < 2 ^ m) where
 
   -- what is carried is an element
   pub divide-inside : (l p : List ℕ) (v i : ℕ) → symbols-good m l ≡ true → Divided m x l p v i → v < 2 ^ m
-  divide-inside l p v i g s = rw (s .carried) (horner-lt m w x (drop i l) hx (drop-below (2 ^ m) i l (below m l (to-T g))))
+  divide-inside l p v i g s = horner-inside m w x l i v hx g (s .carried)
 
   pub spread-inside : (l p : List ℕ) (v i : ℕ) → symbols-good m l ≡ true → Spread m x l p v i → v < 2 ^ m
   spread-inside l p v i g s = rw (s .carried) (below-first (2 ^ m) (drop i l) (pow-pos m) (drop-below (2 ^ m) i l (below m l (to-T g))))

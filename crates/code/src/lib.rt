@@ -8,7 +8,8 @@ ghost use mathlib.Core.List.{_++_};
 ghost use Prim.Native.Nat.{_+_, _<_};
 ghost use lib.ListN.{length, take, drop};
 ghost use Rattle.field.specs.Field.{width-good};
-ghost use Rattle.code.specs.Code.{code-good, width, roots, long, message-long, value-at, symbols-good, is-codeword};
+ghost use Rattle.field.specs.Within.{Tables};
+ghost use Rattle.code.specs.Code.{code-good, width, roots, long, message-long, value-at, vanishes, symbols-good, is-codeword};
 ghost use Rattle.code.specs.Division.{tails, product, spread, divided, multiplied};
 ghost use Rattle.code.specs.Calls.{encode-refusal, Encode-says, read-refusal, Read-says, check-refusal, checked};
 ghost use Rattle.code.specs.Within.{Word-within, Part-within, Place-within, Quotient-within, Message-within, Carries};
@@ -178,20 +179,35 @@ pub fn symbols_good(m: u32, word: &[u8]) -> bool
     true
 }
 
-// The value of a word at α^t, position by position.
-fn value(m: u32, t: u32, word: &[u8]) -> u8
+// The value of a word at α^t by Horner's rule, with the tables of its field.
+fn value(m: u32, logs: &[u8], antilogs: &[u8], t: usize, word: &[u8]) -> u8
+    requires { ⌜ Tables m (now logs) (now antilogs) ⌝ }
     requires { ⌜ Word-within m t (now word) ⌝ }
     ensures { λ x. ⌜ x ≡ value-at m t (now (word .entry)) ⌝ }
 {
-    let mut sum: u8 = 0;
-    let mut e: u32 = 0;
-    let mut i: usize = 0;
-    while i < word.len() {
-        sum = field::add(sum, field::times_power(m, word[i], e));
-        e += t;
-        i += 1;
+    let mut v: u8 = 0;
+    let mut i = word.len();
+    while 0 < i {
+        i -= 1;
+        v = field::add(word[i], field::times_power(m, logs, antilogs, v, t));
     }
-    sum
+    v
+}
+
+// Whether a word vanishes at α to α^r.
+fn vanishes(m: u32, logs: &[u8], antilogs: &[u8], r: usize, word: &[u8]) -> bool
+    requires { ⌜ Tables m (now logs) (now antilogs) ⌝ }
+    requires { ⌜ Word-within m r (now word) ⌝ }
+    ensures { λ x. ⌜ x ≡ vanishes r 1 m (now (word .entry)) ⌝ }
+{
+    let mut t: usize = 1;
+    while t <= r {
+        if value(m, logs, antilogs, t, word) != 0 {
+            return false;
+        }
+        t += 1;
+    }
+    true
 }
 
 // Whether a word of n symbols has the roots α to α^r.
@@ -199,14 +215,10 @@ pub fn is_codeword(m: u32, r: u32, word: &[u8]) -> bool
     requires { ⌜ Word-within m r (now word) ⌝ }
     ensures { λ x. ⌜ x ≡ is-codeword m r (now (word .entry)) ⌝ }
 {
-    let mut t: u32 = 1;
-    while t <= r {
-        if value(m, t, word) != 0 {
-            return false;
-        }
-        t += 1;
+    if m == 3 {
+        return vanishes(3, &field::LOG_3, &field::ANTILOG_3, r as usize, word);
     }
-    true
+    vanishes(4, &field::LOG_4, &field::ANTILOG_4, r as usize, word)
 }
 
 // A copy.

@@ -1,15 +1,15 @@
 -- The rule of a table is one test that antt computes over the whole of it; and the laws by which the tables serve.
 -- Assumes nothing.
-use mathlib.Core.Path.{_≡_, refl, sym, ap, ap₂, _∙_}
+use mathlib.Core.Path.{_≡_, refl, sym, ap, _∙_}
 use mathlib.Core.Bool.{Bool, true, _&&_}
 use mathlib.Core.List.{List, [], _∷_}
 use Prim.Native.Nat.{ℕ, zero, suc, _+_, _-_, _*_, _/_, _%_, _^_, _≤_, _<_}
 use native.Mathlib.Nat.{zero-add, suc-mul, zero-mul, div-add-mod', mod-lt, not-suc-le-zero}
 use native.Mathlib.Omega.{arith}
 use lib.Dec.{T, eqb, ltb, eqb→eq, ltb→lt, lit≤}
-use lib.ListN.{getD}
+use lib.ListN.{length, getD}
 use Rattle.field.specs.Field.{width-good, xor, times, times-from, doubled, alpha, inverse, inverse-from}
-use Rattle.field.specs.Within.{Log}
+use Rattle.field.specs.Within.{Log, Tables}
 use Rattle.field.proofs.Tests.{all, at, and-l, and-r, widths}
 use Rattle.field.proofs.Field as F
 
@@ -58,23 +58,26 @@ module _ (m : ℕ) (w : width-good m ≡ true) where
   unfolding xor doubled alpha
   turn = widths (λ (m : ℕ). alpha m (2 ^ m - 1) ≡ 1) refl refl m w
 
+  -- the powers come round
+  once-round : (e : ℕ) → alpha m (2 ^ m - 1 + e) ≡ alpha m e
+  once-round e = F.alpha-add m w (2 ^ m - 1) e ∙ ap (λ (x : ℕ). times m x (alpha m e)) turn ∙ F.times-one m w (alpha m e) (F.alpha-lt m w e)
+
   turns : (q e : ℕ) → alpha m (q * (2 ^ m - 1) + e) ≡ alpha m e
   turns zero e = rw (zero-mul, zero-add) refl
   turns (suc q) e =
       let n : ℕ = 2 ^ m - 1 in
       let h : suc q * n + e ≡ n + (q * n + e) = omega (arith, suc-mul q n) in
-      rw h (F.alpha-add m w n (q * n + e) ∙ ap₂ (times m) turn (turns q e) ∙ F.times-one m w (alpha m e) (F.alpha-lt m w e))
+      rw h (once-round (q * n + e) ∙ turns q e)
 
-  -- the powers come round
   round : (e : ℕ) → alpha m (e % (2 ^ m - 1)) ≡ alpha m e
   round e = sym (turns (e / (2 ^ m - 1)) (e % (2 ^ m - 1))) ∙ ap (alpha m) (div-add-mod' e (2 ^ m - 1))
 
-  antilog-round : (xs : List ℕ) → T (antilogs m xs) → (e : ℕ) → getD xs (e % (2 ^ m - 1)) 0 ≡ alpha m e
-  antilog-round xs t e = antilog-at m xs t (e % (2 ^ m - 1)) (mod-lt e (omega (arith, F.two-lt m w))) ∙ round e
-
   -- exponents add
+  power-log : (a d t : ℕ) → Log m a d → alpha m (d + t) ≡ times m a (alpha m t)
+  power-log a d t p = F.alpha-add m w d t ∙ ap (λ (x : ℕ). times m x (alpha m t)) (p .power)
+
   pub product-log : (a b d e : ℕ) → Log m a d → Log m b e → alpha m (d + e) ≡ times m a b
-  product-log a b d e p q = F.alpha-add m w d e ∙ ap₂ (times m) (p .power) (q .power)
+  product-log a b d e p q = power-log a d e p ∙ ap (times m a) (q .power)
 
   -- and an inverse is the rest of a turn away
   inverse-power : (e : ℕ) → e < 2 ^ m - 1 → alpha m (2 ^ m - 1 - e) ≡ inverse m (alpha m e)
@@ -87,19 +90,53 @@ module _ (m : ℕ) (w : width-good m ≡ true) where
   pub inverse-log : (a e : ℕ) → Log m a e → alpha m (2 ^ m - 1 - e) ≡ inverse m a
   inverse-log a e p = inverse-power e (p .small) ∙ ap (inverse m) (p .power)
 
+-- what the tables of a field give: any power of α, and an element times α^t, short of a turn or past it
+module _ {m : ℕ} {ls ps : List ℕ} (f : Tables m ls ps) where
+  power-at : (e : ℕ) → getD ps (e % (2 ^ m - 1)) 0 ≡ alpha m e
+  power-at e = f .antilog-at (e % (2 ^ m - 1)) (mod-lt e (omega (arith, F.two-lt m (f .width)))) ∙ round m (f .width) e
+
+  module _ (a t : ℕ) (p : 0 < a) (h : (a < 2 ^ m) × (t < 2 ^ m - 1)) where
+    product : alpha m (getD ls a 0 + t) ≡ times m a (alpha m t)
+    product = power-log m (f .width) a (getD ls a 0) t (f .log-at a p (h .0))
+
+    pub short-of-turn : getD ls a 0 + t < length ps → getD ps (getD ls a 0 + t) 0 ≡ times m a (alpha m t)
+    short-of-turn l = f .antilog-at (getD ls a 0 + t) (omega (arith, f .antilogs-long)) ∙ product
+
+    pub turn-off : getD ls a 0 + t - length ps < length ps
+    turn-off = omega (arith, f .antilogs-long, f .log-at a p (h .0) .small, h .1)
+
+    pub past-turn : length ps ≤ getD ls a 0 + t → getD ps (getD ls a 0 + t - length ps) 0 ≡ times m a (alpha m t)
+    past-turn l =
+        let k : ℕ = getD ls a 0 + t - length ps in
+        let n : 2 ^ m - 1 + k ≡ getD ls a 0 + t = omega (arith, f .antilogs-long) in
+        f .antilog-at k (omega (arith, f .antilogs-long, turn-off)) ∙ sym (once-round m (f .width) k) ∙ ap (alpha m) n ∙ product
+
 -- THE TABLES' RULES, one test each
-pub power-3 : (e : ℕ) → getD antilog-3 (e % 7) 0 ≡ alpha 3 e
+tables : (m : ℕ) (ls ps : List ℕ) → width-good m ≡ true → length ls ≡ 2 ^ m → length ps ≡ 2 ^ m - 1 → T (logs m ls) → T (antilogs m ps) → Tables m ls ps
+tables m ls ps w l n t s = record {
+  width = w;
+  logs-long = l;
+  antilogs-long = n;
+  log-at = log-at m ls t;
+  antilog-at = antilog-at m ps s;
+}
+
+pub tables-3 : Tables 3 log-3 antilog-3
 unfolding xor doubled alpha width-good
-power-3 = antilog-round 3 refl antilog-3 tt
+tables-3 = tables 3 log-3 antilog-3 refl refl refl tt tt
+
+pub tables-4 : Tables 4 log-4 antilog-4
+unfolding xor doubled alpha width-good
+tables-4 = tables 4 log-4 antilog-4 refl refl refl tt tt
+
+pub power-3 : (e : ℕ) → getD antilog-3 (e % 7) 0 ≡ alpha 3 e
+power-3 = power-at tables-3
 
 pub power-4 : (e : ℕ) → getD antilog-4 (e % 15) 0 ≡ alpha 4 e
-unfolding xor doubled alpha width-good
-power-4 = antilog-round 4 refl antilog-4 tt
+power-4 = power-at tables-4
 
 pub exponent-3 : (a : ℕ) → 0 < a → a < 8 → Log 3 a (getD log-3 a 0)
-unfolding xor doubled alpha
-exponent-3 = log-at 3 log-3 tt
+exponent-3 = tables-3 .log-at
 
 pub exponent-4 : (a : ℕ) → 0 < a → a < 16 → Log 4 a (getD log-4 a 0)
-unfolding xor doubled alpha
-exponent-4 = log-at 4 log-4 tt
+exponent-4 = tables-4 .log-at

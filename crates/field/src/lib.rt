@@ -1,11 +1,11 @@
 // The fields of 8 and of 16 elements. An element is a value with its sum, product and inverse; each call refuses by itself
-// and promises, for every input, the answer that specs/Answers.antt gives it. `is_width`, `size`, `add`, `multiply` and `power`
-// are for the crates above, on numbers that are known to be elements.
+// and promises, for every input, the answer that specs/Answers.antt gives it. `is_width`, `size`, `add`, `multiply`, `power` and
+// `times_power` are for the crates above, on numbers that are known to be elements.
 ghost use mathlib.Core.Path.{_≡_};
 ghost use mathlib.Core.Bool.{true};
-ghost use Prim.Native.Nat.{_^_, _<_};
+ghost use Prim.Native.Nat.{_-_, _^_, _<_};
 ghost use Rattle.field.specs.Field.{width-good, xor, times, alpha, inverse};
-ghost use Rattle.field.specs.Within.{Elements, Inside, Nonzero, Log};
+ghost use Rattle.field.specs.Within.{Elements, Inside, Nonzero, Log, Tables};
 ghost use Rattle.field.specs.Answers.{one-refusal, two-refusal, made, sum-of, product-of, inverse-of};
 
 // The powers of α from exponent 0.
@@ -14,9 +14,9 @@ pub const ANTILOG_3: [u8; 7] = [1, 2, 4, 3, 6, 7, 5];
 pub const ANTILOG_4: [u8; 15] = [1, 2, 4, 8, 3, 6, 12, 11, 5, 10, 7, 14, 15, 13, 9];
 
 // The exponents of the elements from 1 on, the antilog tables turned round; entry 0 is not used.
-const LOG_3: [u8; 8] = [0, 0, 1, 3, 2, 6, 4, 5];
+pub const LOG_3: [u8; 8] = [0, 0, 1, 3, 2, 6, 4, 5];
 
-const LOG_4: [u8; 16] = [0, 0, 1, 4, 2, 8, 5, 10, 3, 14, 9, 7, 6, 13, 11, 12];
+pub const LOG_4: [u8; 16] = [0, 0, 1, 4, 2, 8, 5, 10, 3, 14, 9, 7, 6, 13, 11, 12];
 
 // An element of the field of 2^m, as a number below 2^m.
 pub struct Element {
@@ -175,16 +175,22 @@ pub fn multiply(m: u32, a: u8, b: u8) -> u8
     power(m, log(m, a) + log(m, b))
 }
 
-// An element times α^e.
-pub fn times_power(m: u32, a: u8, e: u32) -> u8
-    requires { ⌜ Inside m a ⌝ }
-    requires { ⌜ e < 2 ^ 16 ⌝ }
-    ensures { λ r. ⌜ r ≡ times m a (alpha m e) ⌝ }
+// An element times α^t, t below 2^m - 1, by the tables of its field: exponents add, and come round once at most.
+pub fn times_power(m: u32, logs: &[u8], antilogs: &[u8], a: u8, t: usize) -> u8
+    requires { ⌜ Tables m (now logs) (now antilogs) ⌝ }
+    requires { ⌜ (a < 2 ^ m) × (t < 2 ^ m - 1) ⌝ }
+    ensures { λ r. ⌜ r ≡ times m a (alpha m t) ⌝ }
 {
     if a == 0 {
         return 0;
     }
-    power(m, log(m, a) + e)
+    let i = a as usize;
+    let e = (logs[i] as usize) + t;
+    if e < antilogs.len() {
+        return antilogs[e];
+    }
+    let k = e - antilogs.len();
+    antilogs[k]
 }
 
 // The inverse of an element: the rest of a turn from its exponent; that of 0 is itself.

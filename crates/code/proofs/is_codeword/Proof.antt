@@ -1,61 +1,56 @@
--- `code::is_codeword` meets its contract: the roots from α^t on are those that are left.
+-- `code::is_codeword` meets its contract: the roots decide, by the tables of the word's field.
 -- Assumes nothing.
-use mathlib.Core.Path.{_≡_, sym, ap, _∙_}
-use Prim.Native.Nat.{_≤_, _+_, _-_}
-use native.Mathlib.Omega.{arith}
+use mathlib.Core.Path.{_≡_, _∙_}
 use borrow.Author.Needs.{needs}
-use Rattle.code.specs.Code.{vanishes}
-use Rattle.code.proofs.Loops.{long-small, roots-decide, root-met, root-missed, roots-none}
+use Rattle.field.proofs.Tests.{not-three}
+use Rattle.field.proofs.Tables.{tables-3, tables-4}
+use Rattle.code.specs.Within.{Word-within}
+use Rattle.code.proofs.Loops.{roots-decide}
 use Rattle.code.proofs.is_codeword.Statement.{statement}
 use Rattle.code.proofs.is_codeword.Tie as tie
 
-abbrev Inv-loop : tie.InvT-loop
-Inv-loop m r word t₀ t = (1 ≤ t) × (t ≤ r + 1) × (vanishes r 1 m word ≡ vanishes (r + 1 - t) t m word)
+word-3 : (c : tie.Then1) → let a = c .before .before .args in Word-within 3 (a .r) (a .word .now)
+word-3 c = rw (c .if1 .taken) at (c .before .before .pre)
 
-abbrev μ-loop : tie.MeasureT-loop
-μ-loop m r word t₀ t = r + 1 - t
+four : (c : tie.Else1) → c .before .before .args .m ≡ 4
+four c = not-three (c .before .before .args .m) (c .before .before .pre .width) (c .if1 .left)
 
-loop-holds : tie.Need-loop-holds Inv-loop μ-loop
-loop-holds c = let a = c .before .args in let n : a .r ≡ a .r + 1 - 1 = omega arith in
-    (search needs, search needs, ap (λ k. vanishes k 1 (a .m) (a .word .now)) n)
+word-4 : (c : tie.Else1) → let a = c .before .before .args in Word-within 4 (a .r) (a .word .now)
+word-4 c = rw (four c) at (c .before .before .pre)
 
-value-requires : tie.Need-value-requires Inv-loop μ-loop
-value-requires c κs = search needs
+slice-aggregate-vanishes : tie.Need-slice-aggregate-vanishes
+slice-aggregate-vanishes c = search needs
 
-returns : tie.Need-returns Inv-loop μ-loop
-returns c = let s = c .before .before .before in let b = s .before .before in let a = b .args in
-    sym (roots-decide (a .m) (a .r) (a .word .now) (b .pre .count) (b .pre .symbols)
-    ∙ s .loop .inv .2
-    ∙ root-missed (a .m) (a .r) (s .loop .t) (a .word .now) (search needs) (λ e. c .if1 .taken (c .before .value .ensures ∙ e)))
+slice-aggregate-vanishes-2 : tie.Need-slice-aggregate-vanishes-2
+slice-aggregate-vanishes-2 c = search needs
 
-add-t : tie.Need-add-t Inv-loop μ-loop
-add-t c = let b = c .before .before .before .before .before in omega (arith, long-small (b .args .m) (b .pre .width), b .pre)
+vanishes-requires : tie.Need-vanishes-requires
+vanishes-requires c κs = (tables-3, word-3 (c .before .before))
 
-loop-less : tie.Need-loop-less Inv-loop μ-loop
-loop-less c = search needs
+returns : tie.Need-returns
+returns c = let t = c .before .before .before in rw (t .if1 .taken) (c .vanishes .ensures ∙ roots-decide (word-3 t))
 
-loop-again : tie.Need-loop-again Inv-loop μ-loop
-loop-again c = let s = c .before .before .before in let b = s .before .before in let a = b .args in (
-  search needs,
-  search needs,
-  s .loop .inv .2 ∙ root-met (a .m) (a .r) (s .loop .t) (a .word .now) (search needs) (sym (c .before .value .ensures) ∙ c .if1 .left),
-)
+slice-aggregate-vanishes-3 : tie.Need-slice-aggregate-vanishes-3
+slice-aggregate-vanishes-3 c = search needs
 
-returns-2 : tie.Need-returns-2 Inv-loop μ-loop
-returns-2 c = let s = c .before in let b = s .before .before in let a = b .args in
-    sym (roots-decide (a .m) (a .r) (a .word .now) (b .pre .count) (b .pre .symbols)
-    ∙ s .loop .inv .2 ∙ roots-none (a .m) (a .r) (s .loop .t) (a .word .now) (c .loop-test .left))
+slice-aggregate-vanishes-4 : tie.Need-slice-aggregate-vanishes-4
+slice-aggregate-vanishes-4 c = search needs
+
+vanishes-requires-2 : tie.Need-vanishes-requires-2
+vanishes-requires-2 c κs = (tables-4, word-4 (c .before .before))
+
+returns-2 : tie.Need-returns-2
+returns-2 c = let e = c .before .before .before in rw (four e) (c .vanishes2 .ensures ∙ roots-decide (word-4 e))
 
 pub is-codeword-spec : {M : Type 1} → statement M
 is-codeword-spec =
     tie.close
     (tie.spec
-    Inv-loop
-    μ-loop
-    loop-holds
-    value-requires
+    slice-aggregate-vanishes
+    slice-aggregate-vanishes-2
+    vanishes-requires
     returns
-    add-t
-    loop-less
-    loop-again
+    slice-aggregate-vanishes-3
+    slice-aggregate-vanishes-4
+    vanishes-requires-2
     returns-2)

@@ -1,36 +1,56 @@
 -- `field::times_power` meets its contract: exponents add.
 -- Assumes nothing.
-use mathlib.Core.Path.{sym, ap, _∙_}
-use Prim.Native.Nat.{ℕ}
+use mathlib.Core.Path.{sym}
 use native.Mathlib.Omega.{arith}
 use borrow.Author.Needs.{needs}
-use Rattle.field.specs.Field.{times, alpha}
+use Rattle.field.specs.Field.{alpha}
 use Rattle.field.proofs.Field as F
-use Rattle.field.proofs.Tables.{size}
+use Rattle.field.proofs.Tables.{size, short-of-turn, turn-off, past-turn}
 use Rattle.field.proofs.times_power.Statement.{statement}
 use Rattle.field.proofs.times_power.Tie as tie
 
 returns : tie.Need-returns
 returns c = let s = c .before in
     let w = s .pre .0 .width in
-    rw (c .if1 .taken) (sym (F.times-zero-l (s .args .m) w (alpha (s .args .m) (s .args .e)) (F.alpha-lt (s .args .m) w (s .args .e))))
+    rw (c .if1 .taken) (sym (F.times-zero-l (s .args .m) w (alpha (s .args .m) (s .args .t)) (F.alpha-lt (s .args .m) w (s .args .t))))
 
-log-requires : tie.Need-log-requires
-log-requires c κs = search needs
+shared-slice-read-e : tie.Need-shared-slice-read-e
+shared-slice-read-e c = search needs
 
-add-power : tie.Need-add-power
-add-power c = let s = c .before .before in
-    omega (arith, size (s .args .m) (s .pre .0 .width), c .log .ensures .small, s .pre .1)
+cast-e : tie.Need-cast-e
+cast-e c = omega (arith, c .shared-slice-known .given (c .before .before .args .a))
 
-power-requires : tie.Need-power-requires
-power-requires c κs = search needs
+add-e : tie.Need-add-e
+add-e c = omega (arith, c .shared-slice-known .given (c .before .before .args .a), size (c .before .before .args .m) (c .before .before .pre .0 .width))
+
+shared-slice-read-result : tie.Need-shared-slice-read-result
+shared-slice-read-result c = search needs
 
 returns-2 : tie.Need-returns-2
-returns-2 c = let s = c .before .before .before in
-    let a = s .args in
-    c .power .ensures
-    ∙ F.alpha-add (a .m) (s .pre .0 .width) (c .before .log .result) (a .e)
-    ∙ ap (λ (x : ℕ). times (a .m) x (alpha (a .m) (a .e))) (c .before .log .ensures .power)
+returns-2 c = let b = c .before .before .before .before in
+    short-of-turn (b .pre .0) (b .args .a) (b .args .t) (search needs) (b .pre .1) (c .before .if2 .taken)
+
+sub-k : tie.Need-sub-k
+sub-k c = search needs
+
+shared-slice-read-result-2 : tie.Need-shared-slice-read-result-2
+shared-slice-read-result-2 c = let b = c .before .before .before .before in
+    omega (arith, turn-off (b .pre .0) (b .args .a) (b .args .t) (search needs) (b .pre .1))
+
+returns-3 : tie.Need-returns-3
+returns-3 c = let b = c .before .before .before .before in
+    past-turn (b .pre .0) (b .args .a) (b .args .t) (search needs) (b .pre .1) (c .before .if2 .left)
 
 pub times-power-spec : {M : Type 1} → statement M
-times-power-spec = tie.close (tie.spec returns log-requires add-power power-requires returns-2)
+times-power-spec =
+    tie.close
+    (tie.spec
+    returns
+    shared-slice-read-e
+    cast-e
+    add-e
+    shared-slice-read-result
+    returns-2
+    sub-k
+    shared-slice-read-result-2
+    returns-3)
