@@ -14,7 +14,7 @@ use Rattle.metric.specs.Metric.{Decoded}
 use Rattle.metric.specs.Cost.{weight-of, top, Least-with}
 use Rattle.metric.proofs.Costs.{decoded}
 use Rattle.metric.proofs.Bounds.{weight-le, cost-le}
-use Rattle.trellis.specs.Rows.{folded}
+use Rattle.soft.specs.Pass.{folded}
 use Rattle.tables.specs.Within.{Input}
 use Rattle.decoder.specs.Within.{Best, Softs, SoftRows, Softened}
 use Rattle.tables.proofs.Tabling.{width-ok}

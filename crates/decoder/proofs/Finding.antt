@@ -19,9 +19,11 @@ use Rattle.split.proofs.Layers as SL
 use Rattle.configurations.specs.Configurations.{configurations}
 use Rattle.metric.specs.Cost.{weight-of, cost}
 use Rattle.trellis.specs.Trellis.{back, free, final, holding, meet}
-use Rattle.trellis.specs.Rows.{entry, folded, lane, at-table, layer, Pass, Passed, Trace, traced}
+use Rattle.lanes.specs.Lanes.{entry, lane}
+use Rattle.trellis.specs.Rows.{at-table, layer, Trace, traced}
+use Rattle.soft.specs.Pass.{folded, Pass, Passed}
 use Rattle.trellis.proofs.Least.{least-same, least-cap}
-use Rattle.trellis.proofs.Rows.{lanes-at}
+use Rattle.lanes.proofs.Rows.{lanes-at}
 use Rattle.glue.specs.Walk.{total, tuple, least-total, least-with, Walked, Marginals}
 use Rattle.glue.specs.Walk as W
 use Rattle.glue.proofs.Engine.{over, marginal, marginal-ge}

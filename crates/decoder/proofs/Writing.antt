@@ -19,8 +19,9 @@ use Rattle.field.specs.Field.{width-good}
 use Rattle.field.proofs.Tests.{widths}
 use Rattle.metric.specs.Cost.{costZero, costOne}
 use Rattle.metric.proofs.Integers as I
-use Rattle.trellis.specs.Rows.{folded, lane, lanes}
-use Rattle.trellis.proofs.Rows.{lanes-at}
+use Rattle.lanes.specs.Lanes.{lane, lanes}
+use Rattle.soft.specs.Pass.{folded}
+use Rattle.lanes.proofs.Rows.{lanes-at}
 use Rattle.tables.specs.Within.{big}
 use Rattle.decoder.specs.Within.{soft-of, SoftRow, Written, SoftRows, Softened}
 

@@ -10,7 +10,8 @@ use Rattle.code.specs.Code.{width, roots, long, is-codeword}
 use Rattle.code.specs.Bits.{row-long}
 use Rattle.metric.specs.Row.{row-good}
 use Rattle.metric.specs.Cost.{cost, Least, Least-with}
-use Rattle.trellis.specs.Rows.{lane, folded}
+use Rattle.lanes.specs.Lanes.{lane}
+use Rattle.soft.specs.Pass.{folded}
 use Rattle.glue.specs.Walk.{Marginals}
 use Rattle.tables.specs.Within.{big, cap}
 

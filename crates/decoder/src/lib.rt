@@ -86,7 +86,7 @@ fn soft_costs(
     ensures { λ _. ⌜ Softs code m n (now (row .entry)) (now (zero .exit)) (now (one .exit)) ⌝ }
 {
     glue::subtract(g, t);
-    trellis::soft_pass(
+    soft::pass(
         t,
         q,
         size,
@@ -139,7 +139,7 @@ fn soft_rows(m: u32, n: usize, zero: &[u16], one: &[u16], soft: &mut [i16])
     let mut i = 0;
     let mut at = 0;
     while i < n {
-        soft_row(m, trellis::fold(zero, i), trellis::fold(one, i), at, soft);
+        soft_row(m, soft::fold(zero, i), soft::fold(one, i), at, soft);
         at += w;
         i += 1;
     }

@@ -10,7 +10,7 @@ use borrow.Author.Tests.{eq-eqb, eqb-true, eqb-false}
 use lib.Dec.{eqb}
 use Rattle.trellis.specs.Trellis.{leastOf, meet}
 use Rattle.trellis.proofs.Least.{least-cap, least-le, least-found, le-least}
-use Rattle.trellis.proofs.Rows.{four}
+use Rattle.lanes.proofs.Rows.{four}
 use Rattle.glue.specs.Walk.{sum4}
 
 -- tuple k's total, over tables F

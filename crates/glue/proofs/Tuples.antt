@@ -10,8 +10,8 @@ use borrow.Author.Tests.{eq-eqb, ne-eqb, eqb-true, eqb-false}
 use lib.Dec.{eqb}
 use lib.ListN.{length, getD, set, length-set}
 use lib.Seq.{getD-set-same, getD-set-other, set-getD}
-use Rattle.trellis.specs.Rows.{entry, lane}
-use Rattle.trellis.proofs.Rows.{four}
+use Rattle.lanes.specs.Lanes.{entry, lane}
+use Rattle.lanes.proofs.Rows.{four}
 use Rattle.glue.specs.Walk.{sum4, total, lower-at, lowered, Within}
 
 -- lowering to what is no less changes nothing

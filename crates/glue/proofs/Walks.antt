@@ -12,9 +12,9 @@ use native.Mathlib.Decide.{decLe}
 use lib.ListN.{length, getD, set, length-set}
 use lib.Seq.{getD-set-same, getD-set-other}
 use Rattle.trellis.specs.Trellis.{leastOf}
-use Rattle.trellis.specs.Rows.{entry, lane, lanes}
+use Rattle.lanes.specs.Lanes.{entry, lane, lanes}
 use Rattle.trellis.proofs.Least.{least-cap}
-use Rattle.trellis.proofs.Rows.{lanes-at}
+use Rattle.lanes.proofs.Rows.{lanes-at}
 use Rattle.glue.specs.Walk.{conf, tuple, total, least-total, least-with, lowered, Within, Tuples, Walked, Marginals}
 use Rattle.glue.proofs.Tuples.{lowered-at, length-lowered}
 

@@ -7,7 +7,7 @@ use Prim.Native.Nat.{ℕ, _+_, _-_, _*_, _^_, _≤_, _<_, min}
 use lib.Dec.{eqb}
 use lib.ListN.{length, getD, set}
 use Rattle.trellis.specs.Trellis.{leastOf}
-use Rattle.trellis.specs.Rows.{entry, lane, lanes}
+use Rattle.lanes.specs.Lanes.{entry, lane, lanes}
 
 -- f 0 + f 1 + f 2 + f 3
 abbrev pub sum4 : (ℕ → ℕ) → ℕ

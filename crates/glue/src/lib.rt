@@ -6,7 +6,7 @@ ghost use Prim.Native.Nat.{ℕ, _+_, _-_, _*_, _^_, _<_, _≤_, min};
 ghost use mathlib.Core.Bool.{cond};
 ghost use lib.Dec.{ltb};
 ghost use lib.ListN.{length, getD};
-ghost use Rattle.trellis.specs.Rows.{entry};
+ghost use Rattle.lanes.specs.Lanes.{entry};
 ghost use Rattle.glue.specs.Walk.{conf, tuple, total, least-total, lower-at, lowered, Within, Tuples, Walked, Marginals};
 
 // What syndrome s costs in layer j.

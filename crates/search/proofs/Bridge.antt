@@ -31,7 +31,7 @@ use Rattle.trellis.specs.Trellis.{Columns, Choice, either, only, pick, back, sy
 use Rattle.trellis.specs.Trellis as T
 use Rattle.trellis.specs.Rows as R
 use Rattle.trellis.proofs.Trellis.{Attains, attained, reaches, none-less}
-use Rattle.trellis.proofs.Rows.{four}
+use Rattle.lanes.proofs.Rows.{four}
 use Rattle.glue.specs.Walk.{sum4}
 use Rattle.glue.proofs.Engine.{over}
 use Rattle.search.specs.Search.{Spelt}

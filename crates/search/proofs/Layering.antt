@@ -19,6 +19,7 @@ use Rattle.metric.specs.Cost.{costZero, costOne, choose, discrepancy, cost}
 use Rattle.trellis.specs.Trellis.{pick}
 use Rattle.trellis.specs.Trellis as T
 use Rattle.trellis.specs.Rows as R
+use Rattle.lanes.specs.Lanes as N
 use Rattle.glue.specs.Walk.{sum4}
 use Rattle.search.specs.Search.{zero-cost, one-cost, Spelt}
 
@@ -75,7 +76,7 @@ picked false zero z = refl
 picked false (suc b) z = refl
 
 module _ (m r : ℕ) (w : width-good m ≡ true) (rs : List ℤ) (hs zs os : List ℕ) (y : Spelt m r rs hs zs os) (l : length rs ≡ row-long m) where
-  lane-part : (i j x : ℕ) → i < long m → j < 4 → pick (x / 2 ^ j % 2) (R.entry zs i j) (R.entry os i j) ≡ cond (ltb j m) (part x (drop (i * m) rs) j) 0
+  lane-part : (i j x : ℕ) → i < long m → j < 4 → pick (x / 2 ^ j % 2) (N.entry zs i j) (N.entry os i j) ≡ cond (ltb j m) (part x (drop (i * m) rs) j) 0
   unfolding part
   lane-part i j x li lj =
       ap₂ (pick (x / 2 ^ j % 2)) (y .zeros i j li lj) (y .ones i j li lj)

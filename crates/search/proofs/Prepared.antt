@@ -20,7 +20,7 @@ use Rattle.field.specs.Field.{width-good}
 use Rattle.field.proofs.Tests.{all, at, and-l, and-r, widths}
 use Rattle.code.specs.Code.{long}
 use Rattle.metric.specs.Cost.{costZero, costOne}
-use Rattle.trellis.proofs.Rows.{four}
+use Rattle.lanes.proofs.Rows.{four}
 use Rattle.search.specs.Search.{head, reliability, Headed, put-four, Spread, CostsTo, Costed}
 
 -- ---- a reliability's costs, by its sign

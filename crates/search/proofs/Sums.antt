@@ -19,8 +19,8 @@ use Rattle.metric.proofs.Bounds.{row-at}
 use Rattle.trellis.specs.Trellis as T
 use Rattle.trellis.specs.Trellis.{pick}
 use Rattle.trellis.specs.Rows as R
-use Rattle.trellis.specs.Rows.{entry, lane, row}
-use Rattle.trellis.proofs.Rows as RR
+use Rattle.lanes.specs.Lanes.{entry, lane, row}
+use Rattle.lanes.proofs.Rows as RR
 use Rattle.glue.specs.Walk.{sum4}
 use Rattle.search.specs.Search.{symbol-cost, word-cost, Own, Symbol, Spelt}
 use Rattle.search.proofs.Layering.{by-layers}

@@ -19,7 +19,8 @@ use Rattle.configurations.specs.Configurations.{configurations}
 use Rattle.metric.specs.Cost.{costZero, cost}
 use Rattle.trellis.specs.Trellis.{Column, Columns, pick, step, either, back, free, final, bit, choice, trace}
 use Rattle.trellis.specs.Rows as R
-use Rattle.trellis.specs.Rows.{lane, lanes, chosen, symbol, traced}
+use Rattle.lanes.specs.Lanes.{lane, lanes}
+use Rattle.trellis.specs.Rows.{chosen, symbol, traced}
 use Rattle.trellis.proofs.Trellis.{Attains, reaches}
 use Rattle.trellis.proofs.Trellis as TT
 use Rattle.glue.proofs.Engine.{over}

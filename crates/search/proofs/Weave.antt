@@ -8,7 +8,7 @@ use native.Mathlib.Omega.{arith}
 use lib.ListN.{length}
 use Rattle.code.proofs.Words.{Below}
 use Rattle.split.specs.Split.{layer}
-use Rattle.trellis.proofs.Rows.{four}
+use Rattle.lanes.proofs.Rows.{four}
 use Rattle.search.proofs.Layering.{first, next}
 
 -- the word whose lowest layer is bs and whose others are those of cs

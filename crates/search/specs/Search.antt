@@ -11,7 +11,7 @@ use Rattle.field.specs.Field.{width-good, alpha}
 use Rattle.code.specs.Code.{long}
 use Rattle.metric.specs.Cost.{costZero, costOne}
 use Rattle.trellis.specs.Trellis.{pick}
-use Rattle.trellis.specs.Rows.{entry, lane}
+use Rattle.lanes.specs.Lanes.{entry, lane}
 use Rattle.glue.specs.Walk.{sum4}
 
 -- a syndrome from the values at α and α^3

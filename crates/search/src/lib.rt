@@ -11,7 +11,7 @@ ghost use Rattle.code.specs.Bits.{row-long};
 ghost use Rattle.configurations.specs.Configurations.{configurations, listed};
 ghost use Rattle.metric.specs.Row.{reliability-good, row-good};
 ghost use Rattle.metric.specs.Cost.{costZero, costOne, weight-of, cost};
-ghost use Rattle.trellis.specs.Rows.{lane, lanes};
+ghost use Rattle.lanes.specs.Lanes.{lane, lanes};
 ghost use Rattle.search.specs.Search.{reliability, Headed, put-four, Spread, CostsTo, CostRows, Costed, symbol-cost, word-cost, Own, Symbol};
 ghost use Rattle.trellis.specs.Trellis.{pick};
 ghost use Rattle.glue.specs.Walk.{sum4};
@@ -138,7 +138,7 @@ fn cost_at(top: u16, zs: &[u16], os: &[u16], word: &[u8], i: usize) -> u32
     requires { ⌜ i < length (now word) ⌝ }
     ensures { λ r. ⌜ (r ≡ symbol-cost (now (zs .entry)) (now (os .entry)) i (getD (now (word .entry)) i 0)) × (r ≤ top * 4) ⌝ }
 {
-    symbol_cost(top, word[i], trellis::load(zs, i), trellis::load(os, i))
+    symbol_cost(top, word[i], lanes::load(zs, i), lanes::load(os, i))
 }
 
 // What a word costs by itself. Two symbols a turn.

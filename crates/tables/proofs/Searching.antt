@@ -23,9 +23,10 @@ use Rattle.configurations.proofs.Listed.{listed-at}
 use Rattle.metric.specs.Cost.{weight-of, cost, Least}
 use Rattle.metric.proofs.Bounds.{weight-le}
 use Rattle.trellis.specs.Trellis.{back, free, final}
-use Rattle.trellis.specs.Rows.{entry, lane, layer}
+use Rattle.lanes.specs.Lanes.{entry, lane}
+use Rattle.trellis.specs.Rows.{layer}
 use Rattle.trellis.proofs.Least.{least-same}
-use Rattle.trellis.proofs.Rows.{lanes-at}
+use Rattle.lanes.proofs.Rows.{lanes-at}
 use Rattle.trellis.proofs.Tables.{back-le, final-le}
 use Rattle.glue.specs.Walk.{total, tuple, least-total, Tuples}
 use Rattle.glue.specs.Walk as W

@@ -1,11 +1,7 @@
 pub mod Least
 pub mod Trellis
-pub mod Adjoint
-pub mod Rows
 pub mod Parts
 pub mod Neighbours
 pub mod Relaxing
-pub mod Advancing
 pub mod Tables
-pub mod Soft
 pub mod Traces

@@ -1,16 +1,17 @@
 -- One column from the back, two rows at a time: what a turn of the loops asks, and what it leaves.
 -- Assumes nothing.
-use mathlib.Core.Path.{_≡_, refl, sym, ap, ap₂, _∙_}
-use mathlib.Core.List.{List, [], _∷_}
-use Prim.Native.Nat.{ℕ, zero, suc, _+_, _-_, _*_, _^_, _≤_, _<_, min}
+use mathlib.Core.Path.{_≡_, refl, ap, _∙_}
+use mathlib.Core.List.{List}
+use Prim.Native.Nat.{ℕ, _+_, _*_, _≤_, _<_}
 use native.Mathlib.Omega.{arith}
 use native.Mathlib.Decide.{decLe}
 use lib.ListN.{length, getD}
 use Rattle.field.specs.Field.{xor}
-use Rattle.trellis.specs.Trellis.{Column, step, either}
-use Rattle.trellis.specs.Rows.{entry, lane, rows, two, twofold, sum, less, put-two, limit, Sums, column, front, rear, Two, RelaxTwo, Relax, Relaxed}
+use Rattle.trellis.specs.Trellis.{step, either}
+use Rattle.lanes.specs.Lanes.{entry, lane, rows, two, twofold, sum, less, put-two, limit}
+use Rattle.trellis.specs.Rows.{column, front, rear, RelaxTwo, Relax, Relaxed}
 use Rattle.trellis.proofs.Neighbours.{turned}
-use Rattle.trellis.proofs.Rows.{both, rows-first, rows-second, twofold-first, twofold-second, sum-at, less-at, length-put-two, put-two-other, put-two-first, put-two-second}
+use Rattle.lanes.proofs.Rows.{both, rows-first, rows-second, twofold-first, twofold-second, sum-at, less-at, length-put-two, put-two-other, put-two-first, put-two-second}
 
 module _ (q size h : ℕ) (p z o : List ℕ) (w : Relax q size h p z o) where
   pub relax-start : Relaxed size h p z o 0 p

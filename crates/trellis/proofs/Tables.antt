@@ -1,21 +1,20 @@
 -- All the tables from the back: the one behind the last column, and one column more at each turn.
 -- Assumes nothing.
-use mathlib.Core.Path.{_≡_, refl, sym, ap, ap₂, _∙_}
-use mathlib.Core.List.{List, [], _∷_, _++_}
-use Prim.Native.Nat.{ℕ, zero, suc, _+_, _-_, _*_, _^_, _≤_, _<_, min}
+use mathlib.Core.Path.{_≡_, refl, sym, ap, _∙_}
+use mathlib.Core.List.{List, [], _∷_}
+use Prim.Native.Nat.{ℕ, zero, suc, _+_, _-_, _*_, _^_, _≤_, _<_}
 use native.Mathlib.Nat.{suc-mul, mul-le-mul-right, sub-le, sub-self}
 use native.Mathlib.Omega.{arith}
 use native.Mathlib.Decide.{decLe}
-use native.Mathlib.Numerals.{add-one}
 use lib.ListN.{length, getD, take, drop}
-use lib.Seq.{getD-take, getD-drop}
 use Rattle.field.specs.Field.{xor}
 use Rattle.field.proofs.Xor as X
-use Rattle.trellis.specs.Trellis.{Column, Columns, pick, step, either, only, back, fore, free, final}
-use Rattle.trellis.specs.Rows.{entry, lane, row, put, limit, column, front, rear, Two, Relax, Relaxed, at-table, layer, Layers, Make, Made, Ended}
+use Rattle.trellis.specs.Trellis.{Columns, step, either, back, free, final}
+use Rattle.lanes.specs.Lanes.{entry, lane, row, put}
+use Rattle.trellis.specs.Rows.{column, front, rear, Two, Relax, Relaxed, at-table, layer, Layers, Make, Made, Ended}
 use borrow.Rule.Slice.PartMut.{putMid}
-use Rattle.trellis.proofs.Parts.{part-at, part-long, put-before, put-in, put-after, put-long}
-use Rattle.trellis.proofs.Rows.{four, row-at, length-put, put-other, put-at}
+use Rattle.trellis.proofs.Parts.{part-at, part-long, put-in, put-after, put-long}
+use Rattle.lanes.proofs.Rows.{four, row-at, length-put, put-other, put-at}
 
 pub end-cost : (big s : ℕ) → (s ≡ 0 → ⊥) → big ≡ final big s
 end-cost big zero n = absurd (n refl)

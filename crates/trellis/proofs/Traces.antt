@@ -1,21 +1,20 @@
 -- The trace, symbol by symbol: each layer's bits are those of its own trace.
 -- Assumes nothing.
 use mathlib.Core.Path.{_≡_, refl, sym, ap, ap₂, _∙_}
-use mathlib.Core.Bool.{Bool, true, false}
 use mathlib.Core.List.{List, [], _∷_, _++_, append-assoc, append-nil}
-use Prim.Native.Nat.{ℕ, zero, suc, _+_, _-_, _*_, _/_, _%_, _^_, _≤_, _<_}
+use Prim.Native.Nat.{ℕ, zero, suc, _+_, _-_, _*_, _^_, _≤_, _<_}
 use native.Mathlib.Nat.{suc-mul, mul-le-mul-right}
 use native.Mathlib.Omega.{arith}
-use native.Mathlib.Numerals.{add-one}
 use lib.Dec.{leb}
 use lib.ListN.{length, getD, take, drop, set, length-set}
 use lib.Seq.{take-suc-set, take-all}
 use Rattle.field.specs.Field.{xor}
 use Rattle.field.proofs.Xor as X
-use Rattle.trellis.specs.Trellis.{Column, Columns, pick, back, free, final, bit, choice, trace}
-use Rattle.trellis.specs.Rows.{entry, lane, lanes, row, limit, column, front, at-table, layer, Layers, Made, chosen, symbol, traced, Bit, TraceRow, picked, Trace}
+use Rattle.trellis.specs.Trellis.{pick, back, free, final, bit, choice, trace}
+use Rattle.lanes.specs.Lanes.{entry, lane, lanes, row}
+use Rattle.trellis.specs.Rows.{front, at-table, layer, Layers, chosen, symbol, traced, Bit, TraceRow, picked, Trace}
 use Rattle.trellis.proofs.Parts.{part-at, part-long}
-use Rattle.trellis.proofs.Rows.{four, lanes-at, row-at}
+use Rattle.lanes.proofs.Rows.{lanes-at, row-at}
 use Rattle.trellis.proofs.Tables.{made-le, turned-in}
 
 pub not-zero : (b : ℕ) → (b ≡ 0 → ⊥) → (s h : ℕ) → xor s h ≡ xor s (pick b 0 h)

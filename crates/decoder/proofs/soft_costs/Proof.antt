@@ -12,8 +12,8 @@ subtract-requires c κs = let s = c .before .before .before .before .before .bef
     let p = s .pre in
     subtract-ok (a .code) (a .m) (a .r) (a .q) (a .n) (a .size) (a .count) (a .row .now) (a .cs .now) (a .hs .now) (a .zs .now) (a .os .now) (a .t .now) (p .0) (p .1 .0) (a .g .now) (p .1 .1 .0 .0) (p .1 .1 .0 .1)
 
-soft-pass-requires : tie.Need-soft-pass-requires
-soft-pass-requires c κs = let s = c .before .before .before .before .before .before .before .before .before .before .before .before .before .before .before in
+pass-requires : tie.Need-pass-requires
+pass-requires c κs = let s = c .before .before .before .before .before .before .before .before .before .before .before .before .before .before .before in
     let a = s .args in
     let p = s .pre in
     pass-ok (a .code) (a .m) (a .r) (a .q) (a .n) (a .size) (a .count) (a .row .now) (a .cs .now) (a .hs .now) (a .zs .now) (a .os .now) (a .t .now) (p .0) (p .1 .0) (a .g .now) (p .1 .1 .0 .0) (p .1 .1 .0 .1) (c .before .before .before .before .before .subtract .last .1 .0) (c .before .before .before .before .before .subtract .ensures .0) (c .before .before .before .before .before .subtract .ensures .1 .0) (c .before .before .before .before .before .subtract .ensures .1 .1) (a .zero .now) (a .one .now) (p .1 .1 .1 .0) (p .1 .1 .1 .1)
@@ -31,9 +31,9 @@ returns : tie.Need-returns
 returns c = let s = c .before .before .before .before .before .before .before .before .before .before .before .before .before .before .before .before .before .before .before .before .before .before in
     let a = s .args in
     let p = s .pre in
-    softs-ok (a .code) (a .m) (a .r) (a .q) (a .n) (a .size) (a .count) (a .row .now) (a .cs .now) (a .hs .now) (a .zs .now) (a .os .now) (a .t .now) (p .0) (p .1 .0) (a .g .now) (p .1 .1 .0 .0) (p .1 .1 .0 .1) (c .before .before .before .before .before .before .before .before .before .before .before .before .subtract .last .1 .0) (c .before .before .before .before .before .before .before .before .before .before .before .before .subtract .ensures .0) (c .before .before .before .before .before .before .before .before .before .before .before .before .subtract .ensures .1 .0) (c .before .before .before .before .before .before .before .before .before .before .before .before .subtract .ensures .1 .1) (c .before .before .before .before .before .before .soft-pass .last .1 .1 .1 .1 .1 .1 .1 .1 .1 .0) (c .before .before .before .before .before .before .soft-pass .last .1 .1 .1 .1 .1 .1 .1 .1 .1 .1 .0) (c .before .before .before .before .before .before .soft-pass .ensures .0) (c .before .before .before .before .before .before .soft-pass .ensures .1)
+    softs-ok (a .code) (a .m) (a .r) (a .q) (a .n) (a .size) (a .count) (a .row .now) (a .cs .now) (a .hs .now) (a .zs .now) (a .os .now) (a .t .now) (p .0) (p .1 .0) (a .g .now) (p .1 .1 .0 .0) (p .1 .1 .0 .1) (c .before .before .before .before .before .before .before .before .before .before .before .before .subtract .last .1 .0) (c .before .before .before .before .before .before .before .before .before .before .before .before .subtract .ensures .0) (c .before .before .before .before .before .before .before .before .before .before .before .before .subtract .ensures .1 .0) (c .before .before .before .before .before .before .before .before .before .before .before .before .subtract .ensures .1 .1) (c .before .before .before .before .before .before .pass .last .1 .1 .1 .1 .1 .1 .1 .1 .1 .0) (c .before .before .before .before .before .before .pass .last .1 .1 .1 .1 .1 .1 .1 .1 .1 .1 .0) (c .before .before .before .before .before .before .pass .ensures .0) (c .before .before .before .before .before .before .pass .ensures .1)
 
 pub soft-costs-spec : {M : Type 1} → statement M
 soft-costs-spec =
     tie.close
-    (tie.spec subtract-requires soft-pass-requires same-length same-length-2 same-length-3 returns)
+    (tie.spec subtract-requires pass-requires same-length same-length-2 same-length-3 returns)

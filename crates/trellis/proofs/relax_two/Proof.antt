@@ -5,8 +5,8 @@ use borrow.Author.Needs.{needs}
 use mathlib.Core.Path.{_≡_, ap, ap₂, _∙_}
 use mathlib.Core.List.{List}
 use Prim.Native.Nat.{ℕ, _+_}
-use Rattle.trellis.specs.Rows.{two, twofold, sum, less, put-two}
-use Rattle.trellis.proofs.Rows.{small-sum}
+use Rattle.lanes.specs.Lanes.{two, twofold, sum, less, put-two}
+use Rattle.lanes.proofs.Rows.{small-sum}
 use Rattle.trellis.proofs.relax_two.Statement.{statement}
 use Rattle.trellis.proofs.relax_two.Tie as tie
 

@@ -1,0 +1,3 @@
+pub mod Adjoint
+pub mod Advancing
+pub mod Soft
