@@ -15,10 +15,10 @@ use Rattle.metric.specs.Cost.{weight-of, top, Least-with}
 use Rattle.metric.proofs.Costs.{decoded}
 use Rattle.metric.proofs.Bounds.{weight-le, cost-le}
 use Rattle.soft.specs.Pass.{folded}
-use Rattle.tables.specs.Within.{Input}
+use Rattle.row_tables.specs.Within.{Input}
 use Rattle.decoder.specs.Within.{Best, Softs, SoftRows, Softened}
-use Rattle.tables.proofs.Tabling.{width-ok}
-use Rattle.tables.proofs.Searching.{row-le}
+use Rattle.row_tables.proofs.Tabling.{width-ok}
+use Rattle.row_tables.proofs.Searching.{row-le}
 
 module _ (c m r q n size count : ℕ) (row : List ℤ) (cs : List ℕ) (z : Input c m r q n size count row cs) where
   l : length row ≡ row-long (width c)

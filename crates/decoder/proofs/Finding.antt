@@ -31,11 +31,11 @@ use Rattle.search.specs.Search.{Spelt}
 use Rattle.search.proofs.Bridge.{conf, table}
 use Rattle.search.proofs.Found as S
 use Rattle.search.proofs.Traced as TR
-use Rattle.tables.specs.Within.{top, big, cap, Input, Tabled}
+use Rattle.row_tables.specs.Within.{top, big, cap, Input, Tabled}
 use Rattle.decoder.specs.Within.{Best, Softs}
-use Rattle.tables.proofs.Tabling.{width-ok}
-use Rattle.tables.proofs.Searching.{conf-in, least-is}
-use Rattle.tables.proofs.Searching as A
+use Rattle.row_tables.proofs.Tabling.{width-ok}
+use Rattle.row_tables.proofs.Searching.{conf-in, least-is}
+use Rattle.row_tables.proofs.Searching as A
 
 module _ (c m r q n size count : ℕ) (row : List ℤ) (cs hs zs os t : List ℕ) (z : Input c m r q n size count row cs) (b : Tabled c q size row hs zs os t) where
   abbrev g : code-good c ≡ true

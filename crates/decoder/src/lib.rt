@@ -8,7 +8,7 @@ ghost use Rattle.code.specs.Code.{width, roots};
 ghost use Rattle.metric.specs.Metric.{Decoded};
 ghost use Rattle.glue.specs.Walk.{Marginals};
 ghost use Rattle.search.specs.Search.{Headed};
-ghost use Rattle.tables.specs.Within.{cap, big, Input, Buffers, Tabled};
+ghost use Rattle.row_tables.specs.Within.{cap, big, Input, Buffers, Tabled};
 ghost use Rattle.decoder.specs.Calls.{decode-refusal, Decode-says};
 ghost use Rattle.decoder.specs.Within.{Best, Softs, All, SoftRow, Written, SoftRows, Softened, Outputs, Accepted};
 
@@ -19,13 +19,13 @@ pub struct Decoding {
     pub metric: i32,
 }
 
-// Every entry is tables::CAP.
+// Every entry is row_tables::CAP.
 fn clear(g: &mut [u16])
     ensures { λ _. ⌜ (length (now (g .exit)) ≡ length (now (g .entry))) × All cap (now (g .exit)) ⌝ }
 {
     let mut i = 0;
     while i < g.len() {
-        g[i] = tables::CAP;
+        g[i] = row_tables::CAP;
         i += 1;
     }
 }
@@ -54,9 +54,20 @@ fn best_word(
     ensures { λ x. ⌜ Best code size count (now (row .entry)) (now (t .entry)) (now (cs .entry)) (now (g .exit)) (now (word .exit)) x ⌝ }
 {
     clear(g);
-    let least = glue::walk(t, size, cs, count, g, tables::CAP);
+    let least = glue::walk(t, size, cs, count, g, row_tables::CAP);
     let at = least.at;
-    trellis::trace_word(t, q, size, hs, zs, os, tables::TOP, tables::BIG, at, word);
+    trellis::trace_word(
+        t,
+        q,
+        size,
+        hs,
+        zs,
+        os,
+        row_tables::TOP,
+        row_tables::BIG,
+        at,
+        word,
+    );
     least.total as u32
 }
 
@@ -93,9 +104,9 @@ fn soft_costs(
         hs,
         zs,
         os,
-        tables::TOP,
-        tables::BIG,
-        tables::CAP,
+        row_tables::TOP,
+        row_tables::BIG,
+        row_tables::CAP,
         zero,
         one,
     );
@@ -172,7 +183,7 @@ fn decode_with(
     requires { ⌜ Outputs m n size (now g) (now zero) (now one) (now word) (now soft) ⌝ }
     ensures { λ x. ⌜ Decoded (width code) (roots code) (now (row .entry)) (now (word .exit)) x (now (soft .exit)) ⌝ }
 {
-    tables::of_row(code, m, r, q, n, size, count, row, cs, hs, zs, os, t);
+    row_tables::of_row(code, m, r, q, n, size, count, row, cs, hs, zs, os, t);
     let least = best_word(
         code,
         m,
@@ -277,7 +288,7 @@ fn decode_2(row: &[i16], word: &mut [u8], soft: &mut [i16]) -> i32
     let mut os = [0u16; 28];
     let mut zero = [0u16; 56];
     let mut one = [0u16; 56];
-    let mut t = [tables::BIG; 2048];
+    let mut t = [row_tables::BIG; 2048];
     let mut g = [0u16; 256];
     decode_with(
         2,

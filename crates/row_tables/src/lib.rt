@@ -1,7 +1,7 @@
 // The tables of an accepted row: what the decoder and the marker start from. proofs/Searching.antt shows that the least total which the walk
 // finds over them is the least cost of a codeword. Its function is for those two crates.
 ghost use Rattle.search.specs.Search.{Headed};
-ghost use Rattle.tables.specs.Within.{Input, Buffers, Tabled};
+ghost use Rattle.row_tables.specs.Within.{Input, Buffers, Tabled};
 
 // A reliability's greatest size, a number above every cost of a word, and one above twice that and a layer's cost.
 pub const TOP: u16 = 127;

@@ -35,8 +35,8 @@ use Rattle.search.specs.Search.{Spelt}
 use Rattle.search.proofs.Bridge.{conf, table, conf-high, padded-in}
 use Rattle.search.proofs.Found as S
 use Rattle.search.proofs.Traced as TR
-use Rattle.tables.specs.Within.{top, big, cap, Input, Tabled}
-use Rattle.tables.proofs.Tabling.{short}
+use Rattle.row_tables.specs.Within.{top, big, cap, Input, Tabled}
+use Rattle.row_tables.proofs.Tabling.{short}
 
 at-below : (n : ℕ) (xs : List ℕ) (j : ℕ) → Below n xs → j < length xs → getD xs j 0 < n
 at-below n [] j b h = absurd (omega arith)
