@@ -42,6 +42,13 @@ minus-fits a b ha hb = record { sfits = within a b (2 ^ 31) ha hb }
 pub soft-fits : (zero one : ℕ) → zero < big → one < big → SFits w16 (pos (2 * one) -ℤ pos (2 * zero))
 soft-fits za oa hz ho = record { sfits = within (2 * oa) (2 * za) 32768 (omega arith) (omega arith) }
 
+-- a number that fits both widths, made narrower
+pub narrow-fits : (r z : ℤ) → r ≡ z → SFits w32 z → SFits w16 z → SFits w16 (toZ w32 (ofZ w32 r))
+narrow-fits r z e h g = rw (e, toZ-ofZ h) g
+
+pub narrow-is : (r z : ℤ) → r ≡ z → SFits w32 z → SFits w16 z → toZ w16 (ofZ w16 (toZ w32 (ofZ w32 r))) ≡ z
+narrow-is r z e h g = rw (e, toZ-ofZ h) (toZ-ofZ g)
+
 -- what was written was what was computed
 pub written-is : (v r z : ℤ) → SFits w16 r → r ≡ z → v ≡ toZ w16 (ofZ w16 r) → v ≡ z
 written-is v r z ok e f = f ∙ toZ-ofZ ok ∙ e

@@ -1,6 +1,6 @@
 -- `code::encode_refusal` meets its contract: each answer is the first test that is not passed.
 -- Assumes nothing.
-use mathlib.Core.Path.{_≡_, refl, sym, _∙_}
+use mathlib.Core.Path.{_≡_, refl, sym, ap, ap₂, _∙_}
 use mathlib.Core.Bool.{true}
 use lib.Dec.{eqb}
 use lib.ListN.{length}
@@ -22,13 +22,17 @@ known c = sym (c .before .is-code .ensures) ∙ not-false _ (c .if1 .left)
 good : (c : tie.After-width-of) → width-good (c .width-of .result) ≡ true
 good c = rw (c .width-of .ensures) (width-fine (c .before .before .before .before .args .code))
 
+k-is : (l : tie.After-message-long-of) → let a = l .before .before .before .before .before .before .args in l .message-long-of .result ≡ message-long (width (a .code)) (roots (a .code))
+k-is l = let r = l .before in l .message-long-of .ensures ∙ ap₂ message-long (r .before .width-of .ensures) (r .roots-of .ensures)
+
+n-is : (n : tie.After-long-of) → let a = n .before .before .before .before .before .before .before .args in n .long-of .result ≡ long (width (a .code))
+n-is n = n .long-of .ensures ∙ ap long (n .before .before .before .width-of .ensures)
+
 message-fits : (c : tie.Else2) → let a = c .before .before .before .before .before .before .before .before .args in eqb (length (a .message .now)) (message-long (width (a .code)) (roots (a .code))) ≡ true
-message-fits c =
-    let l = c .before .before in let r = l .before in let w = r .before in
-    eq-eqb _ _ (rw (l .message-long-of .ensures, w .width-of .ensures, r .roots-of .ensures) at (c .if2 .left))
+message-fits c = eq-eqb _ _ (c .if2 .left ∙ k-is (c .before .before))
 
 output-fits : (c : tie.Else3) → let a = c .before .before .before .before .before .before .before .before .before .args in eqb (a .output) (long (width (a .code))) ≡ true
-output-fits c = let n = c .before .before in eq-eqb _ _ (rw (n .long-of .ensures, n .before .before .before .width-of .ensures) at (c .if3 .left))
+output-fits c = eq-eqb _ _ (c .if3 .left ∙ n-is (c .before .before))
 
 returns : tie.Need-returns
 unfolding encode-refusal
@@ -50,12 +54,12 @@ long-of-requires c κs = good (c .before .before)
 returns-2 : tie.Need-returns-2
 unfolding encode-refusal
 returns-2 c = let l = c .before .before in let r = l .before in let w = r .before in
-    rw (known (w .before), ne-eqb _ _ (rw (l .message-long-of .ensures, w .width-of .ensures, r .roots-of .ensures) at (c .if2 .taken))) refl
+    rw (known (w .before), ne-eqb _ _ (λ e. c .if2 .taken (e ∙ sym (k-is l)))) refl
 
 returns-3 : tie.Need-returns-3
 unfolding encode-refusal
 returns-3 c = let e = c .before in let n = e .before in let w = n .before .before .before in
-    rw (known (w .before), message-fits e, ne-eqb _ _ (rw (n .long-of .ensures, w .width-of .ensures) at (c .if3 .taken))) refl
+    rw (known (w .before), message-fits e, ne-eqb _ _ (λ e. c .if3 .taken (e ∙ sym (n-is n)))) refl
 
 symbols-good-requires : tie.Need-symbols-good-requires
 symbols-good-requires c κs = good (c .before .before .before .before .before)

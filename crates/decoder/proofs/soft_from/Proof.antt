@@ -1,7 +1,7 @@
 -- `decoder::soft_from` meets its contract.
 -- Assumes nothing.
-use Rattle.decoder.proofs.Writing.{soft-fits, minus-fits}
-use mir.Facts.{toZ-ofZ}
+use Rattle.decoder.proofs.Writing.{soft-fits, minus-fits, narrow-fits, narrow-is}
+use lib.IntN.{pos, _-ℤ_}
 use native.Mathlib.Omega.{arith}
 use Prim.Native.Nat.{_*_}
 use borrow.Author.Needs.{needs}
@@ -19,15 +19,17 @@ minus-requires c κs = search needs
 
 cast-result : tie.Need-cast-result
 cast-result c = let s = c .before in
-    let g = soft-fits (s .args .zero) (s .args .one) (s .pre .0) (s .pre .1) in
-    let h = minus-fits (2 * s .args .one) (2 * s .args .zero) (omega (arith, s .pre)) (omega (arith, s .pre)) in
-    rw (c .minus .ensures) (rw (toZ-ofZ h) g)
+    let a = s .args in
+    let g = soft-fits (a .zero) (a .one) (s .pre .0) (s .pre .1) in
+    let h = minus-fits (2 * a .one) (2 * a .zero) (omega (arith, s .pre)) (omega (arith, s .pre)) in
+    narrow-fits (c .minus .result) (pos (2 * a .one) -ℤ pos (2 * a .zero)) (c .minus .ensures) h g
 
 returns : tie.Need-returns
 returns c = let s = c .before in
-    let g = soft-fits (s .args .zero) (s .args .one) (s .pre .0) (s .pre .1) in
-    let h = minus-fits (2 * s .args .one) (2 * s .args .zero) (omega (arith, s .pre)) (omega (arith, s .pre)) in
-    rw (c .minus .ensures) (rw (toZ-ofZ h) (toZ-ofZ g))
+    let a = s .args in
+    let g = soft-fits (a .zero) (a .one) (s .pre .0) (s .pre .1) in
+    let h = minus-fits (2 * a .one) (2 * a .zero) (omega (arith, s .pre)) (omega (arith, s .pre)) in
+    narrow-is (c .minus .result) (pos (2 * a .one) -ℤ pos (2 * a .zero)) (c .minus .ensures) h g
 
 pub soft-from-spec : {M : Type 1} → statement M
 soft-from-spec = tie.close (tie.spec mul-minus mul-minus-2 minus-requires cast-result returns)
