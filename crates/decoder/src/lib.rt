@@ -19,7 +19,7 @@ pub struct Decoding {
     pub metric: i32,
 }
 
-// Every entry is row_tables::CAP.
+// Every entry becomes CAP.
 fn clear(g: &mut [u16])
     ensures { λ _. ⌜ (length (now (g .exit)) ≡ length (now (g .entry))) × All cap (now (g .exit)) ⌝ }
 {

@@ -45,7 +45,7 @@ pub record Advanced (size h cap : ℕ) (p z o : List ℕ) (n : ℕ) (to zero one
   pub with-0 : (j : ℕ) → j < 4 → min (lane zero j) (lane zero (4 + j)) ≡ met size h cap p z o 0 n j
   pub with-1 : (j : ℕ) → j < 4 → min (lane one j) (lane one (4 + j)) ≡ met size h cap p z o 1 n j
 
--- what `soft_pass` asks: table 0 is any table of numbers up to cap, the others are made
+-- what `pass` asks: table 0 is any table of numbers up to cap, the others are made
 pub record Pass (q size top big cap : ℕ) (t hs zs os zero one : List ℕ) : Type 0 where
   pub layers : Layers q size top hs zs os
   pub made : Made size big hs zs os 1 t
@@ -54,7 +54,7 @@ pub record Pass (q size top big cap : ℕ) (t hs zs os zero one : List ℕ) : Ty
   pub length-one : length one ≡ length hs * 2 * 4
   pub room : cap + length hs * top + top + big + length hs * top < limit
 
--- a column has two rows of what `soft_pass` writes: its number in layer j is the less of theirs
+-- a column has two rows of what `pass` writes: its number in layer j is the less of theirs
 abbrev pub folded : List ℕ → (i j : ℕ) → ℕ
 folded out i j = min (entry out (i * 2) j) (entry out (i * 2 + 1) j)
 
