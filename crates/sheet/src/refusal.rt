@@ -105,19 +105,12 @@ fn refused_row(sheet: &[u8], at: usize, m: u32) -> u32
     refused_items(sheet, at, words::reliability_form(), 128, 129, 5, n)
 }
 
-pub fn size_of(m: u32) -> u32
-    requires { ⌜ width-good m ≡ true ⌝ }
-    ensures { λ r. ⌜ r ≡ 2 ^ m ⌝ }
-{
-    if m == 3 { 8 } else { 16 }
-}
-
 fn refused_symbols(sheet: &[u8], at: usize, m: u32) -> u32
     requires { ⌜ width-good m ≡ true ⌝ }
     ensures { λ r. ⌜ r ≡ symbol-refusal m (drop at (as-words (now (sheet .entry)))) ⌝ }
 {
     let n = code::long_of(m);
-    let size = size_of(m);
+    let size = field::size(m) as u32;
     refused_items(sheet, at, words::symbol_form(), size, 16, 6, n)
 }
 

@@ -18,8 +18,11 @@ use Rattle.sheet.proofs.refusal.refused_symbols.Tie as tie
 long-of-requires : tie.Need-long-of-requires
 long-of-requires c κs = search needs
 
-size-of-requires : tie.Need-size-of-requires
-size-of-requires c κs = search needs
+size-requires : tie.Need-size-requires
+size-requires c κs = search needs
+
+cast-size : tie.Need-cast-size
+cast-size c = search needs
 
 symbol-form-requires : tie.Need-symbol-form-requires
 symbol-form-requires c κs = search needs
@@ -33,8 +36,8 @@ unfolding symbol-refusal symbol-words symbols
 returns c = let s = c .before .before .before .before .before .args in
     let ws : List ℕ = drop (s .at) (as-words (now (s .sheet))) in
     c .refused-items .ensures
-    ∙ ap₂ (λ (f : Form) (n : ℕ). items-refusal f 6 (outside (c .before .before .size-of .result) 16) (count f n) n ws) (c .before .symbol-form .ensures) (c .before .before .before .long-of .ensures)
-    ∙ ap (λ (x : ℕ). items-refusal symbols 6 (outside x 16) (symbol-words (s .m)) (long (s .m)) ws) (c .before .before .size-of .ensures)
+    ∙ ap₂ (λ (f : Form) (n : ℕ). items-refusal f 6 (outside (c .before .before .size .result) 16) (count f n) n ws) (c .before .symbol-form .ensures) (c .before .before .before .long-of .ensures)
+    ∙ ap (λ (x : ℕ). items-refusal symbols 6 (outside x 16) (symbol-words (s .m)) (long (s .m)) ws) (c .before .before .size .ensures)
     ∙ same-items symbols (lit< tt) 6 (outside (2 ^ s .m) 16) (symbols-good (s .m)) (symbols-outside (s .m)) _ _ ws
 
 pub refused-symbols-spec : {M : Type 1} → statement M
@@ -42,7 +45,8 @@ refused-symbols-spec =
     tie.close
     (tie.spec
     long-of-requires
-    size-of-requires
+    size-requires
+    cast-size
     symbol-form-requires
     refused-items-requires
     returns)
