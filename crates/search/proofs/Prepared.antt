@@ -157,8 +157,8 @@ costs-more wide zs os b x y lz lo ex ey d = record {
 }
 
 -- the costs of all places are those of all positions
-pub costed : (m n : ℕ) (row wide : List ℤ) (zs os : List ℕ) → Spread m n row wide → CostsTo (n * 4) wide zs os → Costed m n row zs os
-costed m n row wide zs os s d = record {
+pub costed : (m n k : ℕ) (row wide : List ℤ) (zs os : List ℕ) → k ≡ n * 4 → Spread m n row wide → CostsTo k wide zs os → Costed m n row zs os
+costed m n k row wide zs os e s d = record {
   zeros = λ i j li lj. d .zeros (i * 4 + j) (omega arith) ∙ ap costZero (s i j li lj);
   ones = λ i j li lj. d .ones (i * 4 + j) (omega arith) ∙ ap costOne (s i j li lj);
 }

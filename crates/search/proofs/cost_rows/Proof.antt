@@ -4,6 +4,7 @@ use native.Mathlib.Omega.{arith}
 use borrow.Author.Needs.{needs}
 use mathlib.Core.Path.{_≡_}
 use Prim.Native.Nat.{_*_}
+use lib.ListN.{length}
 use Rattle.search.proofs.Prepared.{costed}
 use Rattle.search.proofs.cost_rows.Statement.{statement}
 use Rattle.search.proofs.cost_rows.Tie as tie
@@ -29,7 +30,8 @@ same-length-2 c = search needs
 returns : tie.Need-returns
 returns c = let s = c .before .before .before .before .before .before .before .before .before .before .before .before .before in
     let a = s .args in
-    costed (a .m) (a .n) (a .row .now) _ _ _ (c .before .before .before .before .before .before .before .before .before .spread .ensures) (rw (s .pre .length-zs) at (c .before .before .before .before .costs .ensures))
+    let x = c .before .before .before .before .costs in
+    costed (a .m) (a .n) (length (a .zs .now)) (a .row .now) _ (x .last .1 .0) (x .last .1 .1 .0) (s .pre .length-zs) (c .before .before .before .before .before .before .before .before .before .spread .ensures) (x .ensures)
 
 pub cost-rows-spec : {M : Type 1} → statement M
 cost-rows-spec =
