@@ -1,6 +1,6 @@
 // The trellis and the walk at a code and a row: the columns of each code, the costs of a row, the tuples that are its valid configurations, and
 // what a word costs by itself. proofs/Found.antt shows that what trellis and glue then find are the least costs of codewords.
-// Its functions are for the decoder.
+// Its functions are for the decoder and the marker.
 ghost use mathlib.Core.Path.{_≡_};
 ghost use mathlib.Core.Bool.{true};
 ghost use Prim.Native.Nat.{ℕ, _+_, _*_, _/_, _%_, _^_, _<_, _≤_};
