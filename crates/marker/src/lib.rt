@@ -66,6 +66,7 @@ fn excess_with(
     own - (least as u32)
 }
 
+// Each code with buffers of its own sizes.
 fn excess_1(row: &[i16], word: &[u8]) -> u32
     requires { ⌜ Judged 1 (now row) (now word) ⌝ }
     ensures { λ x. ⌜ Short 1 (now (row .entry)) (now (word .entry)) x ⌝ }

@@ -33,20 +33,19 @@ choice-same : (h a b a' b' : ℕ) (v w : ℕ → ℕ) (s : ℕ) → a ≡ a' →
 unfolding choice
 choice-same h a b a' b' v w s ea eb e f = ap₂ (λ (x y : ℕ). bit (leb x y)) (ap₂ (λ (x y : ℕ). x + y) e ea) (ap₂ (λ (x y : ℕ). x + y) f eb)
 
+-- what a bit asks is there for any column that leads to rows
 module _ (q size h : ℕ) (p s z o : List ℕ) (w : TraceRow q size h p s z o) where
-  turned : (u : ℕ) → u < size → xor u h < size
-  turned u l = let e : size ≡ 2 ^ q = w .size-is in omega (arith, X.below q u h (omega arith) (omega (arith, w .inside)))
-
-  pub bit-asks : (j : ℕ) → j < 4 → Bit p j (lane s j) h (lane z j) (lane o j)
-  bit-asks j lj =
+  pub bit-asks : (j : ℕ) → j < 4 → (g : ℕ) → g < size → Bit p j (lane s j) g (lane z j) (lane o j)
+  bit-asks j lj g lg =
       let u : ℕ = lane s j in
       let lu : u < size = w .length-s j lj in
-      let lx : xor u h < size = turned u lu in
+      let e : size ≡ 2 ^ q = w .size-is in
+      let lx : xor u g < size = omega (arith, X.below q u g (omega arith) (omega arith)) in
       record {
         here = omega (arith, w .length-is);
         there = omega (arith, w .length-is);
         room-z = w .room u j lu lj .0;
-        room-o = w .room (xor u h) j lx lj .1;
+        room-o = w .room (xor u g) j lx lj .1;
       }
 
 pick-lt : (size h s b : ℕ) → s < size → xor s h < size → xor s 0 < size → xor s (pick b 0 h) < size

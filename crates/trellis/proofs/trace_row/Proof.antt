@@ -3,7 +3,6 @@
 use Rattle.trellis.specs.Trellis.{pick}
 use lib.ListN.{getD}
 use Rattle.trellis.proofs.Traces.{bit-asks, symbol-same, four-same}
-use Rattle.trellis.proofs.Traces.{bit-asks}
 use Rattle.field.specs.Field.{xor}
 use lib.ListN.{length}
 use native.Mathlib.Omega.{arith}
@@ -26,7 +25,7 @@ array-read-bit-of-3 c = search needs
 bit-of-requires : tie.Need-bit-of-requires
 bit-of-requires c κs = let s = c .before in
     let a = s .args in
-    bit-asks (a .q) (a .size) (a .h) (a .p .now) (a .t4) (a .t6) (a .t7) (s .pre) 0 (omega arith)
+    bit-asks (a .q) (a .size) (a .h) (a .p .now) (a .t4) (a .t6) (a .t7) (s .pre) 0 (omega arith) _ (omega (arith, s .pre .inside))
 
 array-read-bit-of-4 : tie.Need-array-read-bit-of-4
 array-read-bit-of-4 c = search needs
@@ -40,7 +39,7 @@ array-read-bit-of-6 c = search needs
 bit-of-requires-2 : tie.Need-bit-of-requires-2
 bit-of-requires-2 c κs = let s = c .before .before in
     let a = s .args in
-    bit-asks (a .q) (a .size) (a .h) (a .p .now) (a .t4) (a .t6) (a .t7) (s .pre) 1 (omega arith)
+    bit-asks (a .q) (a .size) (a .h) (a .p .now) (a .t4) (a .t6) (a .t7) (s .pre) 1 (omega arith) _ (omega (arith, s .pre .inside))
 
 array-read-bit-of-7 : tie.Need-array-read-bit-of-7
 array-read-bit-of-7 c = search needs
@@ -54,7 +53,7 @@ array-read-bit-of-9 c = search needs
 bit-of-requires-3 : tie.Need-bit-of-requires-3
 bit-of-requires-3 c κs = let s = c .before .before .before in
     let a = s .args in
-    bit-asks (a .q) (a .size) (a .h) (a .p .now) (a .t4) (a .t6) (a .t7) (s .pre) 2 (omega arith)
+    bit-asks (a .q) (a .size) (a .h) (a .p .now) (a .t4) (a .t6) (a .t7) (s .pre) 2 (omega arith) _ (omega (arith, s .pre .inside))
 
 array-read-bit-of-10 : tie.Need-array-read-bit-of-10
 array-read-bit-of-10 c = search needs
@@ -68,7 +67,7 @@ array-read-bit-of-12 c = search needs
 bit-of-requires-4 : tie.Need-bit-of-requires-4
 bit-of-requires-4 c κs = let s = c .before .before .before .before in
     let a = s .args in
-    bit-asks (a .q) (a .size) (a .h) (a .p .now) (a .t4) (a .t6) (a .t7) (s .pre) 3 (omega arith)
+    bit-asks (a .q) (a .size) (a .h) (a .p .now) (a .t4) (a .t6) (a .t7) (s .pre) 3 (omega arith) _ (omega (arith, s .pre .inside))
 
 array-read-after : tie.Need-array-read-after
 array-read-after c = search needs
