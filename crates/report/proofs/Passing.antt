@@ -1,6 +1,7 @@
 -- From one question to the next: the reader yields the question that stands in the sheet's list, and its line follows those before.
 -- Assumes nothing.
 use mathlib.Core.Path.{_≡_, refl, sym, ap, ap₂, _∙_}
+use mathlib.Core.Logic.{_⊎_, inl, inr}
 use mathlib.Core.Bool.{true, _&&_}
 use mathlib.Core.List.{List, [], _∷_, _++_, append-assoc, append-nil}
 use Prim.Native.Nat.{ℕ, zero, suc, _+_, _*_, _≤_, _<_}
@@ -19,64 +20,53 @@ use Rattle.sheet.specs.Promise.{all-bytes, Read-written}
 use Rattle.sheet.proofs.Items.{both}
 use Rattle.sheet.proofs.Trips.{read-written}
 use Rattle.sheet.proofs.Judging.{width-fine, row-long-le, long-le}
-use Rattle.sheet_reader.specs.declared.Cursor.{Cursor}
 use Rattle.sheet_reader.specs.declared.Step.{Step}
 use Rattle.sheet_reader.specs.declared.Yield.{Yield}
 use Rattle.sheet_reader.specs.declared.Yield.the-variants.{Found}
-use Rattle.sheet_reader.specs.Calls.{opened, answered, moved, yielded, filled, question-here, Yield-says}
-use Rattle.sheet_reader.specs.Promise.{after-yields, Yields-in-order}
-use Rattle.sheet_reader.proofs.Says.{standing}
-use Rattle.sheet_reader.proofs.Order.{yields-in-order}
+use Rattle.sheet_reader.specs.Calls.{filled}
+use Rattle.sheet_reader.specs.Within.{Stands, answered, behind, moved, yielded, question-here, Place-says}
+use Rattle.sheet_reader.proofs.Order.{Done, More, cases}
 use Rattle.text.proofs.Writing.{nothing, then}
 use Rattle.report.specs.Listing.{Line, Lines}
 use Rattle.report.specs.Calls.{line-most}
-use Rattle.report.specs.Within.{question, cursor, Put-line, Put-lines, Asked, Lengths}
+use Rattle.report.specs.Within.{question, Put-line, Put-lines, Asked, Lengths}
 
 -- ---- one question
 pub record Read (bs : List ℕ) (at : ℕ) (s : Step) (rs : List ℤ) (ws : List ℕ) : Type 0 where
-  pub row-is : rs ≡ question-here bs (cursor at) .row
-  pub word-is : ws ≡ question-here bs (cursor at) .word
-  pub next-is :
-      let m = width (head-code (getD (as-words bs) at 0)) in cursor (s .next .at) ≡ yielded bs (cursor at) (row-long m) (long m) .next
+  pub row-is : rs ≡ question-here bs at .row
+  pub word-is : ws ≡ question-here bs at .word
+  pub next-is : s .next ≡ behind (head-code (getD (as-words bs) at 0)) at
 
 filled-found : {A : Type 0} (a : Yield) (c n : ℕ) (q o : List A) → a ≡ Found c n → filled a q o ≡ q
 unfolding filled
 filled-found a c n q o e = rw e
 
--- the reader moves past the question, and nothing is refused then either
-moved-on : (a : Yield) (at c n : ℕ) → a ≡ Found c n → cursor (moved a (cursor at) .at) ≡ moved a (cursor at)
-unfolding moved cursor
-moved-on a at c n e = rw e
-
 pub read :
-    (bs : List ℕ) (at b o : ℕ) (s : Step) (rs rs' : List ℤ) (ws ws' : List ℕ) → Asked bs at → Lengths bs at (length rs) (length ws) b o →
-    Yield-says bs (cursor at) s rs rs' ws ws' → Read bs at s rs' ws'
-unfolding yielded answered cursor
-read bs at b o s rs rs' ws ws' k l y =
+    (bs : List ℕ) (i at b o : ℕ) (s : Step) (rs rs' : List ℤ) (ws ws' : List ℕ) → Asked bs i at → Lengths bs at (length rs) (length ws) b o →
+    Place-says bs at s rs rs' ws ws' → Read bs at s rs' ws'
+unfolding yielded answered moved
+read bs i at b o s rs rs' ws ws' k l y =
     let w = getD (as-words bs) at 0 in
     let m = width (head-code w) in
     let er = eq-eqb (length rs) (row-long m) (l .row-is) in
     let ew = eq-eqb (length ws) (long m) (l .word-is) in
     let eh = eq-eqb (kind w) head-kind (k .head) in
-    let found : answered 0 w (length rs) (length ws) ≡ Found (head-code w) (low w) = rw (eh, er, ew) in
+    let found : answered w (length rs) (length ws) ≡ Found (head-code w) (low w) = rw (eh, er, ew) in
     let answer : s .answer ≡ Found (head-code w) (low w) = ap (λ (x : Step). x .answer) (y .step) ∙ found in
-    let next : s .next ≡ moved (answered 0 w (length rs) (length ws)) (cursor at) = ap (λ (x : Step). x .next) (y .step) in
     record {
       row-is = y .row-is ∙ filled-found (s .answer) _ _ _ rs answer;
       word-is = y .word-is ∙ filled-found (s .answer) _ _ _ ws answer;
-      next-is =
-          ap (λ (x : Cursor). cursor (x .at)) next ∙ moved-on (answered 0 w (length rs) (length ws)) at _ _ found
-          ∙ ap₂ (λ x y. moved (answered 0 w x y) (cursor at)) (l .row-is) (l .word-is);
+      next-is = ap (λ (x : Step). x .next) (y .step) ∙ ap (λ (x : Yield). moved x at) found;
     }
 
 -- the question that was read is the one that stands there
 pub here :
     (bs : List ℕ) (at w c n : ℕ) (s : Step) (rs : List ℤ) (ws : List ℕ) → w ≡ getD (as-words bs) at 0 → c ≡ head-code w → n ≡ low w → Read bs at s rs ws →
-    question c n rs ws ≡ question-here bs (cursor at)
-unfolding question question-here question-in cursor
+    question c n rs ws ≡ question-here bs at
+unfolding question question-here question-in
 here bs at w c n s rs ws ew ec en r = rw (ec, en, ew, r .row-is, r .word-is)
 
-pub good-here : {bs : List ℕ} {at : ℕ} {q : Question} → q ≡ question-here bs (cursor at) → Asked bs at → question-good q ≡ true
+pub good-here : {bs : List ℕ} {i at : ℕ} {q : Question} → q ≡ question-here bs at → Asked bs i at → question-good q ≡ true
 good-here e k = rw e (k .good)
 
 -- ---- the next of an accepted sheet
@@ -92,15 +82,21 @@ good-at (p ∷ qs) rest q zero g e = let z : q ≡ p = cc in rw z (both (questio
 good-at (p ∷ qs) rest q (suc i) g e = good-at qs rest q i (both (question-good p) (all-good qs) g .1) e
 
 pub record Next (bs : List ℕ) (i at : ℕ) : Type 0 where
-  pub asked : Asked bs at
-  pub rest : drop i (questions bs) ≡ question-here bs (cursor at) ∷ drop (suc i) (questions bs)
+  pub asked : Asked bs i at
+  pub rest : drop i (questions bs) ≡ question-here bs at ∷ drop (suc i) (questions bs)
+  pub next : Stands bs (suc i) (behind (head-code (getD (as-words bs) at 0)) at)
 
-pub next : (bs : List ℕ) (i at : ℕ) → all-bytes bs ≡ true → sheet-refusal bs ≡ 0 → i < length (questions bs) → cursor at ≡ after-yields i bs → Next bs i at
-unfolding Yields-in-order Read-written yielded cursor
-next bs i at b h l e =
-    let o = yields-in-order bs i 0 0 .question h l in
-    let r : drop i (questions bs) ≡ question-here bs (cursor at) ∷ drop (suc i) (questions bs) = rw e (o .0) in
-    record { asked = record { head = ap (λ (x : Cursor). kind (getD (as-words bs) (x .at) 0)) e ∙ standing _ _ _ _ _ _ (o .1) .head; good = good-at (questions bs) _ _ i (read-written bs b h .0) r }; rest = r }
+pub next : (bs : List ℕ) (i at : ℕ) → all-bytes bs ≡ true → i < length (questions bs) → Stands bs i at → Next bs i at
+unfolding Read-written
+next bs i at b l t = by (cases t)
+  where
+    by : Done t ⊎ More t → Next bs i at
+    by (inl d) = absurd (omega (arith, length-drop i (questions bs), ap length (d .none)))
+    by (inr m) = record {
+      asked = record { stands = t; head = m .head; good = good-at (questions bs) _ _ i (read-written bs b (t .accepted) .0) (m .list) };
+      rest = m .list;
+      next = m .next;
+    }
 
 -- ---- lines
 take-next : {A : Type 0} (l r : List A) (x : A) (i : ℕ) → drop i l ≡ x ∷ r → take (suc i) l ≡ take i l ++ (x ∷ [])
@@ -118,7 +114,7 @@ unfolding Lines
 no-lines bs at o h = record { text = []; lines = refl; written = nothing at o h }
 
 pub more-lines :
-    (bs : List ℕ) (i w : ℕ) {at n k : ℕ} {o p q : List ℕ} → Next bs i w → Put-lines (take i (questions bs)) at o p n → Put-line (question-here bs (cursor w)) n p q k →
+    (bs : List ℕ) (i w : ℕ) {at n k : ℕ} {o p q : List ℕ} → Next bs i w → Put-lines (take i (questions bs)) at o p n → Put-line (question-here bs w) n p q k →
     Put-lines (take (i + 1) (questions bs)) at o q k
 more-lines bs i w x v l =
     record {
@@ -149,17 +145,6 @@ lengths bs at k n a b d e s p q r t =
     record { row-is = p ∙ s .row-is; word-is = q ∙ s .word-is; best-is = r ∙ sym q; soft-is = t ∙ sym p }
 
 -- ---- a turn of the walk
-pub first-place : (bs : List ℕ) → sheet-refusal bs ≡ 0 → cursor 0 ≡ after-yields 0 bs
-unfolding cursor after-yields opened
-first-place bs h = rw h
-
-pub next-place :
-    (bs : List ℕ) (i w v : ℕ) → cursor w ≡ after-yields i bs →
-    (let m = width (head-code (getD (as-words bs) w 0)) in cursor v ≡ yielded bs (cursor w) (row-long m) (long m) .next) → cursor v ≡ after-yields (i + 1) bs
-unfolding cursor after-yields
-next-place bs i w v e h =
-    rw add-one (h ∙ ap (λ (p : Cursor). let m = width (head-code (getD (as-words bs) (p .at) 0)) in yielded bs p (row-long m) (long m) .next) e)
-
 pub next-room : (at i n x k : ℕ) → x ≤ at + i * line-most → i < n → at + n * line-most ≤ k → x + line-most ≤ k
 next-room at i n x k h l r = omega (arith, mul-le-mul-right line-most l, suc-mul i line-most)
 

@@ -9,8 +9,7 @@ use Rattle.code.specs.Code.{width, roots, long}
 use Rattle.code.specs.Bits.{row-long}
 use Rattle.metric.specs.Metric.{Decoded}
 use Rattle.sheet.specs.Sheet.{Question, head-kind, kind, head-code, as-words, question-good, sheet-refusal, questions}
-use Rattle.sheet_reader.specs.declared.Cursor.{Cursor}
-use Rattle.sheet_reader.specs.Calls.{question-here, yielded}
+use Rattle.sheet_reader.specs.Within.{Stands, behind, question-here}
 use Rattle.text.specs.Within.{Written}
 use Rattle.report.specs.declared.Place.{Place}
 use Rattle.report.specs.Listing.{Line, Lines}
@@ -37,14 +36,11 @@ pub record Put-lines (qs : List Question) (at : ℕ) (o p : List ℕ) (next : �
   pub lines : Lines qs text
   pub written : Written at text o p next
 
--- a reader of an accepted sheet that stands at a word
-unfoldable pub cursor : (word : ℕ) → Cursor
-cursor w = record { refusal = 0; at = w }
-
--- a question that a sheet can hold begins at a word
-pub record Asked (bs : List ℕ) (word : ℕ) : Type 0 where
+-- question i of an accepted sheet begins at a word, and a sheet can hold it
+pub record Asked (bs : List ℕ) (i word : ℕ) : Type 0 where
+  pub stands : Stands bs i word
   pub head : kind (getD (as-words bs) word 0) ≡ head-kind
-  pub good : question-good (question-here bs (cursor word)) ≡ true
+  pub good : question-good (question-here bs word) ≡ true
 
 -- the buffers have the lengths of that question
 pub record Lengths (bs : List ℕ) (word row-long-is long-is best-long soft-long : ℕ) : Type 0 where
@@ -55,10 +51,8 @@ pub record Lengths (bs : List ℕ) (word row-long-is long-is best-long soft-long
 
 -- the question was passed and its line was written
 pub record Passed (bs : List ℕ) (from to : Place) (o p : List ℕ) : Type 0 where
-  pub line : Put-line (question-here bs (cursor (from .word))) (from .text) o p (to .text)
-  pub next :
-      let m = width (head-code (getD (as-words bs) (from .word) 0)) in
-      cursor (to .word) ≡ yielded bs (cursor (from .word)) (row-long m) (long m) .next
+  pub line : Put-line (question-here bs (from .word)) (from .text) o p (to .text)
+  pub next : to .word ≡ behind (head-code (getD (as-words bs) (from .word) 0)) (from .word)
 
 -- an accepted sheet of so many questions
 pub record Accepted (bs : List ℕ) (count : ℕ) : Type 0 where

@@ -1,14 +1,13 @@
 // The listing of a sheet, written into a lent output. `list` is offered to callers: it takes any bytes and promises by
 // specs/Calls.antt that the text is the one that specs/Listing.antt says.
-use sheet_reader::Cursor;
 ghost use mathlib.Core.Path.{_≡_};
 ghost use mathlib.Core.Bool.{true};
-ghost use Prim.Native.Nat.{_+_, _*_, _≤_};
+ghost use Prim.Native.Nat.{ℕ, _+_, _*_, _≤_};
 ghost use lib.ListN.{length, getD};
 ghost use Rattle.code.specs.Code.{width, long};
 ghost use Rattle.code.specs.Bits.{row-long};
 ghost use Rattle.sheet.specs.Sheet.{as-words, head-code, question-good, sheet-refusal, questions};
-ghost use Rattle.sheet_reader.specs.Calls.{question-here, yielded};
+ghost use Rattle.sheet_reader.specs.Within.{question-here};
 ghost use Rattle.report.specs.Calls.{line-most, List-says};
 ghost use Rattle.report.specs.Within.{question, Answered, Asked, Lengths, Passed, Accepted, Put-line, Put-lines};
 
@@ -61,7 +60,7 @@ fn put_read(
     soft: &mut [i16],
     out: &mut [u8],
 ) -> Place
-    requires { ⌜ Asked (now sheet) (place .word) ⌝ }
+    requires { ⌜ ((i : ℕ) × Asked (now sheet) i (place .word)) ⌝ }
     requires { ⌜ Lengths (now sheet) (place .word) (length (now row)) (length (now word)) (length (now best)) (length (now soft)) ⌝ }
     requires { ⌜ place .text + line-most ≤ length (now out) ⌝ }
     ensures { λ r. ⌜ Passed (now (sheet .entry)) place r (now (out .entry)) (now (out .exit)) ⌝ }
@@ -70,20 +69,17 @@ fn put_read(
     let w = sheet::words::word_at(sheet, at);
     let code = sheet::words::head_code_of(w);
     let number = sheet::words::low_of(w);
-    let step = sheet_reader::question_at(sheet, Cursor { refusal: 0, at }, row, word);
+    let step = sheet_reader::question_at(sheet, at, row, word);
     let decoding = decoder::decode(code, row, best, soft);
     let metric = decoding.metric;
     let text = put_answer(code, number, metric, row, word, soft, out, place.text);
     let next = step.next;
-    Place {
-        word: next.at,
-        text,
-    }
+    Place { word: next, text }
 }
 
 // The same, with room of its own.
 fn put_next(sheet: &[u8], place: Place, out: &mut [u8]) -> Place
-    requires { ⌜ Asked (now sheet) (place .word) ⌝ }
+    requires { ⌜ ((i : ℕ) × Asked (now sheet) i (place .word)) ⌝ }
     requires { ⌜ place .text + line-most ≤ length (now out) ⌝ }
     ensures { λ r. ⌜ Passed (now (sheet .entry)) place r (now (out .entry)) (now (out .exit)) ⌝ }
 {

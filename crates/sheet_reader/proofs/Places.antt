@@ -43,7 +43,7 @@ use Rattle.sheet.specs.Sheet.{
 }
 use Rattle.sheet.specs.Calls.{judgement, judged}
 use Rattle.sheet_reader.specs.declared.Yield.the-variants.{Found, NoneLeft, Refused}
-use Rattle.sheet_reader.specs.Calls.{answered}
+use Rattle.sheet_reader.specs.Within.{answered}
 
 cond-le : (t : Bool) (a b k : ℕ) → a ≤ k → b ≤ k → cond t a b ≤ k
 cond-le true a b k p q = p
@@ -114,24 +114,19 @@ unfolding judged
 judged-large bs h = judgement-large (sheet-refusal bs) (length (questions bs)) (sheet-le bs) h
 
 -- the answer at a word, test by test
-pub answered-refused : (e w r n : ℕ) → (e ≡ 0 → ⊥) → answered e w r n ≡ Refused e
-unfolding answered
-answered-refused zero w r n h = absurd (h refl)
-answered-refused (suc e) w r n h = refl
-
 module _ (w r n : ℕ) where
-  pub answered-none : (kind w ≡ head-kind → ⊥) → answered 0 w r n ≡ NoneLeft
+  pub answered-none : (kind w ≡ head-kind → ⊥) → answered w r n ≡ NoneLeft
   unfolding answered
   answered-none h = rw (ne-eqb (kind w) head-kind h)
 
-  pub answered-row : kind w ≡ head-kind → (r ≡ row-long (width (head-code w)) → ⊥) → answered 0 w r n ≡ Refused 4
+  pub answered-row : kind w ≡ head-kind → (r ≡ row-long (width (head-code w)) → ⊥) → answered w r n ≡ Refused 4
   unfolding answered
   answered-row h l = rw (eq-eqb (kind w) head-kind h, ne-eqb r (row-long (width (head-code w))) l)
 
-  pub answered-word : kind w ≡ head-kind → r ≡ row-long (width (head-code w)) → (n ≡ long (width (head-code w)) → ⊥) → answered 0 w r n ≡ Refused 4
+  pub answered-word : kind w ≡ head-kind → r ≡ row-long (width (head-code w)) → (n ≡ long (width (head-code w)) → ⊥) → answered w r n ≡ Refused 4
   unfolding answered
   answered-word h l k = rw (eq-eqb (kind w) head-kind h, eq-eqb r (row-long (width (head-code w))) l, ne-eqb n (long (width (head-code w))) k)
 
-  pub answered-found : kind w ≡ head-kind → r ≡ row-long (width (head-code w)) → n ≡ long (width (head-code w)) → answered 0 w r n ≡ Found (head-code w) (low w)
+  pub answered-found : kind w ≡ head-kind → r ≡ row-long (width (head-code w)) → n ≡ long (width (head-code w)) → answered w r n ≡ Found (head-code w) (low w)
   unfolding answered
   answered-found h l k = rw (eq-eqb (kind w) head-kind h, eq-eqb r (row-long (width (head-code w))) l, eq-eqb n (long (width (head-code w))) k)

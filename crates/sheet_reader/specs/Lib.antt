@@ -1,3 +1,2 @@
 pub mod Calls
-pub mod Steps
-pub mod Promise
+pub mod Within

@@ -1,24 +1,17 @@
-// The questions of a sheet, one at a time, into lent outputs. `open` checks the whole sheet and gives the place of its first
-// question; `question_at` answers at a place. `question_of` answers by a question's place in the list. All three take any
-// input and promise what specs/Calls.antt says.
+// The questions of a sheet into lent outputs. `question_of` is offered to callers: it takes any input and promises what specs/Calls.antt
+// says. `question_at` is for the crates above, which read an accepted sheet from its first question on.
 ghost use mathlib.Core.Path.{_≡_};
 ghost use mathlib.Core.Bool.{true};
-ghost use Prim.Native.Nat.{_+_, _/_, _<_};
+ghost use Prim.Native.Nat.{ℕ, _+_, _/_, _<_};
 ghost use lib.ListN.{length, getD, drop};
 ghost use Rattle.field.specs.Field.{width-good};
 ghost use Rattle.code.specs.Code.{long};
 ghost use Rattle.code.specs.Bits.{row-long};
 ghost use Rattle.sheet.specs.Sheet.{as-words};
-ghost use Rattle.sheet_reader.specs.Calls.{opened, answered, Read-says, Yield-says, Choice-says};
-ghost use Rattle.sheet_reader.specs.Steps.{skipped};
+ghost use Rattle.sheet_reader.specs.Calls.{Choice-says};
+ghost use Rattle.sheet_reader.specs.Within.{Stands, answered, Read-says, Place-says, skipped};
 
 mod items;
-
-// Where a reader stands: the refusal of its sheet, and the word at which the next question begins.
-pub struct Cursor {
-    pub refusal: u32,
-    pub at: usize,
-}
 
 // What a reader answers: a question, that none is left, or a refusal.
 pub enum Yield {
@@ -27,33 +20,16 @@ pub enum Yield {
     Refused(u32),
 }
 
-// An answer, and where the reader stands then.
+// An answer, and the word at which the next question begins.
 pub struct Step {
     pub answer: Yield,
-    pub next: Cursor,
+    pub next: usize,
 }
 
-// The whole sheet is checked here, before any question is yielded.
-pub fn open(sheet: &[u8]) -> Cursor
-    ensures { λ r. ⌜ r ≡ opened (now (sheet .entry)) ⌝ }
+// The answer at a place of an accepted sheet, for outputs of these lengths.
+fn answer_at(sheet: &[u8], at: usize, row: usize, word: usize) -> Yield
+    ensures { λ r. ⌜ r ≡ answered (getD (as-words (now (sheet .entry))) at 0) row word ⌝ }
 {
-    let judged = sheet::judge_sheet(sheet);
-    if judged < 100 {
-        return Cursor {
-            refusal: judged,
-            at: 0,
-        };
-    }
-    Cursor { refusal: 0, at: 0 }
-}
-
-// The answer at a place, for outputs of these lengths.
-fn answer_at(sheet: &[u8], refusal: u32, at: usize, row: usize, word: usize) -> Yield
-    ensures { λ r. ⌜ r ≡ answered refusal (getD (as-words (now (sheet .entry))) at 0) row word ⌝ }
-{
-    if refusal != 0 {
-        return Yield::Refused(refusal);
-    }
     let w = sheet::words::word_at(sheet, at);
     if sheet::words::kind_of(w) != sheet::words::HEAD {
         return Yield::NoneLeft;
@@ -84,13 +60,13 @@ fn read_question(sheet: &[u8], at: usize, m: u32, row: &mut [i16], word: &mut [u
     items::read_symbols(sheet, at + 1 + sheet::words::row_words_of(m), word);
 }
 
-// The question at a place, with the next place; none left and a refusal keep the place and the outputs.
-pub fn question_at(sheet: &[u8], cursor: Cursor, row: &mut [i16], word: &mut [u8]) -> Step
-    ensures { λ r. ⌜ Yield-says (now (sheet .entry)) cursor r (now (row .entry)) (now (row .exit)) (now (word .entry)) (now (word .exit)) ⌝ }
+// The question that begins at a place of an accepted sheet, with the place behind it; none left and a refusal keep the place and the
+// outputs.
+pub fn question_at(sheet: &[u8], at: usize, row: &mut [i16], word: &mut [u8]) -> Step
+    requires { ⌜ ((i : ℕ) × Stands (now sheet) i at) ⌝ }
+    ensures { λ r. ⌜ Place-says (now (sheet .entry)) at r (now (row .entry)) (now (row .exit)) (now (word .entry)) (now (word .exit)) ⌝ }
 {
-    let at = cursor.at;
-    let refusal = cursor.refusal;
-    let answer = answer_at(sheet, refusal, at, row.len(), word.len());
+    let answer = answer_at(sheet, at, row.len(), word.len());
     let mut next = at;
     match answer {
         Yield::Found { code, number: _ } => {
@@ -100,10 +76,7 @@ pub fn question_at(sheet: &[u8], cursor: Cursor, row: &mut [i16], word: &mut [u8
         Yield::NoneLeft => {}
         Yield::Refused(_) => {}
     }
-    Step {
-        answer,
-        next: Cursor { refusal, at: next },
-    }
+    Step { answer, next }
 }
 
 // The place after so many questions, or of the end.
@@ -123,13 +96,15 @@ fn place_of(sheet: &[u8], index: usize) -> usize
     at
 }
 
-// The question that has so many before it. The whole sheet is checked at each call; a reader checks it once.
+// The question that has so many others before it. The whole sheet is checked at each call, so that there is no place to be believed.
 pub fn question_of(sheet: &[u8], index: usize, row: &mut [i16], word: &mut [u8]) -> Yield
     ensures { λ r. ⌜ Choice-says (now (sheet .entry)) index r (now (row .entry)) (now (row .exit)) (now (word .entry)) (now (word .exit)) ⌝ }
 {
-    let start = open(sheet);
-    let refusal = start.refusal;
+    let judged = sheet::judge_sheet(sheet);
+    if judged < 100 {
+        return Yield::Refused(judged);
+    }
     let at = place_of(sheet, index);
-    let step = question_at(sheet, Cursor { refusal, at }, row, word);
+    let step = question_at(sheet, at, row, word);
     step.answer
 }

@@ -2,7 +2,6 @@
 -- Assumes nothing.
 use Rattle.report.proofs.Passing.{read, here, good-here}
 use Rattle.report.proofs.Answering.{answered}
-use Rattle.report.specs.Within.{cursor}
 use mathlib.Core.Path.{sym, _∙_}
 use mir.Syntax.{w32}
 use mir.Facts.{toZ-ofZ}
@@ -21,17 +20,16 @@ low-of-requires : tie.Need-low-of-requires
 low-of-requires c κs = search needs
 
 question-at-requires : tie.Need-question-at-requires
-question-at-requires c κs = search needs
+question-at-requires c κs = let s = c .before .before .before .before .before .before .before .before .before in (s .pre .0 .0, s .pre .0 .1 .stands)
 
 decode-requires : tie.Need-decode-requires
 decode-requires c κs = search needs
 
 put-answer-requires : tie.Need-put-answer-requires
-unfolding cursor
 put-answer-requires c κs = let d = c .before .before .before .before .before .before .before .before in let y = d .before .before .before .before .before .before .before in let s = y .before .before .before .before .before .before .before .before .before .before in let bs = now (s .args .sheet) in let at = s .args .place .word in
-    let r = read bs at _ _ (y .question-at .result) _ _ _ _ (s .pre .0) (s .pre .1 .0) (y .question-at .ensures) in
+    let r = read bs (s .pre .0 .0) at _ _ (y .question-at .result) _ _ _ _ (s .pre .0 .1) (s .pre .1 .0) (y .question-at .ensures) in
     let h = here bs at _ _ _ (y .question-at .result) _ _ (y .before .before .before .before .before .word-at .ensures) (y .before .before .before .before .head-code-of .ensures) (y .before .before .before .low-of .ensures) r in
-    let g = good-here h (s .pre .0) in
+    let g = good-here h (s .pre .0 .1) in
     let e = toZ-ofZ {w = w32} {z = d .decode .result .metric} (record { sfits = c .before .before .before .before .struct-told .given .1 .0 .1 }) in
     let k = y .question-at .kept in
     (g, (rw e (answered _ _ _ _ (d .decode .result) _ _ _ _ g (s .pre .1 .0 .best-is ∙ sym (k .1 .1 .1 .0)) (s .pre .1 .0 .soft-is ∙ sym (k .1 .1 .0)) (d .decode .ensures)), s .pre .1 .1))
@@ -52,11 +50,10 @@ same-length-5 : tie.Need-same-length-5
 same-length-5 c = search needs
 
 returns : tie.Need-returns
-unfolding cursor
-returns c = let y = c .before .before .before .before .before .before .before .before .before .before .before .before .before .before .before .before .before .before .before in let s = y .before .before .before .before .before .before .before .before .before .before in let bs = now (s .args .sheet) in let at = s .args .place .word in
-    let r = read bs at _ _ (y .question-at .result) _ _ _ _ (s .pre .0) (s .pre .1 .0) (y .question-at .ensures) in
+returns c = let y = c .before .before .before .before .before .before .before .before .before .before .before .before .before .before .before .before .before .before in let s = y .before .before .before .before .before .before .before .before .before .before in let bs = now (s .args .sheet) in let at = s .args .place .word in
+    let r = read bs (s .pre .0 .0) at _ _ (y .question-at .result) _ _ _ _ (s .pre .0 .1) (s .pre .1 .0) (y .question-at .ensures) in
     let h = here bs at _ _ _ (y .question-at .result) _ _ (y .before .before .before .before .before .word-at .ensures) (y .before .before .before .before .head-code-of .ensures) (y .before .before .before .low-of .ensures) r in
-    record { line = rw h at (c .before .before .before .put-answer .ensures); next = r .next-is }
+    record { line = rw h at (c .before .before .put-answer .ensures); next = r .next-is }
 
 pub put-read-spec : {M : Type 1} → statement M
 put-read-spec =

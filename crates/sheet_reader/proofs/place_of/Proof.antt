@@ -8,7 +8,7 @@ use denote.Ref.{now}
 use Rattle.code.specs.Code.{width}
 use Rattle.sheet.specs.Sheet.{as-words, kind, head-code, head-kind, row-words, symbol-words}
 use Rattle.sheet.proofs.Judging.{width-fine, row-words-le, symbol-words-le}
-use Rattle.sheet_reader.specs.Steps.{skipped}
+use Rattle.sheet_reader.specs.Within.{behind, skipped}
 use Rattle.sheet_reader.proofs.Says.{inside}
 use Rattle.sheet_reader.proofs.Choice.{skip-none, skip-end, skip-more}
 use borrow.Author.Needs.{needs}
@@ -65,6 +65,7 @@ loop-less : tie.Need-loop-less Inv-loop μ-loop
 loop-less c = search needs
 
 loop-again : tie.Need-loop-again Inv-loop μ-loop
+unfolding behind
 loop-again c = let e = c .before .before in let w = e .before .before in let a = w .before .before in let ws : List ℕ = as-words (now (a .before .before .args .sheet)) in
     a .loop .inv ∙ skip-more ws (a .loop .at) (a .loop .left) (w .before .loop-test .taken) (head e)
     ∙ ap (λ (x : ℕ). skipped (a .loop .left - 1) ws (a .loop .at + (1 + x)))

@@ -10,7 +10,7 @@ use Rattle.code.specs.Code.{width, long}
 use Rattle.code.specs.Bits.{row-long}
 use Rattle.sheet.specs.Sheet.{as-words}
 use Rattle.sheet.proofs.Judging.{width-fine, row-words-le, symbol-words-le}
-use Rattle.sheet_reader.specs.Calls.{Read-says}
+use Rattle.sheet_reader.specs.Within.{behind, Read-says}
 use Rattle.sheet_reader.proofs.Says.{Standing, standing, inside, says-found, says-none, says-refused}
 use native.Mathlib.Omega.{arith}
 use borrow.Author.Needs.{needs}
@@ -19,10 +19,10 @@ use Rattle.sheet_reader.proofs.question_at.Tie as tie
 
 -- the question that was found
 found : (c : tie.After-answer) → let s = c .before .before .before .before .before .args in
-    Standing (s .cursor .refusal) (getD (as-words (now (s .sheet))) (s .cursor .at) 0) (length (now (s .row))) (length (now (s .word))) (c .answer .given .0 .0) (c .answer .given .0 .1 .0)
+    Standing (getD (as-words (now (s .sheet))) (s .at) 0) (length (now (s .row))) (length (now (s .word))) (c .answer .given .0 .0) (c .answer .given .0 .1 .0)
 found c =
     let s = c .before .before .before .before .before .args in
-    standing (s .cursor .refusal) (getD (as-words (now (s .sheet))) (s .cursor .at) 0) (length (now (s .row))) (length (now (s .word))) (c .answer .given .0 .0) (c .answer .given .0 .1 .0)
+    standing (getD (as-words (now (s .sheet))) (s .at) 0) (length (now (s .row))) (length (now (s .word))) (c .answer .given .0 .0) (c .answer .given .0 .1 .0)
     (sym (c .before .before .answer-at .ensures) ∙ c .answer .given .1)
 
 width-is : (c : tie.After-width-of) → c .width-of .result ≡ width (c .before .before .answer .given .0 .0)
@@ -48,7 +48,7 @@ read-question-requires c κs = let w = c .before .before in let a = w .before .b
     let s = a .before .before .before .before .before .args in (
       ap width-good (width-is w) ∙ width-fine k,
       (
-        inside (now (s .sheet)) (s .cursor .at) (t .head),
+        inside (now (s .sheet)) (s .at) (t .head),
         (t .row-long-is ∙ ap row-long (sym (width-is w ∙ ap width (t .code-is))), t .long-is ∙ ap long (sym (width-is w ∙ ap width (t .code-is)))),
       ),
     )
@@ -62,7 +62,7 @@ add-next c = omega (arith, few c)
 add-next-2 : tie.Need-add-next-2
 add-next-2 c = let a = c .before .before .before .before .before .before .before .before .before in
     let s = a .before .before .before .before .before .args in
-    omega (arith, few c, inside (now (s .sheet)) (s .cursor .at) (found a .head))
+    omega (arith, few c, inside (now (s .sheet)) (s .at) (found a .head))
 
 enum-told : tie.Need-enum-told
 enum-told c = search needs
@@ -77,21 +77,22 @@ same-length-2 : tie.Need-same-length-2
 same-length-2 c = search needs
 
 returns : tie.Need-returns
+unfolding behind
 returns c = let q = c .before .before .before .before in
     let w = q .before .before .before in
     let a = w .before .before in
     let s = a .before .before .before .before .before .args in
     let ws : List ℕ = as-words (now (s .sheet)) in
-    says-found (now (s .sheet)) (s .cursor) (now (s .row)) (now (s .word)) _ _ (a .answer .given .0 .0) (a .answer .given .0 .1 .0) _
+    says-found (now (s .sheet)) (s .at) (now (s .row)) (now (s .word)) _ _ (a .answer .given .0 .0) (a .answer .given .0 .1 .0) _
     (sym (a .before .before .answer-at .ensures) ∙ a .answer .given .1)
-    (ap (λ (x : ℕ). s .cursor .at + (1 + x)) (c .question-words-of .ensures))
-    (subst (λ (m : ℕ). Read-says m (drop (s .cursor .at + 1) ws) (q .read-question .last .1 .1 .1 .0) (q .read-question .last .1 .1 .1 .1 .0)) (width-is w) (q .read-question .ensures))
+    (ap (λ (x : ℕ). s .at + (1 + x)) (c .question-words-of .ensures))
+    (subst (λ (m : ℕ). Read-says m (drop (s .at + 1) ws) (q .read-question .last .1 .1 .1 .0) (q .read-question .last .1 .1 .1 .1 .0)) (width-is w) (q .read-question .ensures))
 
 returns-2 : tie.Need-returns-2
-returns-2 c = let s = c .before .before .before .before .before .args in says-none (now (s .sheet)) (s .cursor) (now (s .row)) (now (s .word)) (c .before .before .answer-at .result) (c .before .before .answer-at .ensures) (c .enum-told .given .1)
+returns-2 c = let s = c .before .before .before .before .before .args in says-none (now (s .sheet)) (s .at) (now (s .row)) (now (s .word)) (c .before .before .answer-at .result) (c .before .before .answer-at .ensures) (c .enum-told .given .1)
 
 returns-3 : tie.Need-returns-3
-returns-3 c = let s = c .before .before .before .before .before .args in says-refused (now (s .sheet)) (s .cursor) (now (s .row)) (now (s .word)) (c .before .before .answer-at .result) _ (c .before .before .answer-at .ensures) (c .enum-told2 .given .1)
+returns-3 c = let s = c .before .before .before .before .before .args in says-refused (now (s .sheet)) (s .at) (now (s .row)) (now (s .word)) (c .before .before .answer-at .result) _ (c .before .before .answer-at .ensures) (c .enum-told2 .given .1)
 
 pub question-at-spec : {M : Type 1} → statement M
 question-at-spec =

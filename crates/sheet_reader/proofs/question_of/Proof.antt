@@ -1,26 +1,30 @@
 -- `sheet_reader::question_of` meets its contract.
 -- Assumes nothing.
-use mathlib.Core.Path.{ap, ap₂, subst}
-use Prim.Native.Nat.{ℕ}
 use denote.Ref.{now}
-use Rattle.sheet_reader.specs.declared.Cursor.{Cursor}
-use Rattle.sheet_reader.specs.Calls.{opened, Yield-says}
-use Rattle.sheet_reader.proofs.Choice.{choice}
+use Rattle.sheet_reader.specs.Within.{Stands}
+use Rattle.sheet_reader.proofs.Places.{judged-large}
+use Rattle.sheet_reader.proofs.Choice.{place-there, refused, choice}
 use borrow.Author.Needs.{needs}
 use Rattle.sheet_reader.proofs.question_of.Statement.{statement}
 use Rattle.sheet_reader.proofs.question_of.Tie as tie
 
-abbrev place : (refusal at : ℕ) → Cursor
-place e n = record { refusal = e; at = n }
+-- the place of the question in an accepted sheet
+there : (c : tie.After-place-of) → let s = c .before .before .before .before .before .args in Stands (now (s .sheet)) (s .index) (c .place-of .result)
+there c =
+    let s = c .before .before .before .before .before .args in
+    rw (c .place-of .ensures) (place-there (now (s .sheet)) (s .index) (judged-large (now (s .sheet)) (rw (c .before .before .judge-sheet .ensures) at (c .before .if1 .left))))
 
-open-requires : tie.Need-open-requires
-open-requires c κs = search needs
+judge-sheet-requires : tie.Need-judge-sheet-requires
+judge-sheet-requires c κs = search needs
+
+returns : tie.Need-returns
+returns c = let s = c .before .before .before .before .args in refused (now (s .sheet)) (s .index) _ _ _ (c .before .judge-sheet .ensures) (c .if1 .taken)
 
 place-of-requires : tie.Need-place-of-requires
 place-of-requires c κs = search needs
 
 question-at-requires : tie.Need-question-at-requires
-question-at-requires c κs = search needs
+question-at-requires c κs = (_, there (c .before .before))
 
 same-length : tie.Need-same-length
 same-length c = search needs
@@ -28,20 +32,17 @@ same-length c = search needs
 same-length-2 : tie.Need-same-length-2
 same-length-2 c = search needs
 
-returns : tie.Need-returns
-unfolding opened
-returns c = let q = c .before .before .before in let p = q .before .before .before in let o = p .before in let s = o .before .before .before .args in
-    choice (now (s .sheet)) (s .index) (now (s .row)) _ (now (s .word)) _ (q .question-at .result)
-    (subst (λ (x : Cursor). Yield-says (now (s .sheet)) x (q .question-at .result) (now (s .row)) (q .question-at .last .1 .1 .0) (now (s .word)) (q .question-at .last .1 .1 .1 .0))
-    (ap₂ place (ap (λ (x : Cursor). x .refusal) (o .open .ensures)) (p .place-of .ensures)) (q .question-at .ensures))
+returns-2 : tie.Need-returns-2
+returns-2 c = let q = c .before .before .before in choice (there (q .before .before .before)) (q .question-at .ensures)
 
 pub question-of-spec : {M : Type 1} → statement M
 question-of-spec =
     tie.close
     (tie.spec
-    open-requires
+    judge-sheet-requires
+    returns
     place-of-requires
     question-at-requires
     same-length
     same-length-2
-    returns)
+    returns-2)
