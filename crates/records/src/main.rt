@@ -3,6 +3,7 @@ mod codes;
 mod decodings;
 mod fields;
 mod marks;
+mod paper;
 mod samples;
 mod sheets;
 mod splits;

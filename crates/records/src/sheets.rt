@@ -1,4 +1,6 @@
-// Sheets: a row value of 127 taken and -128 refused by 5, 200 questions taken and 201 refused by 12, and an empty sheet file.
+// Sheets: a row value of 127 taken and -128 refused by 5, 200 questions taken and 201 refused by 12, and an empty sheet file. Sheets are read
+// by a reader over them; a reader that nobody handed out gets no other answer; and what was read is written again.
+use crate::paper;
 use crate::tally::Tally;
 use sheet_reader::Yield;
 
@@ -10,6 +12,8 @@ pub fn agree() -> Tally {
         .plus(two_hundred())
         .plus(one_too_many())
         .plus(empty())
+        .plus(made_up())
+        .plus(paper::agree())
 }
 
 // A sheet of one question of code 1, all 127, is written, judged and read back; with another last reliability it is judged again.
@@ -29,20 +33,22 @@ fn rows() -> Tally {
 fn reads(sheet: &[u8; 44]) -> Tally {
     let mut row = [9i16; 21];
     let mut word = [9u8; 7];
-    let start = sheet_reader::open(sheet);
-    let first = sheet_reader::question_at(sheet, start, &mut row, &mut word);
+    let first = lent_reader::read_from(sheet, 0, &mut row, &mut word);
     let answer = first.answer;
-    let place = first.next;
-    let second = sheet_reader::question_at(sheet, place, &mut row, &mut word);
+    let next = first.next;
+    let second = lent_reader::read_from(sheet, next, &mut row, &mut word);
     let then = second.answer;
+    let stays = second.next;
     Tally::none()
         .with(is_found(answer, 1, 7))
         .places(&row, &[127i16; 21])
         .with(check::same(&word, &[0u8; 7]))
+        .with(next == 1)
         .with(is_none(then))
+        .with(stays == 1)
 }
 
-fn is_found(y: Yield, c: u32, n: u32) -> bool {
+pub fn is_found(y: Yield, c: u32, n: u32) -> bool {
     match y {
         Yield::Found { code, number } => code == c && number == n,
         Yield::NoneLeft => false,
@@ -118,8 +124,52 @@ fn with_one_more(sheet: [u8; 8004]) -> [u8; 8044] {
 }
 
 fn empty() -> Tally {
-    let start = sheet_reader::open(&[]);
     Tally::none()
         .with(sheet::judge_sheet(&[]) == 9)
-        .with(start.refusal == 9)
+        .plus(refuses(&[], 0, 9))
+}
+
+// Readers at places that nobody handed out: a sheet of one head of code 9 is refused, whatever the place, and so are bytes behind the end;
+// past the questions of a good sheet none is left.
+fn made_up() -> Tally {
+    let mut sheet = [9u8; 44];
+    let number = sheet_writer::write_sheet(&[1], &[7], &[127i16; 21], &[0u8; 7], &mut sheet);
+    refuses(&[0, 0, 0, 0x19], 0, 1)
+        .plus(refuses(&[0, 0, 0, 0x19], 1, 1))
+        .plus(refuses(&[0, 0, 0, 0xf0, 0, 0, 0, 0x11], 1, 13))
+        .with(number == 0)
+        .plus(has_none(&sheet, 3))
+        .plus(has_none(&sheet, 18446744073709551615))
+}
+
+fn refuses(sheet: &[u8], at: usize, number: u32) -> Tally {
+    let mut row = [9i16; 21];
+    let mut word = [9u8; 7];
+    let step = lent_reader::read_from(sheet, at, &mut row, &mut word);
+    let answer = step.answer;
+    Tally::none()
+        .with(is_refused(answer, number))
+        .with(step.next == at)
+        .places(&row, &[9i16; 21])
+        .with(check::same(&word, &[9u8; 7]))
+}
+
+fn has_none(sheet: &[u8; 44], at: usize) -> Tally {
+    let mut row = [9i16; 21];
+    let mut word = [9u8; 7];
+    let step = lent_reader::read_from(sheet, at, &mut row, &mut word);
+    let answer = step.answer;
+    Tally::none()
+        .with(is_none(answer))
+        .with(step.next == at)
+        .places(&row, &[9i16; 21])
+        .with(check::same(&word, &[9u8; 7]))
+}
+
+fn is_refused(y: Yield, e: u32) -> bool {
+    match y {
+        Yield::Found { code: _, number: _ } => false,
+        Yield::NoneLeft => false,
+        Yield::Refused(number) => number == e,
+    }
 }
