@@ -10,8 +10,8 @@
  *   - A count is at most PTRDIFF_MAX bytes' worth of elements, as that of any C object is.
  *
  * Every pointer belongs to the caller, and no call keeps one. Nothing is allocated, there is no global state, and nothing is locked: any
- * number of threads may call at once, each with its own outputs. A call takes less than 64 KiB of stack (tested, not proved), and of the C
- * library memset and memcpy alone. Counts are in elements.
+ * number of threads may call at once, each with its own outputs. A call takes less than 64 KiB of stack, and of the C library memset alone
+ * (both tested, not proved). Counts are in elements.
  */
 #ifndef TUGZECK_H
 #define TUGZECK_H
