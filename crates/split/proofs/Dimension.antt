@@ -120,7 +120,7 @@ join-below : (xs ds : List ℕ) → Below 2 xs → Below 2 ds → Below 2 (xs ++
 join-below [] ds p q = q
 join-below (x ∷ xs) ds p q = (p .0, join-below xs ds (p .1) q)
 
-xor-zero : (a b : ℕ) → xor a b ≡ 0 → a ≡ b
+pub xor-zero : (a b : ℕ) → xor a b ≡ 0 → a ≡ b
 xor-zero a b e = sym (sym (X.cancel a b) ∙ ap (xor a) e ∙ X.zero-r a)
 
 sum-zeros : (k : ℕ) (xs ys : List ℕ) → length xs ≡ length ys → sum xs ys ≡ replicate k 0 → xs ≡ ys
