@@ -1,2 +1,4 @@
-pub mod Valid
 pub mod Listed
+pub mod Tuples
+pub mod Tabled
+pub mod Valid

@@ -4,13 +4,13 @@ use mathlib.Core.Path.{_≡_, refl, sym, ap, _∙_}
 use mathlib.Core.Bool.{Bool, true, false, cond}
 use mathlib.Core.List.{List, [], _∷_, _++_}
 use Prim.Native.Nat.{ℕ, zero, suc, _+_, _*_, _<_}
-use native.Mathlib.Nat.{zero-add, add-zero, add-suc, suc-add, not-suc-le-zero, le-of-suc-le-suc, mul-zero}
+use native.Mathlib.Nat.{zero-add, add-zero, not-suc-le-zero, le-of-suc-le-suc}
 use native.Mathlib.Omega.{arith}
 use lib.Dec.{eqb, lit<}
-use lib.ListN.{length, getD, length-append, List·getD-append}
-use lib.Seq.{getD-append-add}
+use lib.ListN.{length, getD, drop, length-append}
+use lib.Seq.{take-at, drop-at, drop-drop, getD-take, getD-drop}
 use Rattle.configurations.specs.Promise.{Listed-right}
-use Rattle.configurations.specs.Configurations.{configuration, configurations, of-code-1, of-code-2, of-code-3, listed-from, listed}
+use Rattle.configurations.specs.Configurations.{configuration, configurations, of-code-1, of-code-2, of-code-3, listed-from, listed, tuple}
 use Rattle.split.specs.Split.{padded}
 
 pub four-places : (c k : ℕ) → length (padded (configuration c k)) ≡ 4
@@ -22,21 +22,25 @@ four-places c k = go (eqb c 1) (eqb c 2)
     go false true = unfold padded of-code-2 in refl
     go false false = unfold padded of-code-3 in refl
 
-from-at : (n k c i j : ℕ) → i < n → j < 4 → getD (listed-from n k c) (4 * i + j) 0 ≡ getD (padded (configuration c (k + i))) j 0
-unfolding listed-from
-from-at zero k c i j h l = absurd (not-suc-le-zero h)
-from-at (suc n) k c zero j h l =
-    rw (mul-zero, zero-add, add-zero)
-    (List·getD-append (padded (configuration c k)) (listed-from n (suc k) c) 0 j (rw (four-places c k) l))
-from-at (suc n) k c (suc i) j h l =
-    let p : List ℕ = padded (configuration c k) in
-    let e : 4 * suc i + j ≡ length p + (4 * i + j) = omega (arith, four-places c k) in
-    rw (e, getD-append-add p (listed-from n (suc k) c) (4 * i + j) 0, add-suc, ← suc-add) (from-at n (suc k) c i j (le-of-suc-le-suc h) l)
+from-tuple : (n k c i : ℕ) → i < n → tuple i (listed-from n k c) ≡ padded (configuration c (k + i))
+unfolding listed-from tuple
+from-tuple zero k c i h = absurd (not-suc-le-zero h)
+from-tuple (suc n) k c zero h = rw add-zero (take-at (padded (configuration c k)) (listed-from n (suc k) c) 4 (four-places c k))
+from-tuple (suc n) k c (suc i) h =
+    let e : 4 * suc i ≡ 4 + 4 * i = omega arith in
+    let f : k + suc i ≡ suc k + i = omega arith in
+    rw (e, f, ← drop-drop (4 * i) 4 (padded (configuration c k) ++ listed-from n (suc k) c), drop-at (padded (configuration c k)) (listed-from n (suc k) c) 4 (four-places c k))
+    (from-tuple n (suc k) c i (le-of-suc-le-suc h))
 
--- THE PLACES OF NUMBER k
-pub listed-at : (c k j : ℕ) → k < configurations c → j < 4 → getD (listed c) (4 * k + j) 0 ≡ getD (padded (configuration c k)) j 0
+-- THE TUPLE WITH NUMBER k, and its places
+pub listed-tuple : (c k : ℕ) → k < configurations c → tuple k (listed c) ≡ padded (configuration c k)
 unfolding listed
-listed-at c k j h l = from-at (configurations c) 0 c k j h l ∙ ap (λ (i : ℕ). getD (padded (configuration c i)) j 0) (zero-add k)
+listed-tuple c k h = from-tuple (configurations c) 0 c k h ∙ ap (λ (i : ℕ). padded (configuration c i)) (zero-add k)
+
+pub listed-at : (c k j : ℕ) → k < configurations c → j < 4 → getD (listed c) (4 * k + j) 0 ≡ getD (padded (configuration c k)) j 0
+unfolding tuple
+listed-at c k j h l =
+    sym (getD-take 4 (drop (4 * k) (listed c)) j 0 l ∙ getD-drop (4 * k) (listed c) j 0) ∙ ap (λ (xs : List ℕ). getD xs j 0) (listed-tuple c k h)
 
 from-length : (n k c : ℕ) → length (listed-from n k c) ≡ 4 * n
 unfolding listed-from

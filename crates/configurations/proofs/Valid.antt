@@ -1,8 +1,8 @@
--- The configurations of each code are the valid ones, all of them, ascending: by tests at the field's elements, and the places that are
--- free come first.
+-- The configurations of each code are the valid ones, all of them, ascending. Codes 1 and 2 by tests at the field's elements, and the
+-- places that are free come first; code 3 by its table.
 -- Assumes nothing.
 use mathlib.Core.Path.{_≡_, refl, sym, ap, ap₂, _∙_, subst}
-use mathlib.Core.Bool.{Bool, true, false, _&&_, _||_, not}
+use mathlib.Core.Bool.{Bool, true, _&&_, _||_, not}
 use mathlib.Core.List.{List, [], _∷_}
 use Prim.Native.Nat.{ℕ, zero, suc, _+_, _*_, _/_, _%_, _<_, _≤_}
 use mathlib.Core.Logic.{_⊎_, inl, inr}
@@ -14,61 +14,40 @@ use borrow.Author.Tests.{eq-eqb}
 use Rattle.field.specs.Field.{width-good, xor, times, times-from, doubled, alpha, square}
 use Rattle.code.specs.Code.{code-good, width, roots, long, is-codeword}
 use Rattle.code.specs.Promise.{Codes-inside}
-use Rattle.split.specs.Split.{layer, number, numbered, cosets, syndromes, syndromes-from, layer-value, glued, valid, valid-at, all-below}
-use Rattle.configurations.specs.Configurations.{Configuration, configurations, configuration, of-code-1, of-code-2, of-code-3, leading}
+use Rattle.split.specs.Split.{layer, numbered, cosets, syndromes, syndromes-from, layer-value, glued, valid, valid-at, all-below, padded}
+use Rattle.configurations.specs.Configurations.{Configuration, configurations, configuration, of-code-1, of-code-2, of-code-3, listed, leading, tuple}
 use Rattle.split.specs.Promise.{Glued-right, Syndrome-inside}
-use Rattle.configurations.specs.Promise.{Configurations, Codewords-configured}
-use Rattle.field.proofs.Tests.{all, at, eq-below, and-l, and-r, to-T, from-T}
-use Rattle.field.proofs.Xor as X
+use Rattle.configurations.specs.Promise.{Configurations, Codewords-configured, Table-right}
+use Rattle.field.proofs.Tests.{all, at, and-l, and-r, to-T}
 use Rattle.code.proofs.Words.{Below}
 use Rattle.code.proofs.Promise.{codes, codes-inside}
 use Rattle.split.proofs.Layers.{below, all-of, layer-binary}
 use Rattle.split.proofs.Glue.{glued-right}
 use Rattle.split.proofs.Cosets.{syndrome-inside}
 use Rattle.split.proofs.Leaders.{le-or-lt}
+use Rattle.configurations.proofs.Tuples.{configured, is-configuration, root-at, so}
+use Rattle.configurations.proofs.Listed.{listed-tuple}
+use Rattle.configurations.proofs.Tabled.{table-right}
 
 -- VALID, each of them, by a test
-abbrev good : (c k : ℕ) → Bool
-good c k =
-    eqb (length (configuration c k)) (width c) && (all-below (cosets (width c) (roots c)) (configuration c k) && valid (width c) (roots c) (configuration c k))
+by-test : (c : ℕ) → T (all (configurations c) (λ k. configured (width c) (roots c) (configuration c k))) → (k : ℕ) → k < configurations c → Configuration (width c) (roots c) (configuration c k)
+by-test c t k h =
+    is-configuration (width c) (roots c) (configuration c k) (at (configurations c) (λ k. configured (width c) (roots c) (configuration c k)) t k h)
 
-all-good : (c : ℕ) → code-good c ≡ true → T (all (configurations c) (good c))
-unfolding configurations configuration of-code-1 of-code-2 of-code-3 width roots cosets number numbered layer-value glued valid valid-at all-below xor times times-from doubled alpha square
-all-good = codes (λ c. T (all (configurations c) (good c))) tt tt tt
+-- code 3's stand in the table
+tabled : (k : ℕ) → k < 256 → tuple k (listed 3) ≡ of-code-3 k
+unfolding configurations configuration of-code-3 padded
+tabled k h = listed-tuple 3 k h
 
 each-valid : (c : ℕ) → code-good c ≡ true → (k : ℕ) → k < configurations c → Configuration (width c) (roots c) (configuration c k)
-each-valid c g k h =
-    let ss : List ℕ = configuration c k in
-    let t : T (good c k) = at (configurations c) (good c) (all-good c g) k h in
-    let u : T (all-below (cosets (width c) (roots c)) ss && valid (width c) (roots c) ss) = and-r (eqb (length ss) (width c)) (all-below (cosets (width c) (roots c)) ss && valid (width c) (roots c) ss) t in
-    record {
-      count = eqb→eq (length ss) (width c) (and-l (eqb (length ss) (width c)) (all-below (cosets (width c) (roots c)) ss && valid (width c) (roots c) ss) t);
-      syndromes = from-T (all-below (cosets (width c) (roots c)) ss) (and-l (all-below (cosets (width c) (roots c)) ss) (valid (width c) (roots c) ss) u);
-      is-valid = from-T (valid (width c) (roots c) ss) (and-r (all-below (cosets (width c) (roots c)) ss) (valid (width c) (roots c) ss) u);
-    }
-
--- the sum at each root of a valid tuple is zero
-valid-root : (m k t : ℕ) (ss : List ℕ) → T (valid-at k t m ss) → (u : ℕ) → t ≤ u → u < t + k → glued 0 m u ss ≡ 0
-unfolding valid-at
-valid-root m zero t ss v u l h = absurd (omega arith)
-valid-root m (suc k) t ss v u l h =
-    pick (λ (o : t < u). valid-root m k (suc t) ss (and-r (eqb (glued 0 m t ss) 0) (valid-at k (suc t) m ss) v) u o (omega arith)) (eq-or-lt-of-le l)
-  where
-    pick : (t < u → glued 0 m u ss ≡ 0) → (t ≡ u) ⊎ (t < u) → glued 0 m u ss ≡ 0
-    pick f (inl e) = rw (← e) (eqb→eq (glued 0 m t ss) 0 (and-l (eqb (glued 0 m t ss) 0) (valid-at k (suc t) m ss) v))
-    pick f (inr o) = f o
-
-root-at : (m r t : ℕ) (ss : List ℕ) → valid m r ss ≡ true → 1 ≤ t → t ≤ r → glued 0 m t ss ≡ 0
-unfolding valid
-root-at m r t ss v l h = valid-root m r 1 ss (to-T v) t l (omega arith)
+unfolding Table-right configurations configuration of-code-1 of-code-2 width roots cosets numbered layer-value glued valid valid-at all-below xor times times-from doubled alpha square
+each-valid =
+    codes (λ c. (k : ℕ) → k < configurations c → Configuration (width c) (roots c) (configuration c k))
+    (by-test 1 tt) (by-test 2 tt) (λ k h. subst (Configuration 4 2) (tabled k h) (table-right .none-invalid k h))
 
 -- a test at all triples of elements of the field of 8
 rule3 : (f : ℕ → ℕ → ℕ → Bool) → T (all 8 (λ a. all 8 (λ b. all 8 (f a b)))) → (a b d : ℕ) → a < 8 → b < 8 → d < 8 → T (f a b d)
 rule3 f t a b d ha hb hd = at 8 (f a b) (at 8 (λ b. all 8 (f a b)) (at 8 (λ a. all 8 (λ b. all 8 (f a b))) t a ha) b hb) d hd
-
-so : (a b : Bool) → T (not a || b) → a ≡ true → T b
-so true b t e = t
-so false b t e = absurd (subst (λ (x : Bool). T x) (sym e) tt)
 
 pair : (a b c d : ℕ) → T (eqb a b && eqb c d) → (a ≡ b) × (c ≡ d)
 pair a b c d t = (eqb→eq a b (and-l (eqb a b) (eqb c d) t), eqb→eq c d (and-r (eqb a b) (eqb c d) t))
@@ -119,53 +98,6 @@ low-zero x y z v =
     (ap₂ (λ (p q : Bool). p && q) (low 2 (λ s. ap (square 3) (low-digit s)) x y z (root-at 3 4 2 ss v (lit≤ tt) (lit≤ tt)))
     (low 4 (λ s. ap (λ (a : ℕ). square 3 (square 3 a)) (low-digit s)) x y z (root-at 3 4 4 ss v (lit≤ tt) (lit≤ tt)))))
 
--- CODE 3: the sums of the last two places give them back, and they are those of the first two
-fourth : (u v : ℕ) → ℕ
-fourth u v = square 4 (square 4 (square 4 (times 4 (alpha 4 6) (xor (square 4 u) (times 4 (alpha 4 2) v)))))
-
-third : (u v : ℕ) → ℕ
-third u v = times 4 (alpha 4 13) (xor u (times 4 (alpha 4 3) (fourth u v)))
-
-abbrev front : (t a b : ℕ) → ℕ
-front t a b = glued 0 4 t (a ∷ b ∷ [])
-
-abbrev back : (t c d : ℕ) → ℕ
-back t c d = glued 2 4 t (c ∷ d ∷ [])
-
-third-back : (c d : ℕ) → c < 16 → d < 16 → third (back 1 c d) (back 2 c d) ≡ c
-unfolding third fourth layer-value glued xor times times-from doubled alpha square numbered
-third-back = eq-below 16 16 (λ c d. third (back 1 c d) (back 2 c d)) (λ c d. c) tt
-
-fourth-back : (c d : ℕ) → c < 16 → d < 16 → fourth (back 1 c d) (back 2 c d) ≡ d
-unfolding fourth layer-value glued xor times times-from doubled alpha square numbered
-fourth-back = eq-below 16 16 (λ c d. fourth (back 1 c d) (back 2 c d)) (λ c d. d) tt
-
-third-front : (a b : ℕ) → a < 16 → b < 16 → third (front 1 a b) (front 2 a b) ≡ xor (times 4 (alpha 4 3) a) (times 4 (alpha 4 1) b)
-unfolding third fourth layer-value glued xor times times-from doubled alpha square numbered
-third-front = eq-below 16 16 (λ a b. third (front 1 a b) (front 2 a b)) (λ a b. xor (times 4 (alpha 4 3) a) (times 4 (alpha 4 1) b)) tt
-
-fourth-front : (a b : ℕ) → a < 16 → b < 16 → fourth (front 1 a b) (front 2 a b) ≡ xor (times 4 (alpha 4 7) a) (times 4 (alpha 4 6) b)
-unfolding fourth layer-value glued xor times times-from doubled alpha square numbered
-fourth-front = eq-below 16 16 (λ a b. fourth (front 1 a b) (front 2 a b)) (λ a b. xor (times 4 (alpha 4 7) a) (times 4 (alpha 4 6) b)) tt
-
-halves : (x y z : ℕ) → xor x (xor y z) ≡ 0 → xor x (xor y 0) ≡ z
-halves x y z e =
-    ap (xor x) (X.zero-r y) ∙ sym (X.zero-r (xor x y)) ∙ ap (xor (xor x y)) (sym e ∙ sym (X.assoc x y z)) ∙ X.cancel (xor x y) z
-
-sums-meet : (t a b c d : ℕ) → glued 0 4 t (a ∷ b ∷ c ∷ d ∷ []) ≡ 0 → front t a b ≡ back t c d
-unfolding glued
-sums-meet t a b c d e = halves _ _ _ e
-
-rest-3 : (a b c d : ℕ) → a < 16 → b < 16 → c < 16 → d < 16 → valid 4 2 (a ∷ b ∷ c ∷ d ∷ []) ≡ true →
-    (xor (times 4 (alpha 4 3) a) (times 4 (alpha 4 1) b) ≡ c) × (xor (times 4 (alpha 4 7) a) (times 4 (alpha 4 6) b) ≡ d)
-rest-3 a b c d ha hb hc hd v =
-    let ss : List ℕ = a ∷ b ∷ c ∷ d ∷ [] in
-    let p : front 1 a b ≡ back 1 c d = sums-meet 1 a b c d (root-at 4 2 1 ss v (lit≤ tt) (lit≤ tt)) in
-    let q : front 2 a b ≡ back 2 c d = sums-meet 2 a b c d (root-at 4 2 2 ss v (lit≤ tt) (lit≤ tt)) in (
-      sym (third-front a b ha hb) ∙ ap₂ third p q ∙ third-back c d hc hd,
-      sym (fourth-front a b ha hb) ∙ ap₂ fourth p q ∙ fourth-back c d hc hd,
-    )
-
 -- NONE IS MISSING
 missing-1 : (ss : List ℕ) → length ss ≡ 3 → Below 8 ss → valid 3 2 ss ≡ true → (k : ℕ) × (k < 8) × (of-code-1 k ≡ ss)
 unfolding of-code-1
@@ -198,42 +130,27 @@ missing-2 (x ∷ y ∷ z ∷ []) n l v =
     (8 * (x / 8) + y / 8, omega arith, rw (h, g, e, ← ex, ← ey, ← ez) refl)
 missing-2 (x ∷ y ∷ z ∷ e ∷ ss) n l v = absurd (omega arith)
 
-missing-3 : (ss : List ℕ) → length ss ≡ 4 → Below 16 ss → valid 4 2 ss ≡ true → (k : ℕ) × (k < 256) × (of-code-3 k ≡ ss)
-unfolding of-code-3
-missing-3 [] n l v = absurd (omega arith)
-missing-3 (a ∷ []) n l v = absurd (omega arith)
-missing-3 (a ∷ b ∷ []) n l v = absurd (omega arith)
-missing-3 (a ∷ b ∷ c ∷ []) n l v = absurd (omega arith)
-missing-3 (a ∷ b ∷ c ∷ d ∷ []) n l v =
-    let ha : a < 16 = l .0 in
-    let hb : b < 16 = l .1 .0 in
-    let r = rest-3 a b c d ha hb (l .1 .1 .0) (l .1 .1 .1 .0) v in
-    let h : (16 * a + b) / 16 ≡ a = omega arith in
-    let g : (16 * a + b) % 16 ≡ b = omega arith in
-    (16 * a + b, omega arith, rw (h, g, r .0, r .1) refl)
-missing-3 (a ∷ b ∷ c ∷ d ∷ e ∷ ss) n l v = absurd (omega arith)
-
 none-missing : (c : ℕ) → code-good c ≡ true → (ss : List ℕ) → Configuration (width c) (roots c) ss → (k : ℕ) × (k < configurations c) × (configuration c k ≡ ss)
-unfolding width roots cosets configurations configuration
+unfolding Table-right width roots cosets configurations configuration
 none-missing =
     codes (λ c. (ss : List ℕ) → Configuration (width c) (roots c) ss → (k : ℕ) × (k < configurations c) × (configuration c k ≡ ss))
     (λ ss p. missing-1 ss (p .count) (below 8 ss (to-T (p .syndromes))) (p .is-valid))
     (λ ss p. missing-2 ss (p .count) (below 64 ss (to-T (p .syndromes))) (p .is-valid))
-    (λ ss p. missing-3 ss (p .count) (below 16 ss (to-T (p .syndromes))) (p .is-valid))
+    (λ ss p. let r = table-right .none-missing ss p in (r .0, r .1, sym (tabled (r .0) (r .1)) ∙ r .2))
 
 -- ASCENDING: the free places are the leading ones, and digits of k
 below-each : (c : ℕ) → code-good c ≡ true → (k : ℕ) → k < configurations c → Below (cosets (width c) (roots c)) (configuration c k)
 below-each c g k h = below (cosets (width c) (roots c)) (configuration c k) (to-T (each-valid c g k h .syndromes))
 
-ascends : (c : ℕ) → code-good c ≡ true → (k l : ℕ) → Below (cosets (width c) (roots c)) (configuration c k) → Below (cosets (width c) (roots c)) (configuration c l) → k < l →
+ascends : (c : ℕ) → code-good c ≡ true → (k l : ℕ) → k < l → l < configurations c →
     leading (cosets (width c) (roots c)) (configuration c k) < leading (cosets (width c) (roots c)) (configuration c l)
-unfolding width roots cosets configuration of-code-1 of-code-2 of-code-3 leading
+unfolding Table-right code-good width roots cosets configurations configuration of-code-1 of-code-2 leading
 ascends =
-    codes (λ c. (k l : ℕ) → Below (cosets (width c) (roots c)) (configuration c k) → Below (cosets (width c) (roots c)) (configuration c l) → k < l →
+    codes (λ c. (k l : ℕ) → k < l → l < configurations c →
     leading (cosets (width c) (roots c)) (configuration c k) < leading (cosets (width c) (roots c)) (configuration c l))
-    (λ k l p q h. omega (arith, p .1 .0, p .1 .1 .0))
-    (λ k l p q h. omega (arith, p .1 .1 .0))
-    (λ k l p q h. omega (arith, p .1 .1 .0, p .1 .1 .1 .0))
+    (λ k l h o. let p = below-each 1 refl k (omega arith) in omega (arith, p .1 .0, p .1 .1 .0))
+    (λ k l h o. let p = below-each 2 refl k (omega arith) in omega (arith, p .1 .1 .0))
+    (λ k l h o. rw (← tabled k (omega arith), ← tabled l o) (table-right .ascending k l h o))
 
 once : (n : ℕ) (f : ℕ → List ℕ) (g : List ℕ → ℕ) → ((k l : ℕ) → k < l → l < n → g (f k) < g (f l)) → (k l : ℕ) → k < n → l < n → f k ≡ f l → k ≡ l
 once n f g up k l hk hl e = pick (le-or-lt k l)
@@ -252,13 +169,11 @@ once n f g up k l hk hl e = pick (le-or-lt k l)
 pub configurations-right : Configurations
 unfolding Configurations
 configurations-right c g =
-    let up : (k l : ℕ) → k < l → l < configurations c → leading (cosets (width c) (roots c)) (configuration c k) < leading (cosets (width c) (roots c)) (configuration c l) =
-    (λ k l h o. ascends c g k l (below-each c g k (omega arith)) (below-each c g l o) h) in
     record {
       each-valid = each-valid c g;
       none-missing = none-missing c g;
-      once = once (configurations c) (configuration c) (leading (cosets (width c) (roots c))) up;
-      ascending = up;
+      once = once (configurations c) (configuration c) (leading (cosets (width c) (roots c))) (ascends c g);
+      ascending = ascends c g;
     }
 
 -- the syndromes of a word are so many, each below the number of cosets

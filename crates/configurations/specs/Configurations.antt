@@ -3,9 +3,9 @@
 use mathlib.Core.Path.{_≡_}
 use mathlib.Core.Bool.{true, cond}
 use mathlib.Core.List.{List, [], _∷_, _++_}
-use Prim.Native.Nat.{ℕ, zero, suc, _+_, _*_, _-_, _/_, _%_, _^_, _<_}
+use Prim.Native.Nat.{ℕ, zero, suc, _+_, _*_, _/_, _%_, _^_, _<_}
 use lib.Dec.{eqb}
-use lib.ListN.{length, replicate}
+use lib.ListN.{length, take, drop}
 use Rattle.field.specs.Field.{xor, times, alpha}
 use Rattle.code.specs.Code.{width, roots}
 use Rattle.split.specs.Split.{cosets, valid, all-below, padded}
@@ -53,6 +53,17 @@ listed c = listed-from (configurations c) 0 c
 unfoldable pub leading : (base : ℕ) → (tuple : List ℕ) → ℕ
 leading q [] = 0
 leading q (s ∷ ss) = s * q ^ length ss + leading q ss
+
+-- the tuple with a number in a list of four places each
+unfoldable pub tuple : (k : ℕ) → (table : List ℕ) → List ℕ
+tuple k es = take 4 (drop (4 * k) es)
+
+-- a table of the 256 valid configurations of code 3, ascending with s_1 as the leading digit: it holds every valid one and no invalid one
+pub record Valid-table (table : List ℕ) : Type 0 where
+  pub count : length table ≡ 1024
+  pub none-invalid : (k : ℕ) → k < 256 → Configuration 4 2 (tuple k table)
+  pub none-missing : (ss : List ℕ) → Configuration 4 2 ss → (k : ℕ) × (k < 256) × (tuple k table ≡ ss)
+  pub ascending : (k l : ℕ) → k < l → l < 256 → leading 16 (tuple k table) < leading 16 (tuple l table)
 
 -- every one yielded is valid; every valid one is yielded, exactly once, in ascending order
 pub record Configurations-right (c : ℕ) : Type 0 where

@@ -72,6 +72,7 @@ pub fn all_of_code_2() -> [u16; 256]
     CONFIGURATIONS_2
 }
 
+// Code 3's constant table: it holds every valid configuration and no invalid one, ascending (`Table-right`).
 pub fn all_of_code_3() -> [u16; 1024]
     ensures { λ r. ⌜ r ≡ listed 3 ⌝ }
 {

@@ -1,20 +1,20 @@
 -- Words as bytes, low byte first, and back.
 -- Assumes nothing.
 use mathlib.Core.Path.{_≡_, refl, sym, ap, ap₂, _∙_, subst}
-use mathlib.Core.Bool.{true}
+use mathlib.Core.Bool.{true, _&&_}
 use mathlib.Core.List.{List, [], _∷_, _++_}
 use Prim.Native.Nat.{ℕ, zero, suc, _+_, _*_, _-_, _/_, _%_, _^_, _<_, _≤_}
 use native.Mathlib.Nat.{div-eq-of-lt, not-suc-le-zero, add-zero, mul-suc, add-comm}
 use native.Mathlib.Omega.{arith}
-use borrow.Author.Tests.{ltb-true}
+use borrow.Author.Tests.{ltb-true, lt-ltb}
 use lib.Dec.{ltb, lit<}
 use lib.ListN.{length, take, drop, length-append, length-drop, take-append-drop, getD, List·getD-eq-default}
 use lib.Seq.{take-at, drop-at, length-take-le, drop-drop, getD-drop}
 use Rattle.code.proofs.Words.{Below}
 use Rattle.sheet.specs.Sheet.{digits, packed, as-bytes, words-from, as-words}
 use Rattle.sheet.specs.Promise.{all-bytes}
-use Rattle.sheet.proofs.Digits.{digits-length, digits-packed, packed-digits}
-use Rattle.sheet.proofs.Items.{both, below-parts}
+use Rattle.sheet.proofs.Digits.{digits-length, digits-below, digits-packed, packed-digits}
+use Rattle.sheet.proofs.Items.{both, below-parts, below-join}
 
 pub bytes-length : (ws : List ℕ) → length (as-bytes ws) ≡ 4 * length ws
 unfolding as-bytes
@@ -36,6 +36,17 @@ all-below : (bs : List ℕ) → all-bytes bs ≡ true → Below 256 bs
 unfolding all-bytes
 all-below [] g = tt
 all-below (b ∷ bs) g = let p = both (ltb b 256) (all-bytes bs) g in (ltb-true b 256 (p .0), all-below bs (p .1))
+
+-- what was written is bytes
+pub bytes : (bs : List ℕ) → Below 256 bs → all-bytes bs ≡ true
+unfolding all-bytes
+bytes [] g = refl
+bytes (b ∷ bs) g = ap₂ _&&_ (lt-ltb b 256 (g .0)) (bytes bs (g .1))
+
+pub as-bytes-below : (ws : List ℕ) → Below 256 (as-bytes ws)
+unfolding as-bytes
+as-bytes-below [] = tt
+as-bytes-below (w ∷ ws) = below-join 256 (digits 256 4 w) (as-bytes ws) (digits-below 256 (lit< tt) 4 w) (as-bytes-below ws)
 
 bytes-back : (n : ℕ) (bs : List ℕ) → length bs ≡ 4 * n → Below 256 bs → as-bytes (words-from n bs) ≡ bs
 unfolding as-bytes words-from

@@ -5,3 +5,4 @@ pub mod Bytes
 pub mod Scan
 pub mod Judging
 pub mod Trips
+pub mod Longest

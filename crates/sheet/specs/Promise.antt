@@ -1,4 +1,5 @@
--- Both round trips of sheets. A statement is a type; proofs/Trips.antt has the proofs. Assumes nothing.
+-- Both round trips of sheets, and the longest sheet. A statement is a type; proofs/Trips.antt and proofs/Longest.antt have the proofs.
+-- Assumes nothing.
 use mathlib.Core.Path.{_≡_}
 use mathlib.Core.Bool.{Bool, true, _&&_}
 use mathlib.Core.List.{List, [], _∷_}
@@ -20,3 +21,11 @@ unfoldable pub Read-written : Type 0
 Read-written =
     (bs : List ℕ) → all-bytes bs ≡ true → sheet-refusal bs ≡ 0 →
     (all-good (questions bs) ≡ true) × (length (questions bs) ≤ most) × (written (questions bs) ≡ bs)
+
+-- the longest sheet has 19,204 bytes: none that is accepted is longer, and one that is accepted is this long
+unfoldable pub sheet-most : ℕ
+sheet-most = 19204
+
+pub record Longest-sheet : Type 0 where
+  pub none-longer : (bs : List ℕ) → all-bytes bs ≡ true → sheet-refusal bs ≡ 0 → length bs ≤ sheet-most
+  pub one-as-long : (bs : List ℕ) × (all-bytes bs ≡ true) × (sheet-refusal bs ≡ 0) × (length bs ≡ sheet-most)

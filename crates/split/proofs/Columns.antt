@@ -1,4 +1,5 @@
--- The syndrome of a binary word is the sum of the columns of its 1 bits: values add, and a syndrome's parts are digits.
+-- The syndrome of a binary word is the sum of the columns of its 1 bits: values add, and a syndrome's parts are digits. So the syndrome of
+-- a sum is the sum of the syndromes.
 -- Assumes nothing.
 use mathlib.Core.Path.{_≡_, refl, sym, ap, ap₂, _∙_}
 use mathlib.Core.Bool.{Bool, true, false, _&&_, cond}
@@ -8,10 +9,11 @@ use native.Mathlib.Nat.{mul-comm, mul-zero, add-comm}
 use native.Mathlib.Omega.{arith}
 use lib.Bits as B
 use lib.Dec.{leb, eqb}
+use lib.ListN.{length}
 use lib.Pow.{pow-pos}
 use Rattle.field.specs.Field.{xor, times, alpha, width-good}
 use Rattle.code.specs.Code.{value-from, value-at}
-use Rattle.split.specs.Split.{number, syndrome, column, columns-from}
+use Rattle.split.specs.Split.{number, syndrome, column, columns-from, Binary, sum}
 use Rattle.split.specs.Promise.{Syndrome-columns}
 use Rattle.field.proofs.Tests.{eq-below}
 use Rattle.field.proofs.Xor as X
@@ -99,3 +101,32 @@ module _ (m r : ℕ) (w : width-good m ≡ true) where
 pub syndrome-columns : Syndrome-columns
 unfolding Syndrome-columns syndrome value-at from parts
 syndrome-columns m r bs w b = from-columns m r w 0 bs (L.bits m bs b)
+
+-- THE SUM of two binary words has the sum of their syndromes
+bit-add : (b d c : ℕ) → b < 2 → d < 2 → cond (eqb (xor b d) 0) 0 c ≡ xor (cond (eqb b 0) 0 c) (cond (eqb d 0) 0 c)
+unfolding xor
+bit-add zero zero c h l = refl
+bit-add zero (suc zero) c h l = refl
+bit-add (suc zero) zero c h l = sym (X.zero-r c)
+bit-add (suc zero) (suc zero) c h l = sym (X.self c)
+bit-add zero (suc (suc d)) c h l = absurd (omega arith)
+bit-add (suc zero) (suc (suc d)) c h l = absurd (omega arith)
+bit-add (suc (suc b)) d c h l = absurd (omega arith)
+
+pub columns-add : (m r i : ℕ) (bs ds : List ℕ) → length bs ≡ length ds → Below 2 bs → Below 2 ds →
+    columns-from m r i (sum bs ds) ≡ xor (columns-from m r i bs) (columns-from m r i ds)
+unfolding columns-from sum
+columns-add m r i [] [] e p q = sym (X.self 0)
+columns-add m r i [] (d ∷ ds) e p q = absurd (omega arith)
+columns-add m r i (b ∷ bs) [] e p q = absurd (omega arith)
+columns-add m r i (b ∷ bs) (d ∷ ds) e p q =
+    ap₂ xor (bit-add b d (column m r i) (p .0) (q .0)) (columns-add m r (suc i) bs ds (omega arith) (p .1) (q .1))
+    ∙ X.cross (cond (eqb b 0) 0 (column m r i)) (cond (eqb d 0) 0 (column m r i)) (columns-from m r (suc i) bs) (columns-from m r (suc i) ds)
+
+pub syndrome-sum : (m r : ℕ) (bs ds : List ℕ) → width-good m ≡ true → Binary m bs → Binary m ds →
+    syndrome m r (sum bs ds) ≡ xor (syndrome m r bs) (syndrome m r ds)
+unfolding Syndrome-columns
+syndrome-sum m r bs ds w p q =
+    syndrome-columns m r (sum bs ds) w (L.sum-binary m bs ds p q)
+    ∙ columns-add m r 0 bs ds (p .count ∙ sym (q .count)) (L.bits m bs p) (L.bits m ds q)
+    ∙ ap₂ xor (sym (syndrome-columns m r bs w p)) (sym (syndrome-columns m r ds w q))

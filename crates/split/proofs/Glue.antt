@@ -44,7 +44,7 @@ four-horner (c ∷ cs) b =
     subst (λ (x : ℕ). numbered (number (xor c (times 4 6 x))) ≡ xor c (times 4 6 x)) (four-horner cs (b .1))
     (eq-below 2 4 (λ c d. numbered (number (xor c (times 4 6 (numbered d))))) (λ c d. xor c (times 4 6 (numbered d))) tt c (number v) (b .0) (number-lt v))
 
-pub four : (bs : List ℕ) → Below 2 bs → numbered (number (value-at 4 5 bs)) ≡ value-at 4 5 bs
+four : (bs : List ℕ) → Below 2 bs → numbered (number (value-at 4 5 bs)) ≡ value-at 4 5 bs
 unfolding width-good
 four bs b = rw (L.at-horner 4 refl 5 bs b) (four-horner bs b)
 
@@ -62,7 +62,7 @@ fifth m w bs b =
 
 module _ (m : ℕ) (w : width-good m ≡ true) (r : ℕ) where
   -- the three parts of a syndrome
-  pub first : (bs : List ℕ) → Below 2 bs → syndrome m r bs % 2 ^ m ≡ value-at m 1 bs
+  first : (bs : List ℕ) → Below 2 bs → syndrome m r bs % 2 ^ m ≡ value-at m 1 bs
   unfolding syndrome
   first bs b = low-part (2 ^ m) (value-at m 1 bs) _ (L.at-lt m w 1 bs b)
 
@@ -71,10 +71,10 @@ module _ (m : ℕ) (w : width-good m ≡ true) (r : ℕ) where
   unfolding syndrome
   rest bs b h = high-part (2 ^ m) (value-at m 1 bs) _ (L.at-lt m w 1 bs b) ∙ rw (from-T (leb 3 r) (le→leb 3 r h))
 
-  pub second : (bs : List ℕ) → Below 2 bs → 3 ≤ r → syndrome m r bs / 2 ^ m % 2 ^ m ≡ value-at m 3 bs
+  second : (bs : List ℕ) → Below 2 bs → 3 ≤ r → syndrome m r bs / 2 ^ m % 2 ^ m ≡ value-at m 3 bs
   second bs b h = rw (rest bs b h) (low-part (2 ^ m) (value-at m 3 bs) _ (L.at-lt m w 3 bs b))
 
-  pub third : (bs : List ℕ) → Below 2 bs → 5 ≤ r → syndrome m r bs / 2 ^ m / 2 ^ m ≡ cond (eqb m 4) (number (value-at m 5 bs)) 0
+  third : (bs : List ℕ) → Below 2 bs → 5 ≤ r → syndrome m r bs / 2 ^ m / 2 ^ m ≡ cond (eqb m 4) (number (value-at m 5 bs)) 0
   third bs b h =
       rw (rest bs b (omega arith)) (high-part (2 ^ m) (value-at m 3 bs) _ (L.at-lt m w 3 bs b) ∙ rw (from-T (leb 5 r) (le→leb 5 r h)))
 

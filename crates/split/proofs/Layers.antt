@@ -1,4 +1,4 @@
--- The value of a word from those of its layers; of a binary word at a square, and of a sum. By Horner's form.
+-- The value of a word from those of its layers, and of a binary word at a square. By Horner's form.
 -- Assumes nothing.
 use mathlib.Core.Path.{_≡_, refl, sym, ap, ap₂, _∙_, fun-ext}
 use mathlib.Core.Bool.{Bool, true, _&&_}
@@ -66,6 +66,12 @@ unfolding S.sum
 sum-below [] ds b e = tt
 sum-below (b ∷ bs) [] p q = tt
 sum-below (b ∷ bs) (d ∷ ds) p q = (X.below 1 b d (p .0) (q .0), sum-below bs ds (p .1) (q .1))
+
+pub sum-binary : (m : ℕ) (bs ds : List ℕ) → Binary m bs → Binary m ds → Binary m (S.sum bs ds)
+sum-binary m bs ds p q = record {
+  count = sum-length bs ds (p .count ∙ sym (q .count)) ∙ q .count;
+  bits = all-of 2 (S.sum bs ds) (sum-below bs ds (bits m bs p) (bits m ds q));
+}
 
 pub width-small : (m : ℕ) → width-good m ≡ true → m ≤ 4
 width-small = widths (λ (m : ℕ). m ≤ 4) (lit≤ tt) (lit≤ tt)
@@ -146,19 +152,6 @@ module _ (m : ℕ) (w : width-good m ≡ true) where
       ap (λ (y : ℕ). xor c (times m (square m x) y)) (horner-square x cs hx (b .1))
       ∙ sym (F.square-add m w c (times m x v) (bit (b .0)) (F.times-lt m w x v hx hv) ∙ ap₂ xor (F.square-bit m w c (b .0)) (F.square-times m w x v hx hv))
 
-  horner-sum : (x : ℕ) (bs ds : List ℕ) → x < 2 ^ m → length bs ≡ length ds → Below 2 bs → Below 2 ds →
-      horner m x (S.sum bs ds) ≡ xor (horner m x bs) (horner m x ds)
-  unfolding horner S.sum
-  horner-sum x [] [] hx e p q = sym (X.self 0)
-  horner-sum x [] (d ∷ ds) hx e p q = absurd (omega arith)
-  horner-sum x (b ∷ bs) [] hx e p q = absurd (omega arith)
-  horner-sum x (b ∷ bs) (d ∷ ds) hx e p q =
-      let u : ℕ = horner m x bs in
-      let v : ℕ = horner m x ds in
-      ap (λ (y : ℕ). xor (xor b d) (times m x y)) (horner-sum x bs ds hx (omega arith) (p .1) (q .1))
-      ∙ ap (xor (xor b d)) (F.times-add-r m w x u v hx (bits-lt x bs hx (p .1)) (bits-lt x ds hx (q .1)))
-      ∙ X.cross b d (times m x u) (times m x v)
-
   -- a binary word has its value by Horner's rule, below 2^m
   pub at-horner : (t : ℕ) (bs : List ℕ) → Below 2 bs → value-at m t bs ≡ horner m (alpha m t) bs
   at-horner t bs b = value-horner m w t bs (symbols bs b)
@@ -177,10 +170,3 @@ module _ (m : ℕ) (w : width-good m ≡ true) where
   value-twice t bs b =
       at-horner (t + t) bs b ∙ ap (λ (x : ℕ). horner m x bs) (F.alpha-twice m w t)
       ∙ horner-square (alpha m t) bs (F.alpha-lt m w t) b ∙ ap (square m) (sym (at-horner t bs b))
-
-  -- THE VALUE OF A SUM is the sum of the values
-  pub value-sum : (t : ℕ) (bs ds : List ℕ) → length bs ≡ length ds → Below 2 bs → Below 2 ds →
-      value-at m t (S.sum bs ds) ≡ xor (value-at m t bs) (value-at m t ds)
-  value-sum t bs ds e p q =
-      at-horner t (S.sum bs ds) (sum-below bs ds p q) ∙ horner-sum (alpha m t) bs ds (F.alpha-lt m w t) e p q
-      ∙ ap₂ xor (sym (at-horner t bs p)) (sym (at-horner t ds q))

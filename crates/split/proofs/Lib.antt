@@ -8,3 +8,4 @@ pub mod Steps
 pub mod Whole
 pub mod Worked
 pub mod Columns
+pub mod Dimension

@@ -147,10 +147,7 @@ module _ (m r : ℕ) (ws tuple out : List ℕ) (n : length ws ≡ long m) (p : S
   part j h = rw (← n, p .left) (piece-at m (p .leaders) ws part-length j h)
 
   part-binary : (j : ℕ) → j < m → Binary m (sum (layer j ws) (p .leaders j))
-  part-binary j h = record {
-    count = part-length j h ∙ n;
-    bits = L.all-of 2 (sum (layer j ws) (p .leaders j)) (L.sum-below (layer j ws) (p .leaders j) (L.layer-below j ws) (L.bits m (p .leaders j) (p .lead j h .binary)));
-  }
+  part-binary j h = L.sum-binary m (layer j ws) (p .leaders j) (L.layer-binary m j ws n) (p .lead j h .binary)
 
 pub parts-are-bch : Parts-are-bch
 unfolding Parts-are-bch Sum-is-bch row-long

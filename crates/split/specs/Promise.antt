@@ -8,7 +8,7 @@ use lib.ListN.{length, getD, take, drop}
 use Rattle.field.specs.Field.{width-good}
 use Rattle.code.specs.Code.{code-good, width, roots, long, symbols-good, is-codeword}
 use Rattle.code.specs.Bits.{bit-at, row-long}
-use Rattle.split.specs.Split.{layer, syndrome, columns-from, syndromes, cosets, valid, Binary, Leader, sum}
+use Rattle.split.specs.Split.{layer, syndrome, columns-from, syndromes, cosets, bch-dimension, valid, all-below, Binary, Leader, Bch-ending, sum}
 use Rattle.split.specs.Calls.{Split-right}
 
 -- (Layers) bit number i·m + j of a word is the bit of layer j at position i
@@ -41,6 +41,17 @@ One-leader =
 unfoldable pub Sum-is-bch : Type 0
 Sum-is-bch =
     (m r : ℕ) (bs ds : List ℕ) → width-good m ≡ true → Binary m bs → Binary m ds → syndrome m r ds ≡ syndrome m r bs → syndrome m r (sum bs ds) ≡ 0
+
+-- (Dimension) for every choice of the last bits, as many as the dimension, one BCH word ends in them, and no other
+unfoldable pub Bch-dimension : Type 0
+Bch-dimension =
+    (m r : ℕ) (ds : List ℕ) → width-good m ≡ true → r ≤ 6 → length ds ≡ bch-dimension m r → all-below 2 ds ≡ true →
+    ((bs : List ℕ) × Bch-ending m r ds bs) × ((bs cs : List ℕ) → Bch-ending m r ds bs → Bch-ending m r ds cs → bs ≡ cs)
+
+-- (Dimension) the BCH dimensions of codes 1, 2 and 3
+unfoldable pub Bch-dimensions : Type 0
+Bch-dimensions =
+    (bch-dimension (width 1) (roots 1) ≡ 4) × (bch-dimension (width 2) (roots 2) ≡ 1) × (bch-dimension (width 3) (roots 3) ≡ 11)
 
 -- (Whole) where a split is right, the output is n·m long and each of its layers is a BCH word: binary, with syndrome 0
 unfoldable pub Parts-are-bch : Type 0

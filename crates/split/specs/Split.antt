@@ -6,7 +6,7 @@ use mathlib.Core.Bool.{Bool, true, _&&_, cond}
 use mathlib.Core.List.{List, [], _∷_, _++_}
 use Prim.Native.Nat.{ℕ, zero, suc, _+_, _*_, _-_, _/_, _%_, _^_, _≤_}
 use lib.Dec.{leb, ltb, eqb}
-use lib.ListN.{length, replicate}
+use lib.ListN.{length, drop, replicate}
 use Rattle.field.specs.Field.{xor, times, alpha, square}
 use Rattle.code.specs.Code.{long, value-at}
 
@@ -39,9 +39,17 @@ unfoldable pub columns-from : (m r i : ℕ) → (binary : List ℕ) → ℕ
 columns-from m r i [] = 0
 columns-from m r i (b ∷ bs) = xor (cond (eqb b 0) 0 (column m r i)) (columns-from m r (suc i) bs)
 
+-- how many bits a syndrome has: m, from three roots on another m, and from five on, for m = 4, two more
+abbrev pub syndrome-long : (m r : ℕ) → ℕ
+syndrome-long m r = m + (cond (leb 3 r) m 0 + cond (leb 5 r && eqb m 4) 2 0)
+
 -- how many syndromes there are, and so cosets: a syndrome is a number below this
 unfoldable pub cosets : (m r : ℕ) → ℕ
-cosets m r = 2 ^ m * (cond (leb 3 r) (2 ^ m) 1 * cond (leb 5 r && eqb m 4) 4 1)
+cosets m r = 2 ^ syndrome-long m r
+
+-- the dimension of the BCH code, whose words are the binary words with syndrome 0; `Bch-dimension` says why
+unfoldable pub bch-dimension : (m r : ℕ) → ℕ
+bch-dimension m r = long m - syndrome-long m r
 
 -- the tuple of syndromes of a word's layers
 unfoldable pub syndromes-from : (left j : ℕ) → (m r : ℕ) → (word : List ℕ) → List ℕ
@@ -100,6 +108,12 @@ pub record Leader (m r s : ℕ) (bs : List ℕ) : Type 0 where
   pub binary : Binary m bs
   pub of-coset : syndrome m r bs ≡ s
   pub least : (ds : List ℕ) → Binary m ds → syndrome m r ds ≡ s → weight bs ≤ weight ds
+
+-- a BCH word that ends in these bits
+pub record Bch-ending (m r : ℕ) (ds bs : List ℕ) : Type 0 where
+  pub binary : Binary m bs
+  pub of-code : syndrome m r bs ≡ 0
+  pub ends : drop (syndrome-long m r) bs ≡ ds
 
 -- the sum of two binary words
 unfoldable pub sum : (bs ds : List ℕ) → List ℕ

@@ -1,4 +1,4 @@
--- `configurations::all_of_code_3` meets its contract: the test is computed entry by entry over the whole table.
+-- `configurations::all_of_code_3` meets its contract: the constant table is compared with the list of code 3, of which `Table-right` speaks.
 -- Assumes nothing.
 use mathlib.Core.Path.{refl}
 use Rattle.field.specs.Field.{xor, times, times-from, doubled, alpha}

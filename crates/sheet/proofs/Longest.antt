@@ -1,0 +1,72 @@
+-- The longest sheet: 200 questions of code 3, each of 24 words.
+-- Assumes nothing.
+use mathlib.Core.Path.{_≡_, refl, ap, _∙_}
+use mathlib.Core.Bool.{true}
+use mathlib.Core.List.{List, [], _∷_, _++_}
+use Prim.Native.Nat.{ℕ, zero, suc, _+_, _*_, _≤_}
+use native.Mathlib.Omega.{arith}
+use lib.ListN.{length, replicate, length-append, length-replicate}
+use lib.IntN.{pos}
+use Rattle.code.specs.Code.{code-good, width, long, symbols-good}
+use Rattle.code.specs.Bits.{row-long}
+use Rattle.metric.specs.Row.{bound, reliability-good, row-good}
+use Rattle.sheet.specs.Sheet.{Question, reliabilities, symbols, end-kind, most, numbers, worded, count, row-words, symbol-words, question-words, all-words, written, questions, question-good, all-good}
+use Rattle.sheet.specs.Promise.{sheet-most, Longest-sheet, Read-written, Written-read}
+use Rattle.sheet.proofs.Items.{items-words-length}
+use Rattle.sheet.proofs.Bytes.{bytes-length, bytes, as-bytes-below}
+use Rattle.sheet.proofs.Judging.{width-fine, row-words-le, symbol-words-le}
+use Rattle.sheet.proofs.Trips.{written-read, read-written}
+
+question-length : (q : Question) → length (question-words q) ≡ suc (row-words (width (q .code))) + symbol-words (width (q .code))
+unfolding question-words
+question-length q = simp (length-append, items-words-length)
+
+words-le : (qs : List Question) → length (all-words qs) ≤ 24 * length qs
+unfolding all-words
+words-le [] = omega arith
+words-le (q ∷ qs) =
+    let m = width (q .code) in
+    omega (
+      arith,
+      length-append (question-words q) (all-words qs),
+      question-length q,
+      row-words-le m (width-fine (q .code)),
+      symbol-words-le m (width-fine (q .code)),
+      words-le qs,
+    )
+
+written-length : (qs : List Question) → length (written qs) ≡ 4 * (length (all-words qs) + 1)
+unfolding written
+written-length qs =
+    let e : List ℕ = worded end-kind (length qs) ∷ [] in
+    omega (arith, bytes-length (all-words qs ++ e), length-append (all-words qs) e)
+
+-- a question of code 3, and so many of them
+longest : Question
+longest = record { code = 3; number = 0; row = replicate 60 (pos 0); word = replicate 15 0 }
+
+longest-good : (n : ℕ) → all-good (replicate n longest) ≡ true
+unfolding all-good question-good longest code-good width long row-long numbers row-good reliability-good bound symbols-good
+longest-good zero = refl
+longest-good (suc n) = longest-good n
+
+longest-words : (n : ℕ) → length (all-words (replicate n longest)) ≡ 24 * n
+unfolding all-words longest width row-words symbol-words count reliabilities symbols row-long long
+longest-words zero = refl
+longest-words (suc n) =
+    omega (arith, length-append (question-words longest) (all-words (replicate n longest)), question-length longest, longest-words n)
+
+pub longest-sheet : Longest-sheet
+unfolding sheet-most Read-written Written-read written most
+longest-sheet = record {
+  none-longer = λ bs g e.
+      let r = read-written bs g e in
+      omega (arith, ap length (r .2), written-length (questions bs), words-le (questions bs), r .1);
+  one-as-long =
+      let qs : List Question = replicate 200 longest in (
+        written qs,
+        bytes (written qs) (as-bytes-below (all-words qs ++ worded end-kind (length qs) ∷ [])),
+        written-read qs (longest-good 200) (omega (arith, length-replicate 200 longest)) .0,
+        written-length qs ∙ ap (λ (n : ℕ). 4 * (n + 1)) (longest-words 200),
+      );
+}
