@@ -3,12 +3,12 @@
 use mathlib.Core.Path.{_≡_, refl, sym, ap, ap₂, _∙_}
 use mathlib.Core.Bool.{true, not, cond}
 use mathlib.Core.List.{List, [], _∷_, _++_, append-assoc, append-nil}
-use Prim.Native.Nat.{ℕ, zero, suc, _+_, _*_, _-_, _^_, _<_, _≤_}
+use Prim.Native.Nat.{ℕ, zero, suc, _+_, _*_, _-_, _<_, _≤_}
 use native.Mathlib.Numerals.{add-one}
 use native.Mathlib.Omega.{arith}
 use borrow.Author.Tests.{not-false, ltb-true, le-leb, lt-leb, eq-eqb, ne-eqb}
 use lib.Dec.{ltb, eqb}
-use lib.ListN.{length, getD, take, drop, length-drop, length-append, take-append-drop}
+use lib.ListN.{length, getD, take, drop, length-take, length-drop, length-append, take-append-drop}
 use lib.Seq.{drop-cons, take-add, drop-drop, take-all, length-take-le}
 use lib.IntN.{ℤ}
 use Rattle.code.specs.Code.{code-good, width, long, symbols-good}
@@ -19,10 +19,10 @@ use Rattle.sheet.specs.Sheet.{Question, end-kind, most, numbers, worded, digits
 use Rattle.sheet.proofs.Items.{passed, held, first-none}
 use Rattle.sheet.proofs.Bytes.{bytes-length}
 use Rattle.sheet.proofs.Scan.{first-some, first-next}
-use Rattle.sheet.proofs.Trips.{parts-good}
+use Rattle.sheet.proofs.Trips.{good-parts, parts-good}
 use Rattle.sheet_writer.specs.Calls.{listed, fits, parts-refusal, asked-refusal, list-refusal, write-refusal, Write-says}
 use Rattle.sheet_writer.specs.Steps.{words-needed, begun, question}
-use Rattle.sheet_writer.proofs.Lists.{room, list-step}
+use Rattle.sheet_writer.proofs.Lists.{enough, list-step}
 use Rattle.sheet_writer.proofs.Packing.{begun-none, begun-length, begun-join, begun-word, begun-all}
 use Rattle.sheet_writer.proofs.Questions.{words-length}
 
@@ -40,9 +40,9 @@ pub asked-good : (c n k : ℕ) (rs : List ℤ) (ws : List ℕ) → asked-refusal
 unfolding asked-refusal parts-refusal numbers question
 asked-good c n k rs ws h =
     let m = width c in
-    let r = room c n k rs ws h in
     let a = passed (not (code-good c)) 0 _ h in
-    let b = passed (not (ltb n (2 ^ 24))) 10 _ (a .1) in
+    let b = passed (not (ltb n _)) 10 _ (a .1) in
+    let small = ltb-true n _ (not-false _ (b .0)) in
     let d = passed (not (fits k (length rs) (row-long m))) 1 _ (b .1) in
     let e = passed (not (fits k (length ws) (long m))) 2 _ (d .1) in
     let f = passed (not (row-good (take (row-long m) rs))) 4 _ (e .1) in
@@ -50,12 +50,19 @@ asked-good c n k rs ws h =
     parts-good (first-of c n rs ws)
     (record {
       known = not-false _ (a .0);
-      small = ltb-true n (2 ^ 24) (not-false _ (b .0));
-      row-length = length-take-le (row-long m) rs (r .0);
+      small = omega arith;
+      row-length = length-take-le (row-long m) rs (enough k (length rs) (row-long m) (not-false _ (d .0)));
       row-fine = not-false _ (f .0);
-      word-length = length-take-le (long m) ws (r .1);
+      word-length = length-take-le (long m) ws (enough k (length ws) (long m) (not-false _ (e .0)));
       word-fine = g .0;
     })
+
+-- and leaves what is left of the rows and of the words
+pub room : (c n k : ℕ) (rs : List ℤ) (ws : List ℕ) → asked-refusal c n k rs ws ≡ 0 → (row-long (width c) ≤ length rs) × (long (width c) ≤ length ws)
+unfolding question
+room c n k rs ws h =
+    let g = good-parts (first-of c n rs ws) (asked-good c n k rs ws h) in
+    (omega (arith, simp length-take at (g .row-length)), omega (arith, simp length-take at (g .word-length)))
 
 -- how many words the list takes
 pub needed-is : (cs ns : List ℕ) (rs : List ℤ) (ws : List ℕ) → length cs ≡ length ns → length (all-words (listed cs ns rs ws)) ≡ words-needed cs

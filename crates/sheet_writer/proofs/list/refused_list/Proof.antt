@@ -5,7 +5,7 @@ use mathlib.Core.Bool.{true, not, cond}
 use Prim.Native.Nat.{ℕ, _+_, _-_, _≤_}
 use borrow.Author.Tests.{eq-eqb, ne-eqb}
 use lib.Dec.{eqb}
-use lib.ListN.{length, getD, take, drop, length-drop}
+use lib.ListN.{length, getD, drop, length-drop}
 use lib.Seq.{take-all, drop-drop}
 use denote.Ref.{now}
 use Rattle.field.specs.Field.{width-good}
@@ -15,7 +15,8 @@ use Rattle.sheet.specs.Sheet.{first}
 use Rattle.sheet.proofs.Judging.{width-fine, row-long-le, long-le}
 use Rattle.sheet.proofs.Scan.{first-some, first-next}
 use Rattle.sheet_writer.specs.Calls.{asked-refusal, list-refusal}
-use Rattle.sheet_writer.proofs.Lists.{room, list-step, list-end}
+use Rattle.sheet_writer.proofs.Lists.{list-step, list-end}
+use Rattle.sheet_writer.proofs.Writing.{room}
 use borrow.Author.Needs.{needs}
 use native.Mathlib.Omega.{arith}
 use Rattle.sheet_writer.proofs.list.refused_list.Statement.{statement}
