@@ -33,9 +33,6 @@ inside c =
     let a = c .before in let s = a .before .before .before .before .args in
     omega (arith, c .loop-test .taken, a .before .question-words-of .ensures, words-length (s .code) (s .number) (now (s .row)) (now (s .word)))
 
-question-words-of-requires : tie.Need-question-words-of-requires Inv-loop μ-loop
-question-words-of-requires c κs = search needs
-
 add-n : tie.Need-add-n Inv-loop μ-loop
 add-n c = let k : ℕ = c .before .before .before .args .code in omega (arith, c .question-words-of .ensures, row-words-le (width k) (width-fine k), symbol-words-le (width k) (width-fine k))
 
@@ -78,7 +75,7 @@ write-question-spec =
     (tie.spec
     Inv-loop
     μ-loop
-    question-words-of-requires
+    (λ c κs. search needs)
     add-n
     loop-holds
     question-word-requires

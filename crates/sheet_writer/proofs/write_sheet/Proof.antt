@@ -21,16 +21,10 @@ returns c = let s = c .before .before .before .before .before .args in refuses (
 returns-2 : tie.Need-returns-2
 returns-2 c = let e = c .before in let s = e .before .before .before .before .before .args in refuses (now (s .codes)) (now (s .numbers)) (now (s .rows)) (now (s .words)) (now (s .output)) 12 (unequal (now (s .codes)) (now (s .numbers)) (now (s .rows)) (now (s .words)) (now (s .output)) (e .if1 .left) (c .if2 .taken)) (λ z. omega (arith, z))
 
-refused-list-requires : tie.Need-refused-list-requires
-refused-list-requires c κs = search needs
-
 returns-3 : tie.Need-returns-3
 returns-3 c = let r = c .before in let f = r .before in let e = f .before in let s = e .before .before .before .before .before .args in
     let l = r .refused-list .ensures in
     refuses (now (s .codes)) (now (s .numbers)) (now (s .rows)) (now (s .words)) (now (s .output)) (r .refused-list .result) (of-list (now (s .codes)) (now (s .numbers)) (now (s .rows)) (now (s .words)) (now (s .output)) (e .if1 .left) (f .if2 .left) (λ z. c .if3 .taken (l ∙ z)) ∙ sym l) (c .if3 .taken)
-
-needed-requires : tie.Need-needed-requires
-needed-requires c κs = search needs
 
 add-if4 : tie.Need-add-if4
 add-if4 c = omega (arith, bound c)
@@ -54,9 +48,6 @@ write-list-requires c κs = let g = c .before in let n = g .before in let t = n 
   ),
 )
 
-same-length : tie.Need-same-length
-same-length c = search needs
-
 returns-5 : tie.Need-returns-5
 returns-5 c =
     let w = c .before .before in let g = w .before .before in let n = g .before in let t = n .before in let r = t .before in let f = r .before in let e = f .before in
@@ -70,12 +61,12 @@ write-sheet-spec =
     (tie.spec
     returns
     returns-2
-    refused-list-requires
+    (λ c κs. search needs)
     returns-3
-    needed-requires
+    (λ c κs. search needs)
     add-if4
     mul-if4
     returns-4
     write-list-requires
-    same-length
+    (λ c. search needs)
     returns-5)

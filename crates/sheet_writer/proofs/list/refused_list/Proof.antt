@@ -72,56 +72,8 @@ over c =
     let a = c .before in let s = a .before .before .before .before .args in
     a .loop .inv .2 ∙ list-end (now (s .codes)) (now (s .numbers)) (a .loop .i) (drop (a .loop .row) (now (s .rows))) (drop (a .loop .word) (now (s .words))) (c .loop-test .left)
 
-loop-holds : tie.Need-loop-holds Inv-loop μ-loop
-loop-holds c = (search needs, search needs, refl)
-
-mul-code : tie.Need-mul-code Inv-loop μ-loop
-mul-code c = search needs
-
-shared-slice-read-code : tie.Need-shared-slice-read-code Inv-loop μ-loop
-shared-slice-read-code c = search needs
-
-mul-refused-question : tie.Need-mul-refused-question Inv-loop μ-loop
-mul-refused-question c = search needs
-
-shared-slice-read-refused-question : tie.Need-shared-slice-read-refused-question Inv-loop μ-loop
-shared-slice-read-refused-question c = search needs
-
-add-refused-question : tie.Need-add-refused-question Inv-loop μ-loop
-add-refused-question c = search needs
-
-sub-refused-question : tie.Need-sub-refused-question Inv-loop μ-loop
-sub-refused-question c = search needs
-
-mul-refused-question-2 : tie.Need-mul-refused-question-2 Inv-loop μ-loop
-mul-refused-question-2 c = search needs
-
-sub-refused-question-2 : tie.Need-sub-refused-question-2 Inv-loop μ-loop
-sub-refused-question-2 c = search needs
-
-part-refused-question-start : tie.Need-part-refused-question-start Inv-loop μ-loop
-part-refused-question-start c = search needs
-
-part-refused-question-end : tie.Need-part-refused-question-end Inv-loop μ-loop
-part-refused-question-end c = search needs
-
-sub-refused-question-3 : tie.Need-sub-refused-question-3 Inv-loop μ-loop
-sub-refused-question-3 c = search needs
-
-part-refused-question-start-2 : tie.Need-part-refused-question-start-2 Inv-loop μ-loop
-part-refused-question-start-2 c = search needs
-
-part-refused-question-end-2 : tie.Need-part-refused-question-end-2 Inv-loop μ-loop
-part-refused-question-end-2 c = search needs
-
-refused-question-requires : tie.Need-refused-question-requires Inv-loop μ-loop
-refused-question-requires c κs = search needs
-
 returns : tie.Need-returns Inv-loop μ-loop
 returns c = sym (turn (c .before) ∙ first-some (c .before .refused-question .result) _ (c .if1 .taken))
-
-width-of-requires : tie.Need-width-of-requires Inv-loop μ-loop
-width-of-requires c κs = search needs
 
 row-long-of-requires : tie.Need-row-long-of-requires Inv-loop μ-loop
 row-long-of-requires c κs = fine c
@@ -136,12 +88,6 @@ long-of-requires c κs = fine (c .before)
 add-word : tie.Need-add-word Inv-loop μ-loop
 add-word c = let a = c .before .before .before .before .before .before .before .before .before .before in
     omega (arith, a .loop .inv .1, c .long-of .ensures, long-le (c .before .before .width-of .result) (fine (c .before .before)))
-
-add-i : tie.Need-add-i Inv-loop μ-loop
-add-i c = search needs
-
-loop-less : tie.Need-loop-less Inv-loop μ-loop
-loop-less c = search needs
 
 loop-again : tie.Need-loop-again Inv-loop μ-loop
 loop-again c = let w = c .before .before in let r = w .before .before in let a = r .before .before .before .before .before .before in let s = a .before .before .before .before .args in
@@ -181,29 +127,29 @@ refused-list-spec =
     (tie.spec
     Inv-loop
     μ-loop
-    loop-holds
-    mul-code
-    shared-slice-read-code
-    mul-refused-question
-    shared-slice-read-refused-question
-    add-refused-question
-    sub-refused-question
-    mul-refused-question-2
-    sub-refused-question-2
-    part-refused-question-start
-    part-refused-question-end
-    sub-refused-question-3
-    part-refused-question-start-2
-    part-refused-question-end-2
-    refused-question-requires
+    (λ c. (search needs, search needs, refl))
+    (λ c. search needs)
+    (λ c. search needs)
+    (λ c. search needs)
+    (λ c. search needs)
+    (λ c. search needs)
+    (λ c. search needs)
+    (λ c. search needs)
+    (λ c. search needs)
+    (λ c. search needs)
+    (λ c. search needs)
+    (λ c. search needs)
+    (λ c. search needs)
+    (λ c. search needs)
+    (λ c κs. search needs)
     returns
-    width-of-requires
+    (λ c κs. search needs)
     row-long-of-requires
     add-row
     long-of-requires
     add-word
-    add-i
-    loop-less
+    (λ c. search needs)
+    (λ c. search needs)
     loop-again
     returns-2
     returns-3

@@ -16,18 +16,12 @@ use Rattle.sheet_writer.proofs.list.refused_question.Tie as tie
 known : (c : tie.Else1) → code-good (c .before .before .before .args .code) ≡ true
 known c = sym (c .before .is-code .ensures) ∙ not-false (c .before .is-code .result) (c .if1 .left)
 
-is-code-requires : tie.Need-is-code-requires
-is-code-requires c κs = search needs
-
 returns : tie.Need-returns
 returns c = let t = sym (c .before .is-code .ensures) ∙ not-true (c .before .is-code .result) (c .if1 .taken) in rw code-unknown
 
 returns-2 : tie.Need-returns-2
 unfolding asked-refusal numbers
 returns-2 c = let t = le-ltb _ _ (c .if2 .taken) in rw (known (c .before), t)
-
-width-of-requires : tie.Need-width-of-requires
-width-of-requires c κs = search needs
 
 refused-parts-requires : tie.Need-refused-parts-requires
 refused-parts-requires c κs = ap width-good (c .width-of .ensures) ∙ width-fine (c .before .before .before .before .before .args .code)
@@ -40,9 +34,9 @@ pub refused-question-spec : {M : Type 1} → statement M
 refused-question-spec =
     tie.close
     (tie.spec
-    is-code-requires
+    (λ c κs. search needs)
     returns
     returns-2
-    width-of-requires
+    (λ c κs. search needs)
     refused-parts-requires
     returns-3)
