@@ -192,12 +192,12 @@ module _ {cs ns : List ℕ} {rs : List ℤ} {ws o : List ℕ} {i row word at : �
         ∙ begun-all (all-words list ++ w ∷ []) o (b .whole ∙ ap (λ (n : ℕ). 4 * n) (sym (length-append (all-words list) (w ∷ []))))
 
 -- from a refusal to what the call says
-module _ (cs ns : List ℕ) (rs : List ℤ) (ws : List ℕ) (o : List ℕ) where
-  outcome-kept : (e r : ℕ) (D K : Type 0) → e ≡ r → (r ≡ 0 → ⊥) → K → Outcome e r D K
-  unfolding Outcome
-  outcome-kept zero r D K p h k = absurd (h (sym p))
-  outcome-kept (suc e) r D K p h k = (sym p, k)
+outcome-kept : (e r : ℕ) (D K : Type 0) → e ≡ r → (r ≡ 0 → ⊥) → K → Outcome e r D K
+unfolding Outcome
+outcome-kept zero r D K p h k = absurd (h (sym p))
+outcome-kept (suc e) r D K p h k = (sym p, k)
 
+module _ (cs ns : List ℕ) (rs : List ℤ) (ws : List ℕ) (o : List ℕ) where
   pub refuses : (r : ℕ) → write-refusal cs ns rs ws (length o) ≡ r → (r ≡ 0 → ⊥) → Write-says cs ns rs ws r o o
   unfolding Write-says
   refuses r e h = outcome-kept (write-refusal cs ns rs ws (length o)) r _ _ e h refl
@@ -206,31 +206,33 @@ module _ (cs ns : List ℕ) (rs : List ℤ) (ws : List ℕ) (o : List ℕ) where
   unfolding Write-says Outcome
   writes p e h = rw e (refl, h)
 
-  pub too-many : 200 < length cs → write-refusal cs ns rs ws (length o) ≡ 12
+-- what the call is refused by
+module _ (cs ns : List ℕ) (rs : List ℤ) (ws : List ℕ) (o : ℕ) where
+  pub too-many : 200 < length cs → write-refusal cs ns rs ws o ≡ 12
   unfolding write-refusal most
   too-many h = rw (lt-leb (length cs) 200 h)
 
-  pub unequal : length cs ≤ 200 → (length cs ≡ length ns → ⊥) → write-refusal cs ns rs ws (length o) ≡ 12
+  pub unequal : length cs ≤ 200 → (length cs ≡ length ns → ⊥) → write-refusal cs ns rs ws o ≡ 12
   unfolding write-refusal most
   unequal h n = rw (le-leb (length cs) 200 h, ne-eqb (length cs) (length ns) n)
 
   module _ (h : length cs ≤ 200) (n : length cs ≡ length ns) where
-    counted : write-refusal cs ns rs ws (length o) ≡ first (list-refusal cs ns rs ws) (cond (eqb (length o) (length (written (listed cs ns rs ws)))) 0 4)
+    counted : write-refusal cs ns rs ws o ≡ first (list-refusal cs ns rs ws) (cond (eqb o (length (written (listed cs ns rs ws)))) 0 4)
     unfolding write-refusal most
     counted = rw (le-leb (length cs) 200 h, eq-eqb (length cs) (length ns) n)
 
     pub long-of-sheet : length (written (listed cs ns rs ws)) ≡ 4 * (words-needed cs + 1)
     long-of-sheet = written-length (listed cs ns rs ws) ∙ ap (λ (x : ℕ). 4 * (x + 1)) (needed-is cs ns rs ws n)
 
-    pub of-list : (list-refusal cs ns rs ws ≡ 0 → ⊥) → write-refusal cs ns rs ws (length o) ≡ list-refusal cs ns rs ws
+    pub of-list : (list-refusal cs ns rs ws ≡ 0 → ⊥) → write-refusal cs ns rs ws o ≡ list-refusal cs ns rs ws
     of-list e = counted ∙ first-some (list-refusal cs ns rs ws) _ e
 
-    pub misfit : list-refusal cs ns rs ws ≡ 0 → (length o ≡ 4 * (words-needed cs + 1) → ⊥) → write-refusal cs ns rs ws (length o) ≡ 4
+    pub misfit : list-refusal cs ns rs ws ≡ 0 → (o ≡ 4 * (words-needed cs + 1) → ⊥) → write-refusal cs ns rs ws o ≡ 4
     misfit e l =
         counted ∙ first-next (list-refusal cs ns rs ws) _ e
-        ∙ rw (ne-eqb (length o) (length (written (listed cs ns rs ws))) (λ x. l (x ∙ long-of-sheet)))
+        ∙ rw (ne-eqb o (length (written (listed cs ns rs ws))) (λ x. l (x ∙ long-of-sheet)))
 
-    pub fitting : list-refusal cs ns rs ws ≡ 0 → length o ≡ 4 * (words-needed cs + 1) → write-refusal cs ns rs ws (length o) ≡ 0
+    pub fitting : list-refusal cs ns rs ws ≡ 0 → o ≡ 4 * (words-needed cs + 1) → write-refusal cs ns rs ws o ≡ 0
     fitting e l =
         counted ∙ first-next (list-refusal cs ns rs ws) _ e
-        ∙ rw (eq-eqb (length o) (length (written (listed cs ns rs ws))) (l ∙ sym long-of-sheet))
+        ∙ rw (eq-eqb o (length (written (listed cs ns rs ws))) (l ∙ sym long-of-sheet))
