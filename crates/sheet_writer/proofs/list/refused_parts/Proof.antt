@@ -39,24 +39,22 @@ last : (c : tie.After-symbols-good) → (t : Bool) → c .symbols-good .result �
     parts-refusal (s .m) (s .after) (now (s .rows)) (now (s .words)) ≡ cond t 0 6
 last c t e =
     let g = c .before .before in let h = g .before in let o = h .before .before in let l = o .before .before .before .before in let s = l .before .before .before .args in
-    word-last (s .m) (s .after) (now (s .rows)) (now (s .words)) (row-fits-now (o .before .before)) (word-fits-now o) (sym (row-test h) ∙ not-false (h .is-row .result) (g .if3 .left))
+    word-last _ _ _ _ (row-fits-now (o .before .before)) (word-fits-now o) (sym (row-test h) ∙ not-false (h .is-row .result) (g .if3 .left))
     ∙ ap (λ (x : Bool). cond x 0 6) (sym (c .symbols-good .ensures ∙ ap (λ (n : ℕ). symbols-good (s .m) (take n (now (s .words)))) (l .long-of .ensures)) ∙ e)
 
 returns : tie.Need-returns
-returns c = let s = c .before .before .before .before .before .args in
-    sym (row-misfit (s .m) (s .after) (now (s .rows)) (now (s .words)) (sym (row-fits (c .before)) ∙ not-true (c .before .is-enough .result) (c .if1 .taken)))
+returns c = sym (row-misfit _ _ _ _ (sym (row-fits (c .before)) ∙ not-true (c .before .is-enough .result) (c .if1 .taken)))
 
 returns-2 : tie.Need-returns-2
-returns-2 c = let s = c .before .before .before .before .before .before .before .args in
-    sym (word-misfit (s .m) (s .after) (now (s .rows)) (now (s .words)) (row-fits-now (c .before .before)) (sym (word-fits (c .before)) ∙ not-true (c .before .is-enough2 .result) (c .if2 .taken)))
+returns-2 c = sym (word-misfit _ _ _ _ (row-fits-now (c .before .before)) (sym (word-fits (c .before)) ∙ not-true (c .before .is-enough2 .result) (c .if2 .taken)))
 
 slice-aggregate-is-row : tie.Need-slice-aggregate-is-row
 slice-aggregate-is-row c = let o = c .before .before .before in let r = o .before .before .before in let s = r .before .before .args in
     sym (length-take-le (r .row-long-of .result) (now (s .rows)) (subst (λ (n : ℕ). n ≤ length (now (s .rows))) (sym (r .row-long-of .ensures)) (enough (s .after) (length (now (s .rows))) (row-long (s .m)) (row-fits-now o))))
 
 returns-3 : tie.Need-returns-3
-returns-3 c = let h = c .before in let o = h .before .before in let s = o .before .before .before .before .before .before .before .args in
-    sym (row-bad (s .m) (s .after) (now (s .rows)) (now (s .words)) (row-fits-now (o .before .before)) (word-fits-now o) (sym (row-test h) ∙ not-true (h .is-row .result) (c .if3 .taken)))
+returns-3 c = let h = c .before in let o = h .before .before in
+    sym (row-bad _ _ _ _ (row-fits-now (o .before .before)) (word-fits-now o) (sym (row-test h) ∙ not-true (h .is-row .result) (c .if3 .taken)))
 
 slice-aggregate-symbols-good : tie.Need-slice-aggregate-symbols-good
 slice-aggregate-symbols-good c = let o = c .before .before .before .before in let l = o .before .before .before .before in let s = l .before .before .before .args in
