@@ -73,12 +73,6 @@ loop-holds c =
     let s = c .before .before .before .before in
     begin (now (s .args .codes)) (now (s .args .numbers)) (now (s .args .rows)) (now (s .args .words)) (now (s .args .output)) (s .pre .0) (s .pre .1 .1 .1) (s .pre .1 .1 .0)
 
-add-row-end : tie.Need-add-row-end Inv-loop μ-loop
-add-row-end c = omega (arith, rows-in c)
-
-add-word-end : tie.Need-add-word-end Inv-loop μ-loop
-add-word-end c = omega (arith, words-in c)
-
 mul-write-question : tie.Need-mul-write-question Inv-loop μ-loop
 mul-write-question c = let i = c .before .before .before .before in omega (arith, i .loop-test .taken, i .before .before .before .before .before .before .pre .1 .0)
 
@@ -146,9 +140,9 @@ write-list-spec =
     (λ c. search needs)
     (λ c κs. search needs)
     (λ c κs. fine c)
-    add-row-end
+    (λ c. omega (arith, rows-in c))
     (λ c κs. fine (c .before))
-    add-word-end
+    (λ c. omega (arith, words-in c))
     mul-write-question
     shared-slice-read-write-question
     mul-write-question-2

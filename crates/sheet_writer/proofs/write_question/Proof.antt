@@ -60,9 +60,6 @@ loop-again c = let p = c .before .before in let i = p .before .before .before in
       ∙ begun-next (wanted i) (now (i .before .before .before .before .before .args .output)) (a .loop .j) (inside i),
 )
 
-same-length : tie.Need-same-length Inv-loop μ-loop
-same-length c = c .before .loop .inv .1
-
 returns : tie.Need-returns Inv-loop μ-loop
 returns c = let a = c .before in let s = a .before .before .before .before .args in
     let ws : List ℕ = question-words (question (s .code) (s .number) (now (s .row)) (now (s .word))) in
@@ -83,5 +80,5 @@ write-question-spec =
     add-j
     loop-less
     loop-again
-    same-length
+    (λ c. c .before .loop .inv .1)
     returns)

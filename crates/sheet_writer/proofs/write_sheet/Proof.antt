@@ -26,12 +26,6 @@ returns-3 c = let r = c .before in let f = r .before in let e = f .before in
     let l = r .refused-list .ensures in
     refuses _ _ _ _ _ (r .refused-list .result) (of-list _ _ _ _ _ (e .if1 .left) (f .if2 .left) (λ z. c .if3 .taken (l ∙ z)) ∙ sym l) (c .if3 .taken)
 
-add-if4 : tie.Need-add-if4
-add-if4 c = omega (arith, bound c)
-
-mul-if4 : tie.Need-mul-if4
-mul-if4 c = omega (arith, bound c)
-
 returns-4 : tie.Need-returns-4
 returns-4 c = let n = c .before in let t = n .before in let r = t .before in let f = r .before in let e = f .before in
     refuses _ _ _ _ _ 4 (misfit _ _ _ _ _ (e .if1 .left) (f .if2 .left) (sym (r .refused-list .ensures) ∙ t .if3 .left) (λ z. c .if4 .taken (z ∙ ap (λ (x : ℕ). 4 * (x + 1)) (sym (n .needed .ensures))))) (λ z. omega (arith, z))
@@ -63,8 +57,8 @@ write-sheet-spec =
     (λ c κs. search needs)
     returns-3
     (λ c κs. search needs)
-    add-if4
-    mul-if4
+    (λ c. omega (arith, bound c))
+    (λ c. omega (arith, bound c))
     returns-4
     write-list-requires
     (λ c. search needs)

@@ -31,9 +31,6 @@ loop-holds : tie.Need-loop-holds Inv-loop μ-loop
 unfolding words-needed
 loop-holds c = (search needs, rw (drop-length (now (c .before .args .codes))))
 
-add-total : tie.Need-add-total Inv-loop μ-loop
-add-total c = omega (arith, few c)
-
 add-total-2 : tie.Need-add-total-2 Inv-loop μ-loop
 add-total-2 c = let a = c .before .before .before in let cs : List ℕ = now (a .before .before .args .codes) in
     omega (arith, few c, a .loop .inv .1, needed-le (drop (a .loop .i) cs), length-drop (a .loop .i) cs, a .before .before .pre)
@@ -59,7 +56,7 @@ needed-spec =
     (λ c. search needs)
     (λ c. search needs)
     (λ c κs. search needs)
-    add-total
+    (λ c. omega (arith, few c))
     add-total-2
     (λ c. search needs)
     loop-again

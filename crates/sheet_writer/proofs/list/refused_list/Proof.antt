@@ -38,7 +38,7 @@ asked : (c : tie.After-refused-question Inv-loop μ-loop) →
 asked c =
     let a = c .before .before .before .before .before .before in let s = a .before .before .before .before .args in
     c .refused-question .ensures
-    ∙ ap₂ (asked-refusal (getD (now (s .codes)) (a .loop .i) 0) (getD (now (s .numbers)) (a .loop .i) 0) (length (now (s .codes)) - (a .loop .i + 1)))
+    ∙ ap₂ (asked-refusal _ _ _)
     (take-all (length (now (s .rows)) - a .loop .row) (drop (a .loop .row) (now (s .rows))) (omega (arith, length-drop (a .loop .row) (now (s .rows)))))
     (take-all (length (now (s .words)) - a .loop .word) (drop (a .loop .word) (now (s .words))) (omega (arith, length-drop (a .loop .word) (now (s .words)))))
 
@@ -51,14 +51,8 @@ turn : (c : tie.After-refused-question Inv-loop μ-loop) →
     (list-refusal (drop (a .loop .i + 1) (now (s .codes))) (drop (a .loop .i + 1) (now (s .numbers)))
     (drop (row-long m) (drop (a .loop .row) (now (s .rows)))) (drop (long m) (drop (a .loop .word) (now (s .words)))))
 turn c =
-    let a = c .before .before .before .before .before .before in let s = a .before .before .before .before .args in
-    let m : ℕ = width (getD (now (s .codes)) (a .loop .i) 0) in
-    let t = c .before .before .before .before .before .loop-test .taken in
-    a .loop .inv .2
-    ∙ list-step (now (s .codes)) (now (s .numbers)) (a .loop .i) (drop (a .loop .row) (now (s .rows))) (drop (a .loop .word) (now (s .words))) t (omega (arith, t, a .before .before .before .before .pre))
-    ∙ ap (λ (x : ℕ). first x
-    (list-refusal (drop (a .loop .i + 1) (now (s .codes))) (drop (a .loop .i + 1) (now (s .numbers)))
-    (drop (row-long m) (drop (a .loop .row) (now (s .rows)))) (drop (long m) (drop (a .loop .word) (now (s .words)))))) (sym (asked c))
+    let a = c .before .before .before .before .before .before in let t = c .before .before .before .before .before .loop-test .taken in
+    rw (asked c) (a .loop .inv .2 ∙ list-step _ _ _ _ _ t (omega (arith, t, a .before .before .before .before .pre)))
 
 fine : (c : tie.After-width-of Inv-loop μ-loop) → width-good (c .width-of .result) ≡ true
 fine c = ap width-good (c .width-of .ensures) ∙ width-fine _
@@ -70,20 +64,14 @@ over : (c : tie.After-loop Inv-loop μ-loop) →
     ≡ cond (not (eqb (length (drop (a .loop .row) (now (s .rows)))) 0)) 2 (cond (eqb (length (drop (a .loop .word) (now (s .words)))) 0) 0 3)
 over c =
     let a = c .before in let s = a .before .before .before .before .args in
-    a .loop .inv .2 ∙ list-end (now (s .codes)) (now (s .numbers)) (a .loop .i) (drop (a .loop .row) (now (s .rows))) (drop (a .loop .word) (now (s .words))) (c .loop-test .left)
+    a .loop .inv .2 ∙ list-end _ _ _ _ _ (c .loop-test .left)
 
 returns : tie.Need-returns Inv-loop μ-loop
 returns c = sym (turn (c .before) ∙ first-some (c .before .refused-question .result) _ (c .if1 .taken))
 
-row-long-of-requires : tie.Need-row-long-of-requires Inv-loop μ-loop
-row-long-of-requires c κs = fine c
-
 add-row : tie.Need-add-row Inv-loop μ-loop
 add-row c = let a = c .before .before .before .before .before .before .before .before .before in
     omega (arith, a .loop .inv .0, c .row-long-of .ensures, row-long-le (c .before .width-of .result) (fine (c .before)))
-
-long-of-requires : tie.Need-long-of-requires Inv-loop μ-loop
-long-of-requires c κs = fine (c .before)
 
 add-word : tie.Need-add-word Inv-loop μ-loop
 add-word c = let a = c .before .before .before .before .before .before .before .before .before .before in
@@ -94,12 +82,11 @@ loop-again c = let w = c .before .before in let r = w .before .before in let a =
     let k : ℕ = getD (now (s .codes)) (a .loop .i) 0 in
     let n : c .before .row-long-of .result ≡ row-long (width k) = c .before .row-long-of .ensures ∙ ap row-long (w .width-of .ensures) in
     let m : c .long-of .result ≡ long (width k) = c .long-of .ensures ∙ ap long (w .width-of .ensures) in
-    let f = room k (getD (now (s .numbers)) (a .loop .i) 0) (length (now (s .codes)) - (a .loop .i + 1)) (drop (a .loop .row) (now (s .rows))) (drop (a .loop .word) (now (s .words)))
-    (sym (asked r) ∙ w .before .if1 .left) in (
+    let f = room k _ _ _ _ (sym (asked r) ∙ w .before .if1 .left) in (
       omega (arith, a .loop .inv .0, n, f .0, length-drop (a .loop .row) (now (s .rows))),
       omega (arith, a .loop .inv .1, m, f .1, length-drop (a .loop .word) (now (s .words))),
       turn r ∙ first-next (r .refused-question .result) _ (w .before .if1 .left)
-          ∙ ap₂ (list-refusal (drop (a .loop .i + 1) (now (s .codes))) (drop (a .loop .i + 1) (now (s .numbers))))
+          ∙ ap₂ (list-refusal _ _)
           (drop-drop (row-long (width k)) (a .loop .row) (now (s .rows)) ∙ ap (λ (x : ℕ). drop (a .loop .row + x) (now (s .rows))) (sym n))
           (drop-drop (long (width k)) (a .loop .word) (now (s .words)) ∙ ap (λ (x : ℕ). drop (a .loop .word + x) (now (s .words))) (sym m)),
     )
@@ -144,9 +131,9 @@ refused-list-spec =
     (λ c κs. search needs)
     returns
     (λ c κs. search needs)
-    row-long-of-requires
+    (λ c κs. fine c)
     add-row
-    long-of-requires
+    (λ c κs. fine (c .before))
     add-word
     (λ c. search needs)
     (λ c. search needs)

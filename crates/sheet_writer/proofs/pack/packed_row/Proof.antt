@@ -51,20 +51,11 @@ loop-holds c = let rs : List ℤ = now (c .before .args .row) in
     let n : c .least .result ≡ length (take 3 (row-items rs)) = omega (arith, c .least .ensures, length-take 3 (row-items rs), row-items-length rs) in
     (omega arith, sym (packed-end 256 (take 3 (row-items rs)) (c .least .result) (omega arith)))
 
-mul-v : tie.Need-mul-v Inv-loop μ-loop
-mul-v c = omega (arith, small (c .before))
-
 mul-unsigned : tie.Need-mul-unsigned Inv-loop μ-loop
 mul-unsigned c = omega (arith, c .before .loop .inv .0, length-take 3 (row-items (now (c .before .before .before .args .row))))
 
-shared-slice-copy-out-unsigned : tie.Need-shared-slice-copy-out-unsigned Inv-loop μ-loop
-shared-slice-copy-out-unsigned c = inside c
-
 unsigned-requires : tie.Need-unsigned-requires Inv-loop μ-loop
 unsigned-requires c κs = ap reliability-good (element c) ∙ row-good-at (now (c .before .before .before .before .args .row)) (c .before .before .loop .i - 1) (c .before .before .before .before .pre) (inside (c .before))
-
-add-v : tie.Need-add-v Inv-loop μ-loop
-add-v c = omega (arith, small (c .before .before .before), byte c)
 
 loop-again : tie.Need-loop-again Inv-loop μ-loop
 loop-again c = let a = c .before .before .before in let rs : List ℤ = now (a .before .before .args .row) in (
@@ -85,11 +76,11 @@ packed-row-spec =
     (λ c κs. search needs)
     loop-holds
     (λ c. search needs)
-    mul-v
+    (λ c. omega (arith, small (c .before)))
     mul-unsigned
-    shared-slice-copy-out-unsigned
+    inside
     unsigned-requires
-    add-v
+    (λ c. omega (arith, small (c .before .before .before), byte c))
     (λ c. search needs)
     loop-again
     returns)

@@ -29,9 +29,6 @@ loop-holds c = let ws : List ℕ = now (c .before .before .args .word) in
     let n : c .least .result ≡ length (take 6 ws) = omega (arith, c .least .ensures, length-take 6 ws) in
     (omega arith, sym (packed-end 16 (take 6 ws) (c .least .result) (omega arith)))
 
-mul-v : tie.Need-mul-v Inv-loop μ-loop
-mul-v c = omega (arith, small (c .before))
-
 shared-slice-read-v : tie.Need-shared-slice-read-v Inv-loop μ-loop
 shared-slice-read-v c = let a = c .before .before in omega (arith, a .loop .inv .0, length-take 6 (now (a .before .before .before .args .word)))
 
@@ -57,7 +54,7 @@ packed-symbols-spec =
     (λ c κs. search needs)
     loop-holds
     (λ c. search needs)
-    mul-v
+    (λ c. omega (arith, small (c .before)))
     shared-slice-read-v
     cast-v
     add-v
