@@ -3,19 +3,18 @@
 use mathlib.Core.Path.{_≡_, refl}
 use mathlib.Core.Bool.{true, false, not, cond}
 use mathlib.Core.List.{List, [], _∷_}
-use Prim.Native.Nat.{ℕ, zero, suc, _+_, _*_, _-_, _^_, _<_, _≤_}
+use Prim.Native.Nat.{ℕ, zero, suc, _+_, _*_, _-_, _<_, _≤_}
 use native.Mathlib.Numerals.{add-one}
 use native.Mathlib.Omega.{arith}
-use borrow.Author.Tests.{eqb-true, leb-true, not-false, lt-ltb, le-ltb}
-use lib.Dec.{ltb, leb, eqb}
+use borrow.Author.Tests.{eqb-true, leb-true}
+use lib.Dec.{leb, eqb}
 use lib.ListN.{length, getD, take, drop, length-drop, drop-of-length-le}
 use lib.Seq.{drop-cons}
 use lib.IntN.{ℤ}
 use Rattle.code.specs.Code.{code-good, width, long, symbols-good}
 use Rattle.code.specs.Bits.{row-long}
 use Rattle.metric.specs.Row.{row-good}
-use Rattle.sheet.specs.Sheet.{numbers, first, row-words, symbol-words}
-use Rattle.sheet.proofs.Items.{passed}
+use Rattle.sheet.specs.Sheet.{first, row-words, symbol-words}
 use Rattle.sheet.proofs.Judging.{width-fine, row-words-le, symbol-words-le}
 use Rattle.sheet_writer.specs.Calls.{fits, parts-refusal, asked-refusal, list-refusal}
 use Rattle.sheet_writer.specs.Steps.{words-needed}
@@ -67,25 +66,6 @@ enough (suc k) l n e = leb-true n l e
 pub code-unknown : (c n k : ℕ) (rs : List ℤ) (ws : List ℕ) → code-good c ≡ false → asked-refusal c n k rs ws ≡ 1
 unfolding asked-refusal
 code-unknown c n k rs ws a = rw a
-
-pub number-large : (c n k : ℕ) (rs : List ℤ) (ws : List ℕ) → code-good c ≡ true → 2 ^ 24 ≤ n → asked-refusal c n k rs ws ≡ 11
-unfolding asked-refusal numbers
-number-large c n k rs ws a b = rw (a, le-ltb n (2 ^ 24) b)
-
-pub parts-next : (c n k : ℕ) (rs : List ℤ) (ws : List ℕ) → code-good c ≡ true → n < 2 ^ 24 → asked-refusal c n k rs ws ≡ parts-refusal (width c) k rs ws
-unfolding asked-refusal numbers
-parts-next c n k rs ws a b = rw (a, lt-ltb n (2 ^ 24) b)
-
--- an accepted question leaves what is left of the rows and of the words
-pub room : (c n k : ℕ) (rs : List ℤ) (ws : List ℕ) → asked-refusal c n k rs ws ≡ 0 → (row-long (width c) ≤ length rs) × (long (width c) ≤ length ws)
-unfolding asked-refusal parts-refusal
-room c n k rs ws h =
-    let m = width c in
-    let a = passed (not (code-good c)) 0 _ h in
-    let b = passed (not (ltb n numbers)) 10 _ (a .1) in
-    let d = passed (not (fits k (length rs) (row-long m))) 1 _ (b .1) in
-    let e = passed (not (fits k (length ws) (long m))) 2 _ (d .1) in
-    (enough k (length rs) (row-long m) (not-false _ (d .0)), enough k (length ws) (long m) (not-false _ (e .0)))
 
 module _ (cs ns : List ℕ) (i : ℕ) (rs : List ℤ) (ws : List ℕ) where
   pub list-step : i < length cs → i < length ns →

@@ -33,9 +33,6 @@ inside c =
     let a = c .before in let s = a .before .before .before .before .args in
     omega (arith, c .loop-test .taken, a .before .question-words-of .ensures, words-length (s .code) (s .number) (now (s .row)) (now (s .word)))
 
-question-words-of-requires : tie.Need-question-words-of-requires Inv-loop μ-loop
-question-words-of-requires c κs = search needs
-
 add-n : tie.Need-add-n Inv-loop μ-loop
 add-n c = let k : ℕ = c .before .before .before .args .code in omega (arith, c .question-words-of .ensures, row-words-le (width k) (width-fine k), symbol-words-le (width k) (width-fine k))
 
@@ -63,9 +60,6 @@ loop-again c = let p = c .before .before in let i = p .before .before .before in
       ∙ begun-next (wanted i) (now (i .before .before .before .before .before .args .output)) (a .loop .j) (inside i),
 )
 
-same-length : tie.Need-same-length Inv-loop μ-loop
-same-length c = c .before .loop .inv .1
-
 returns : tie.Need-returns Inv-loop μ-loop
 returns c = let a = c .before in let s = a .before .before .before .before .args in
     let ws : List ℕ = question-words (question (s .code) (s .number) (now (s .row)) (now (s .word))) in
@@ -78,7 +72,7 @@ write-question-spec =
     (tie.spec
     Inv-loop
     μ-loop
-    question-words-of-requires
+    (λ c κs. search needs)
     add-n
     loop-holds
     question-word-requires
@@ -86,5 +80,5 @@ write-question-spec =
     add-j
     loop-less
     loop-again
-    same-length
+    (λ c. c .before .loop .inv .1)
     returns)

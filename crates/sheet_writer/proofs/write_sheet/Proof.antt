@@ -16,53 +16,37 @@ bound c =
     omega (arith, c .needed .ensures, needed-le (now (s .codes)), e .if1 .left)
 
 returns : tie.Need-returns
-returns c = let s = c .before .before .before .before .before .args in refuses (now (s .codes)) (now (s .numbers)) (now (s .rows)) (now (s .words)) (now (s .output)) 12 (too-many (now (s .codes)) (now (s .numbers)) (now (s .rows)) (now (s .words)) (now (s .output)) (c .if1 .taken)) (λ z. omega (arith, z))
+returns c = refuses _ _ _ _ _ 12 (too-many _ _ _ _ _ (c .if1 .taken)) (λ z. omega (arith, z))
 
 returns-2 : tie.Need-returns-2
-returns-2 c = let e = c .before in let s = e .before .before .before .before .before .args in refuses (now (s .codes)) (now (s .numbers)) (now (s .rows)) (now (s .words)) (now (s .output)) 12 (unequal (now (s .codes)) (now (s .numbers)) (now (s .rows)) (now (s .words)) (now (s .output)) (e .if1 .left) (c .if2 .taken)) (λ z. omega (arith, z))
-
-refused-list-requires : tie.Need-refused-list-requires
-refused-list-requires c κs = search needs
+returns-2 c = refuses _ _ _ _ _ 12 (unequal _ _ _ _ _ (c .before .if1 .left) (c .if2 .taken)) (λ z. omega (arith, z))
 
 returns-3 : tie.Need-returns-3
-returns-3 c = let r = c .before in let f = r .before in let e = f .before in let s = e .before .before .before .before .before .args in
+returns-3 c = let r = c .before in let f = r .before in let e = f .before in
     let l = r .refused-list .ensures in
-    refuses (now (s .codes)) (now (s .numbers)) (now (s .rows)) (now (s .words)) (now (s .output)) (r .refused-list .result) (of-list (now (s .codes)) (now (s .numbers)) (now (s .rows)) (now (s .words)) (now (s .output)) (e .if1 .left) (f .if2 .left) (λ z. c .if3 .taken (l ∙ z)) ∙ sym l) (c .if3 .taken)
-
-needed-requires : tie.Need-needed-requires
-needed-requires c κs = search needs
-
-add-if4 : tie.Need-add-if4
-add-if4 c = omega (arith, bound c)
-
-mul-if4 : tie.Need-mul-if4
-mul-if4 c = omega (arith, bound c)
+    refuses _ _ _ _ _ (r .refused-list .result) (of-list _ _ _ _ _ (e .if1 .left) (f .if2 .left) (λ z. c .if3 .taken (l ∙ z)) ∙ sym l) (c .if3 .taken)
 
 returns-4 : tie.Need-returns-4
-returns-4 c = let n = c .before in let t = n .before in let r = t .before in let f = r .before in let e = f .before in let s = e .before .before .before .before .before .args in
-    refuses (now (s .codes)) (now (s .numbers)) (now (s .rows)) (now (s .words)) (now (s .output)) 4 (misfit (now (s .codes)) (now (s .numbers)) (now (s .rows)) (now (s .words)) (now (s .output)) (e .if1 .left) (f .if2 .left) (sym (r .refused-list .ensures) ∙ t .if3 .left) (λ z. c .if4 .taken (z ∙ ap (λ (x : ℕ). 4 * (x + 1)) (sym (n .needed .ensures))))) (λ z. omega (arith, z))
+returns-4 c = let n = c .before in let t = n .before in let r = t .before in let f = r .before in let e = f .before in
+    refuses _ _ _ _ _ 4 (misfit _ _ _ _ _ (e .if1 .left) (f .if2 .left) (sym (r .refused-list .ensures) ∙ t .if3 .left) (λ z. c .if4 .taken (z ∙ ap (λ (x : ℕ). 4 * (x + 1)) (sym (n .needed .ensures))))) (λ z. omega (arith, z))
 
 write-list-requires : tie.Need-write-list-requires
-write-list-requires c κs = let g = c .before in let n = g .before in let t = n .before in let r = t .before in let f = r .before in let e = f .before in let s = e .before .before .before .before .before .args in (
+write-list-requires c κs = let g = c .before in let n = g .before in let t = n .before in let r = t .before in let f = r .before in let e = f .before in (
   f .if2 .left,
   (
     e .if1 .left,
     (
       sym (r .refused-list .ensures) ∙ t .if3 .left,
-      g .if4 .left ∙ ap (λ (x : ℕ). 4 * (x + 1)) (n .needed .ensures ∙ sym (needed-is (now (s .codes)) (now (s .numbers)) (now (s .rows)) (now (s .words)) (f .if2 .left))),
+      g .if4 .left ∙ ap (λ (x : ℕ). 4 * (x + 1)) (n .needed .ensures ∙ sym (needed-is _ _ _ _ (f .if2 .left))),
     ),
   ),
 )
 
-same-length : tie.Need-same-length
-same-length c = search needs
-
 returns-5 : tie.Need-returns-5
 returns-5 c =
     let w = c .before .before in let g = w .before .before in let n = g .before in let t = n .before in let r = t .before in let f = r .before in let e = f .before in
-    let s = e .before .before .before .before .before .args in
-    writes (now (s .codes)) (now (s .numbers)) (now (s .rows)) (now (s .words)) (now (s .output)) _
-    (fitting (now (s .codes)) (now (s .numbers)) (now (s .rows)) (now (s .words)) (now (s .output)) (e .if1 .left) (f .if2 .left) (sym (r .refused-list .ensures) ∙ t .if3 .left) (g .if4 .left ∙ ap (λ (x : ℕ). 4 * (x + 1)) (n .needed .ensures))) (w .write-list .ensures)
+    writes _ _ _ _ _ _
+    (fitting _ _ _ _ _ (e .if1 .left) (f .if2 .left) (sym (r .refused-list .ensures) ∙ t .if3 .left) (g .if4 .left ∙ ap (λ (x : ℕ). 4 * (x + 1)) (n .needed .ensures))) (w .write-list .ensures)
 
 pub write-sheet-spec : {M : Type 1} → statement M
 write-sheet-spec =
@@ -70,12 +54,12 @@ write-sheet-spec =
     (tie.spec
     returns
     returns-2
-    refused-list-requires
+    (λ c κs. search needs)
     returns-3
-    needed-requires
-    add-if4
-    mul-if4
+    (λ c κs. search needs)
+    (λ c. omega (arith, bound c))
+    (λ c. omega (arith, bound c))
     returns-4
     write-list-requires
-    same-length
+    (λ c. search needs)
     returns-5)

@@ -31,27 +31,9 @@ loop-holds : tie.Need-loop-holds Inv-loop μ-loop
 unfolding words-needed
 loop-holds c = (search needs, rw (drop-length (now (c .before .args .codes))))
 
-sub-i : tie.Need-sub-i Inv-loop μ-loop
-sub-i c = search needs
-
-mul-question-words-of : tie.Need-mul-question-words-of Inv-loop μ-loop
-mul-question-words-of c = search needs
-
-shared-slice-read-question-words-of : tie.Need-shared-slice-read-question-words-of Inv-loop μ-loop
-shared-slice-read-question-words-of c = search needs
-
-question-words-of-requires : tie.Need-question-words-of-requires Inv-loop μ-loop
-question-words-of-requires c κs = search needs
-
-add-total : tie.Need-add-total Inv-loop μ-loop
-add-total c = omega (arith, few c)
-
 add-total-2 : tie.Need-add-total-2 Inv-loop μ-loop
 add-total-2 c = let a = c .before .before .before in let cs : List ℕ = now (a .before .before .args .codes) in
     omega (arith, few c, a .loop .inv .1, needed-le (drop (a .loop .i) cs), length-drop (a .loop .i) cs, a .before .before .pre)
-
-loop-less : tie.Need-loop-less Inv-loop μ-loop
-loop-less c = search needs
 
 loop-again : tie.Need-loop-again Inv-loop μ-loop
 loop-again c = let a = c .before .before .before in let cs : List ℕ = now (a .before .before .args .codes) in
@@ -70,12 +52,12 @@ needed-spec =
     Inv-loop
     μ-loop
     loop-holds
-    sub-i
-    mul-question-words-of
-    shared-slice-read-question-words-of
-    question-words-of-requires
-    add-total
+    (λ c. search needs)
+    (λ c. search needs)
+    (λ c. search needs)
+    (λ c κs. search needs)
+    (λ c. omega (arith, few c))
     add-total-2
-    loop-less
+    (λ c. search needs)
     loop-again
     returns)

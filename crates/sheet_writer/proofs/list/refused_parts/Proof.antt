@@ -39,46 +39,26 @@ last : (c : tie.After-symbols-good) → (t : Bool) → c .symbols-good .result �
     parts-refusal (s .m) (s .after) (now (s .rows)) (now (s .words)) ≡ cond t 0 6
 last c t e =
     let g = c .before .before in let h = g .before in let o = h .before .before in let l = o .before .before .before .before in let s = l .before .before .before .args in
-    word-last (s .m) (s .after) (now (s .rows)) (now (s .words)) (row-fits-now (o .before .before)) (word-fits-now o) (sym (row-test h) ∙ not-false (h .is-row .result) (g .if3 .left))
+    word-last _ _ _ _ (row-fits-now (o .before .before)) (word-fits-now o) (sym (row-test h) ∙ not-false (h .is-row .result) (g .if3 .left))
     ∙ ap (λ (x : Bool). cond x 0 6) (sym (c .symbols-good .ensures ∙ ap (λ (n : ℕ). symbols-good (s .m) (take n (now (s .words)))) (l .long-of .ensures)) ∙ e)
 
-row-long-of-requires : tie.Need-row-long-of-requires
-row-long-of-requires c κs = search needs
-
-long-of-requires : tie.Need-long-of-requires
-long-of-requires c κs = search needs
-
-is-enough-requires : tie.Need-is-enough-requires
-is-enough-requires c κs = search needs
-
 returns : tie.Need-returns
-returns c = let s = c .before .before .before .before .before .args in
-    sym (row-misfit (s .m) (s .after) (now (s .rows)) (now (s .words)) (sym (row-fits (c .before)) ∙ not-true (c .before .is-enough .result) (c .if1 .taken)))
-
-is-enough-requires-2 : tie.Need-is-enough-requires-2
-is-enough-requires-2 c κs = search needs
+returns c = sym (row-misfit _ _ _ _ (sym (row-fits (c .before)) ∙ not-true (c .before .is-enough .result) (c .if1 .taken)))
 
 returns-2 : tie.Need-returns-2
-returns-2 c = let s = c .before .before .before .before .before .before .before .args in
-    sym (word-misfit (s .m) (s .after) (now (s .rows)) (now (s .words)) (row-fits-now (c .before .before)) (sym (word-fits (c .before)) ∙ not-true (c .before .is-enough2 .result) (c .if2 .taken)))
+returns-2 c = sym (word-misfit _ _ _ _ (row-fits-now (c .before .before)) (sym (word-fits (c .before)) ∙ not-true (c .before .is-enough2 .result) (c .if2 .taken)))
 
 slice-aggregate-is-row : tie.Need-slice-aggregate-is-row
 slice-aggregate-is-row c = let o = c .before .before .before in let r = o .before .before .before in let s = r .before .before .args in
     sym (length-take-le (r .row-long-of .result) (now (s .rows)) (subst (λ (n : ℕ). n ≤ length (now (s .rows))) (sym (r .row-long-of .ensures)) (enough (s .after) (length (now (s .rows))) (row-long (s .m)) (row-fits-now o))))
 
-is-row-requires : tie.Need-is-row-requires
-is-row-requires c κs = search needs
-
 returns-3 : tie.Need-returns-3
-returns-3 c = let h = c .before in let o = h .before .before in let s = o .before .before .before .before .before .before .before .args in
-    sym (row-bad (s .m) (s .after) (now (s .rows)) (now (s .words)) (row-fits-now (o .before .before)) (word-fits-now o) (sym (row-test h) ∙ not-true (h .is-row .result) (c .if3 .taken)))
+returns-3 c = let h = c .before in let o = h .before .before in
+    sym (row-bad _ _ _ _ (row-fits-now (o .before .before)) (word-fits-now o) (sym (row-test h) ∙ not-true (h .is-row .result) (c .if3 .taken)))
 
 slice-aggregate-symbols-good : tie.Need-slice-aggregate-symbols-good
 slice-aggregate-symbols-good c = let o = c .before .before .before .before in let l = o .before .before .before .before in let s = l .before .before .before .args in
     sym (length-take-le (l .long-of .result) (now (s .words)) (subst (λ (n : ℕ). n ≤ length (now (s .words))) (sym (l .long-of .ensures)) (enough (s .after) (length (now (s .words))) (long (s .m)) (word-fits-now o))))
-
-symbols-good-requires : tie.Need-symbols-good-requires
-symbols-good-requires c κs = search needs
 
 returns-4 : tie.Need-returns-4
 returns-4 c = sym (last (c .before) false (not-true (c .before .symbols-good .result) (c .if4 .taken)))
@@ -90,16 +70,16 @@ pub refused-parts-spec : {M : Type 1} → statement M
 refused-parts-spec =
     tie.close
     (tie.spec
-    row-long-of-requires
-    long-of-requires
-    is-enough-requires
+    (λ c κs. search needs)
+    (λ c κs. search needs)
+    (λ c κs. search needs)
     returns
-    is-enough-requires-2
+    (λ c κs. search needs)
     returns-2
     slice-aggregate-is-row
-    is-row-requires
+    (λ c κs. search needs)
     returns-3
     slice-aggregate-symbols-good
-    symbols-good-requires
+    (λ c κs. search needs)
     returns-4
     returns-5)

@@ -6,15 +6,9 @@ use borrow.Author.Needs.{needs}
 use Rattle.sheet_writer.proofs.pack.end_word.Statement.{statement}
 use Rattle.sheet_writer.proofs.pack.end_word.Tie as tie
 
-mul-result : tie.Need-mul-result
-mul-result c = search needs
-
-add-result : tie.Need-add-result
-add-result c = search needs
-
 returns : tie.Need-returns
 unfolding worded end-kind
 returns c = refl
 
 pub end-word-spec : {M : Type 1} → statement M
-end-word-spec = tie.close (tie.spec mul-result add-result returns)
+end-word-spec = tie.close (tie.spec (λ c. search needs) (λ c. search needs) returns)

@@ -46,34 +46,16 @@ byte c =
       unsigned-lt (getD rs (a .loop .i - 1) (pos 0)) (row-good-at rs (a .loop .i - 1) (a .before .before .pre) (inside (c .before .before))),
     )
 
-least-requires : tie.Need-least-requires Inv-loop μ-loop
-least-requires c κs = search needs
-
 loop-holds : tie.Need-loop-holds Inv-loop μ-loop
 loop-holds c = let rs : List ℤ = now (c .before .args .row) in
     let n : c .least .result ≡ length (take 3 (row-items rs)) = omega (arith, c .least .ensures, length-take 3 (row-items rs), row-items-length rs) in
     (omega arith, sym (packed-end 256 (take 3 (row-items rs)) (c .least .result) (omega arith)))
 
-sub-i : tie.Need-sub-i Inv-loop μ-loop
-sub-i c = search needs
-
-mul-v : tie.Need-mul-v Inv-loop μ-loop
-mul-v c = omega (arith, small (c .before))
-
 mul-unsigned : tie.Need-mul-unsigned Inv-loop μ-loop
 mul-unsigned c = omega (arith, c .before .loop .inv .0, length-take 3 (row-items (now (c .before .before .before .args .row))))
 
-shared-slice-copy-out-unsigned : tie.Need-shared-slice-copy-out-unsigned Inv-loop μ-loop
-shared-slice-copy-out-unsigned c = inside c
-
 unsigned-requires : tie.Need-unsigned-requires Inv-loop μ-loop
 unsigned-requires c κs = ap reliability-good (element c) ∙ row-good-at (now (c .before .before .before .before .args .row)) (c .before .before .loop .i - 1) (c .before .before .before .before .pre) (inside (c .before))
-
-add-v : tie.Need-add-v Inv-loop μ-loop
-add-v c = omega (arith, small (c .before .before .before), byte c)
-
-loop-less : tie.Need-loop-less Inv-loop μ-loop
-loop-less c = search needs
 
 loop-again : tie.Need-loop-again Inv-loop μ-loop
 loop-again c = let a = c .before .before .before in let rs : List ℤ = now (a .before .before .args .row) in (
@@ -91,14 +73,14 @@ packed-row-spec =
     (tie.spec
     Inv-loop
     μ-loop
-    least-requires
+    (λ c κs. search needs)
     loop-holds
-    sub-i
-    mul-v
+    (λ c. search needs)
+    (λ c. omega (arith, small (c .before)))
     mul-unsigned
-    shared-slice-copy-out-unsigned
+    inside
     unsigned-requires
-    add-v
-    loop-less
+    (λ c. omega (arith, small (c .before .before .before), byte c))
+    (λ c. search needs)
     loop-again
     returns)

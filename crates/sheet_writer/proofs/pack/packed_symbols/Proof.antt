@@ -24,19 +24,10 @@ small c =
     let s = c .before .before .before in
     subst (λ (x : ℕ). x < 16777216) (sym (c .loop .inv .1)) (digit-bound 16 6 (now (s .args .word)) (c .loop .i) (lit< tt) (symbol-below (now (s .args .word)) (s .pre)))
 
-least-requires : tie.Need-least-requires Inv-loop μ-loop
-least-requires c κs = search needs
-
 loop-holds : tie.Need-loop-holds Inv-loop μ-loop
 loop-holds c = let ws : List ℕ = now (c .before .before .args .word) in
     let n : c .least .result ≡ length (take 6 ws) = omega (arith, c .least .ensures, length-take 6 ws) in
     (omega arith, sym (packed-end 16 (take 6 ws) (c .least .result) (omega arith)))
-
-sub-i : tie.Need-sub-i Inv-loop μ-loop
-sub-i c = search needs
-
-mul-v : tie.Need-mul-v Inv-loop μ-loop
-mul-v c = omega (arith, small (c .before))
 
 shared-slice-read-v : tie.Need-shared-slice-read-v Inv-loop μ-loop
 shared-slice-read-v c = let a = c .before .before in omega (arith, a .loop .inv .0, length-take 6 (now (a .before .before .before .args .word)))
@@ -46,9 +37,6 @@ cast-v c = omega (arith, c .shared-slice-known2 .given (c .before .before .loop 
 
 add-v : tie.Need-add-v Inv-loop μ-loop
 add-v c = omega (arith, small (c .before .before), c .shared-slice-known2 .given (c .before .before .loop .i - 1))
-
-loop-less : tie.Need-loop-less Inv-loop μ-loop
-loop-less c = search needs
 
 loop-again : tie.Need-loop-again Inv-loop μ-loop
 loop-again c = let a = c .before .before in let ws : List ℕ = now (a .before .before .before .args .word) in
@@ -63,13 +51,13 @@ packed-symbols-spec =
     (tie.spec
     Inv-loop
     μ-loop
-    least-requires
+    (λ c κs. search needs)
     loop-holds
-    sub-i
-    mul-v
+    (λ c. search needs)
+    (λ c. omega (arith, small (c .before)))
     shared-slice-read-v
     cast-v
     add-v
-    loop-less
+    (λ c. search needs)
     loop-again
     returns)

@@ -23,9 +23,6 @@ good s = good-parts (question (s .args .code) (s .args .number) (now (s .args .r
 size : (c : tie.After-row-words-of) → c .row-words-of .result ≡ row-words (width (c .before .before .before .before .args .code))
 size c = c .row-words-of .ensures ∙ ap row-words (c .before .width-of .ensures)
 
-mul-result : tie.Need-mul-result
-mul-result c = search needs
-
 mul-result-2 : tie.Need-mul-result-2
 unfolding question
 mul-result-2 c = let s = c .before .before in omega (arith, code-lt (s .args .code) (good s .known))
@@ -39,16 +36,10 @@ unfolding question
 add-result-2 c = let s = c .before .before in omega (arith, code-lt (s .args .code) (good s .known), good s .small)
 
 returns : tie.Need-returns
-returns c = let s = c .before .before .args in sym (word-head (s .code) (s .number) (now (s .row)) (now (s .word)) (s .j) (c .if1 .taken))
-
-width-of-requires : tie.Need-width-of-requires
-width-of-requires c κs = search needs
+returns c = sym (word-head _ _ _ _ _ (c .if1 .taken))
 
 row-words-of-requires : tie.Need-row-words-of-requires
 row-words-of-requires c κs = ap width-good (c .width-of .ensures) ∙ width-fine (c .before .before .before .args .code)
-
-sub-row-word : tie.Need-sub-row-word
-sub-row-word c = search needs
 
 row-word-requires : tie.Need-row-word-requires
 unfolding question
@@ -58,13 +49,7 @@ row-word-requires c κs = let k = c .before in let e = k .before .before in let 
 returns-2 : tie.Need-returns-2
 returns-2 c = let k = c .before .before in let e = k .before .before in let s = e .before .before .args in
     c .row-word .ensures
-    ∙ sym (word-row (s .code) (s .number) (now (s .row)) (now (s .word)) (s .j) (e .if1 .left) (subst (λ (x : ℕ). s .j ≤ x) (size k) (c .before .if2 .taken)))
-
-sub-symbol-word : tie.Need-sub-symbol-word
-sub-symbol-word c = search needs
-
-sub-symbol-word-2 : tie.Need-sub-symbol-word-2
-sub-symbol-word-2 c = search needs
+    ∙ sym (word-row _ _ _ _ _ (e .if1 .left) (subst (λ (x : ℕ). s .j ≤ x) (size k) (c .before .if2 .taken)))
 
 symbol-word-requires : tie.Need-symbol-word-requires
 unfolding question
@@ -72,29 +57,29 @@ symbol-word-requires c κs = let k = c .before in let s = k .before .before .bef
   symbols-four (width (s .args .code)) (now (s .args .word)) (width-le (s .args .code) (good s .known)) (good s .word-fine),
   subst (λ (x : ℕ). 6 * (s .args .j - 1 - x) ≤ length (now (s .args .word))) (sym (size k))
       (symbol-place (width (s .args .code)) (s .args .j) (length (now (s .args .word))) (good s .word-length) (subst (λ (x : ℕ). x < s .args .j) (size k) (c .if2 .left))
-      (subst (λ (x : ℕ). s .args .j < x) (words-length (s .args .code) (s .args .number) (now (s .args .row)) (now (s .args .word))) (s .pre .1))),
+      (subst (λ (x : ℕ). s .args .j < x) (words-length _ _ _ _) (s .pre .1))),
 )
 
 returns-3 : tie.Need-returns-3
 returns-3 c = let k = c .before .before in let s = k .before .before .before .before in let a = s .args in
     c .symbol-word .ensures ∙ ap (λ (x : ℕ). 805306368 + packed 16 (take 6 (drop (6 * (a .j - 1 - x)) (now (a .word))))) (size k)
-    ∙ sym (word-symbol (a .code) (a .number) (now (a .row)) (now (a .word)) (a .j) (subst (λ (x : ℕ). x < a .j) (size k) (c .before .if2 .left)) (s .pre .1))
+    ∙ sym (word-symbol _ _ _ _ _ (subst (λ (x : ℕ). x < a .j) (size k) (c .before .if2 .left)) (s .pre .1))
 
 pub question-word-spec : {M : Type 1} → statement M
 question-word-spec =
     tie.close
     (tie.spec
-    mul-result
+    (λ c. search needs)
     mul-result-2
     add-result
     add-result-2
     returns
-    width-of-requires
+    (λ c κs. search needs)
     row-words-of-requires
-    sub-row-word
+    (λ c. search needs)
     row-word-requires
     returns-2
-    sub-symbol-word
-    sub-symbol-word-2
+    (λ c. search needs)
+    (λ c. search needs)
     symbol-word-requires
     returns-3)

@@ -2,7 +2,7 @@
 -- Assumes nothing.
 use mathlib.Core.Path.{_≡_, ap, _∙_}
 use mathlib.Core.List.{List}
-use Prim.Native.Nat.{ℕ, _+_, _*_, _-_, _<_}
+use Prim.Native.Nat.{ℕ, _+_, _*_, _-_}
 use lib.Dec.{lit<}
 use lib.ListN.{length, take, drop, length-drop}
 use lib.Seq.{take-all}
@@ -22,24 +22,6 @@ whole l n = take-all (length l - n) (drop n l) (omega (arith, length-drop n l))
 is : (c : tie.After-packed-row) → let s = c .before .before .args in c .packed-row .result ≡ packed 256 (take 3 (row-items (drop (3 * s .k) (now (s .row)))))
 is c = let s = c .before .before .args in c .packed-row .ensures ∙ ap (λ (l : List ℤ). packed 256 (take 3 (row-items l))) (whole (now (s .row)) (3 * s .k))
 
-mul-from : tie.Need-mul-from
-mul-from c = search needs
-
-mul-result : tie.Need-mul-result
-mul-result c = search needs
-
-mul-packed-row : tie.Need-mul-packed-row
-mul-packed-row c = search needs
-
-sub-packed-row : tie.Need-sub-packed-row
-sub-packed-row c = search needs
-
-part-packed-row-start : tie.Need-part-packed-row-start
-part-packed-row-start c = search needs
-
-part-packed-row-end : tie.Need-part-packed-row-end
-part-packed-row-end c = search needs
-
 packed-row-requires : tie.Need-packed-row-requires
 packed-row-requires c κs = let s = c .before in let l : List ℤ = drop (3 * s .args .k) (now (s .args .row)) in
     ap (row-good) (whole (now (s .args .row)) (3 * s .args .k)) ∙ row-good-drop (3 * s .args .k) (now (s .args .row)) (s .pre .0)
@@ -55,12 +37,12 @@ pub row-word-spec : {M : Type 1} → statement M
 row-word-spec =
     tie.close
     (tie.spec
-    mul-from
-    mul-result
-    mul-packed-row
-    sub-packed-row
-    part-packed-row-start
-    part-packed-row-end
+    (λ c. search needs)
+    (λ c. search needs)
+    (λ c. search needs)
+    (λ c. search needs)
+    (λ c. search needs)
+    (λ c. search needs)
     packed-row-requires
     add-result
     returns)

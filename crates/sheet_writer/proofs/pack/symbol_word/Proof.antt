@@ -1,8 +1,8 @@
 -- `sheet_writer::symbol_word` meets its contract.
 -- Assumes nothing.
-use mathlib.Core.Path.{_≡_, sym, ap, _∙_}
+use mathlib.Core.Path.{_≡_, ap, _∙_}
 use mathlib.Core.List.{List}
-use Prim.Native.Nat.{ℕ, _+_, _*_, _-_, _<_}
+use Prim.Native.Nat.{ℕ, _+_, _*_, _-_}
 use lib.Dec.{lit<}
 use lib.ListN.{length, take, drop, length-drop}
 use lib.Seq.{take-all}
@@ -21,21 +21,6 @@ whole l n = take-all (length l - n) (drop n l) (omega (arith, length-drop n l))
 is : (c : tie.After-packed-symbols) → let s = c .before .before .before .args in c .packed-symbols .result ≡ packed 16 (take 6 (drop (6 * s .k) (now (s .word))))
 is c = let s = c .before .before .before .args in c .packed-symbols .ensures ∙ ap (λ (l : List ℕ). packed 16 (take 6 l)) (whole (now (s .word)) (6 * s .k))
 
-mul-from : tie.Need-mul-from
-mul-from c = search needs
-
-mul-result : tie.Need-mul-result
-mul-result c = search needs
-
-sub-packed-symbols : tie.Need-sub-packed-symbols
-sub-packed-symbols c = search needs
-
-part-packed-symbols-start : tie.Need-part-packed-symbols-start
-part-packed-symbols-start c = search needs
-
-part-packed-symbols-end : tie.Need-part-packed-symbols-end
-part-packed-symbols-end c = search needs
-
 packed-symbols-requires : tie.Need-packed-symbols-requires
 packed-symbols-requires c κs = let s = c .before .before in let l : List ℕ = drop (6 * s .args .k) (now (s .args .word)) in
     ap (symbols-good 4) (whole (now (s .args .word)) (6 * s .args .k)) ∙ symbols-drop (6 * s .args .k) (now (s .args .word)) (s .pre .0)
@@ -51,11 +36,11 @@ pub symbol-word-spec : {M : Type 1} → statement M
 symbol-word-spec =
     tie.close
     (tie.spec
-    mul-from
-    mul-result
-    sub-packed-symbols
-    part-packed-symbols-start
-    part-packed-symbols-end
+    (λ c. search needs)
+    (λ c. search needs)
+    (λ c. search needs)
+    (λ c. search needs)
+    (λ c. search needs)
     packed-symbols-requires
     add-result
     returns)
