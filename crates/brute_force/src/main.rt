@@ -1,5 +1,6 @@
 // Compares the decoder and the marker with a maximum over every codeword, for codes 1 and 2: one line a code, how many of its
-// results agree. How the decoder searches plays no part here: the codewords are made from their messages and tried one by one.
+// results agree. How the decoder searches plays no part here: the codewords are found among all words by their roots, with a field of the
+// program's own, and tried one by one.
 mod compare;
 mod rows;
 mod words;
@@ -30,26 +31,26 @@ fn all_rows(code: u32, rows: u32, words: &[u32]) -> Tally {
     t
 }
 
+// A number and what it counts.
+fn count(n: u64, what: &[u8]) {
+    io::print_decimal(1, n);
+    io::write_all(1, what);
+}
+
 fn report(code: u32, found: u64, t: Tally) {
     io::write_all(1, b"code ");
-    io::print_decimal(1, code as u64);
-    io::write_all(1, b": ");
-    io::print_decimal(1, found);
-    io::write_all(1, b" codewords, ");
-    io::print_decimal(1, t.rows);
-    io::write_all(1, b" rows; agree: ");
-    io::print_decimal(1, t.metrics);
-    io::write_all(1, b" metrics, ");
-    io::print_decimal(1, t.words);
-    io::write_all(1, b" best words, ");
-    io::print_decimal(1, t.softs);
-    io::write_all(1, b" soft outputs, ");
-    io::print_decimal(1, t.marks);
-    io::write_all(1, b" marks of ");
-    io::print_decimal(1, t.best);
-    io::write_all(1, b" best, ");
-    io::print_decimal(1, t.short);
-    io::write_all(1, b" short, ");
-    io::print_decimal(1, t.none);
-    io::write_all(1, b" none\n");
+    count(code as u64, b": ");
+    count(found, b" codewords, ");
+    count(t.rows, b" rows; agree: ");
+    count(t.metrics, b" metrics, ");
+    count(t.words, b" best words, ");
+    count(t.softs, b" soft outputs, ");
+    report_marks(t);
+}
+
+fn report_marks(t: Tally) {
+    count(t.marks, b" marks of ");
+    count(t.best, b" best, ");
+    count(t.short, b" short, ");
+    count(t.none, b" none\n");
 }

@@ -1,7 +1,10 @@
-// Every codeword of a code, as one number: its symbols are the digits to the base 8, lowest position first, so that its bits are
-// those of the word in bit order. The greatest metrics are found by trying them all.
-use code::Membership;
+// Words of seven symbols over the field of 8 elements, each as one number: its symbols are the digits to the base 8, lowest position
+// first, so that its bits are those of the word in bit order. The codewords are the words that vanish at the roots, and the greatest
+// metrics are found by trying them all. Nothing here is the library's: the field is worked out from α·x.
 ghost use Prim.Native.Nat.{_<_};
+
+// How many words there are.
+const WORDS: u32 = 2097152;
 
 // The digits of a number to the base 8.
 pub fn symbols(x: u32) -> [u8; 7] {
@@ -22,66 +25,77 @@ fn digit(c: u8) -> u32
     (c as u32) % 8
 }
 
+fn three(a: u8, b: u8, c: u8) -> u32
+    ensures { λ r. ⌜ r < 512 ⌝ }
+{
+    digit(a) + 8 * digit(b) + 64 * digit(c)
+}
+
 // The number of a word of seven symbols.
 pub fn packed(w: [u8; 7]) -> u32 {
-    digit(w[0])
-        + 8 * digit(w[1])
-        + 64 * digit(w[2])
-        + 512 * digit(w[3])
-        + 4096 * digit(w[4])
-        + 32768 * digit(w[5])
-        + 262144 * digit(w[6])
+    three(w[0], w[1], w[2]) + 512 * three(w[3], w[4], w[5]) + 262144 * digit(w[6])
 }
 
-// The message of a word, as a number.
-pub fn message_of(code: u32, word: u32) -> u32 {
-    if code == 1 { word / 64 } else { word / 4096 }
+// α·x, where α is a zero of X^3 + X + 1, whose bits are those of 11.
+fn doubled(x: u32) -> u32 {
+    let y = x % 8 * 2;
+    if y < 8 { y } else { y ^ 11 }
 }
 
-// The codeword of message x: five symbols for code 1, three for code 2.
-pub fn codeword(code: u32, x: u32) -> u32 {
-    let m = symbols(x);
-    let mut word = [0u8; 7];
+// α^t·x
+fn scaled(t: u32, x: u32) -> u32 {
+    let mut v = x;
+    for _ in 0..t {
+        v = doubled(v);
+    }
+    v
+}
+
+// The value of a word at α^t, by Horner's rule from the highest position down.
+fn value(word: u32, t: u32) -> u32 {
+    let mut v: u32 = 0;
+    let mut rest = word;
+    for _ in 0..7u32 {
+        v = scaled(t, v) ^ (rest / 262144 % 8);
+        rest = rest % 262144 * 8;
+    }
+    v
+}
+
+// Whether a word vanishes at every root of its code: α to α^2, or α to α^4.
+pub fn is_codeword(code: u32, word: u32) -> bool {
+    if value(word, 1) != 0 {
+        return false;
+    }
+    if value(word, 2) != 0 {
+        return false;
+    }
     if code == 1 {
-        let five = [m[0], m[1], m[2], m[3], m[4]];
-        code::encode(1, &five, &mut word);
-    } else {
-        let three = [m[0], m[1], m[2]];
-        code::encode(2, &three, &mut word);
+        return true;
     }
-    packed(word)
+    value(word, 3) == 0 && value(word, 4) == 0
 }
 
-// Whether a word is the codeword of message x, by its roots.
-fn is_codeword_of(code: u32, x: u32, word: u32) -> bool {
-    let w = symbols(word);
-    match code::check_word(code, &w) {
-        Membership::Codeword => message_of(code, word) == x,
-        Membership::NoCodeword => false,
-        Membership::Refused(_) => false,
+pub fn one_if(b: bool) -> u64 {
+    if b { 1 } else { 0 }
+}
+
+// A word is written at place i, where there is one.
+fn put(to: &mut [u32], i: usize, word: u32) {
+    if i < to.len() {
+        to[i] = word;
     }
 }
 
-// All codewords, in the order of their messages. Answers how many were found.
+// All codewords, ascending, and how many there are. Every word is written behind the codewords found so far; the next word takes its
+// place unless it is a codeword.
 pub fn list(code: u32, to: &mut [u32]) -> u64 {
     let mut found: u64 = 0;
-    let mut i: usize = 0;
-    while i < to.len() {
-        let x = (i % 32768) as u32;
-        let word = codeword(code, x);
-        to[i] = word;
-        found = std::num::wrapping_add_u64(
-            found,
-            if is_codeword_of(code, x, word) { 1 } else { 0 },
-        );
-        i += 1;
+    for word in 0..WORDS {
+        put(to, found as usize, word);
+        found = std::num::wrapping_add_u64(found, one_if(is_codeword(code, word)));
     }
     found
-}
-
-// Bit b of a word.
-fn bit(word: u32, b: u32) -> u32 {
-    if b < 32 { (word >> b) % 2 } else { 0 }
 }
 
 // What a bit adds to a metric, raised by 127.
@@ -96,8 +110,10 @@ fn gain(level: u32, bit: u32) -> u32 {
 // The metric of a word, raised by 127 for each of its bits.
 pub fn metric(levels: &[u32; 21], word: u32) -> u32 {
     let mut sum: u32 = 0;
+    let mut rest = word;
     for b in 0..21 {
-        sum = std::num::wrapping_add_u32(sum, gain(levels[b], bit(word, b as u32)));
+        sum = std::num::wrapping_add_u32(sum, gain(levels[b], rest % 2));
+        rest = rest / 2;
     }
     sum
 }
@@ -106,29 +122,23 @@ fn greater(a: u32, b: u32) -> u32 {
     if a < b { b } else { a }
 }
 
-// The greatest metrics of the words with a 0 and with a 1 at each bit, when one word more is seen.
-fn note(word: u32, metric: u32, zero: &mut [u32; 21], one: &mut [u32; 21]) {
+// The greatest metrics of the words with a 0 and with a 1 at each bit, in turn, when one word more is seen.
+fn note(word: u32, metric: u32, most: &mut [u32; 42]) {
+    let mut rest = word;
     for b in 0..21 {
-        if bit(word, b as u32) == 0 {
-            zero[b] = greater(zero[b], metric);
-        } else {
-            one[b] = greater(one[b], metric);
-        }
+        let at = 2 * b + (rest % 2) as usize;
+        most[at] = greater(most[at], metric);
+        rest = rest / 2;
     }
 }
 
-// The greatest metric of all words, and in `zero` and `one` of those with a 0 and with a 1 at each bit; all of them raised.
-pub fn greatest(
-    levels: &[u32; 21],
-    words: &[u32],
-    zero: &mut [u32; 21],
-    one: &mut [u32; 21],
-) -> u32 {
+// The greatest metric of all words, and in `most` of those with a 0 and with a 1 at each bit; all of them raised.
+pub fn greatest(levels: &[u32; 21], words: &[u32], most: &mut [u32; 42]) -> u32 {
     let mut best: u32 = 0;
     let mut i: usize = 0;
     while i < words.len() {
         let x = metric(levels, words[i]);
-        note(words[i], x, zero, one);
+        note(words[i], x, most);
         best = greater(best, x);
         i += 1;
     }

@@ -16,7 +16,8 @@ unfoldable pub two-refusal : Element → Element → ℕ
 two-refusal a b =
     cond (not (width-good (a .m) && eqb (a .m) (b .m))) 1 (cond (ltb (a .value) (2 ^ a .m) && ltb (b .value) (2 ^ a .m)) 0 6)
 
--- the element where nothing is refused, else the refusal's number
+-- document 01's number and value of each case, which the promises use: number 0, no refusal, has the element with this value;
+-- any other number is a refusal's and has no value
 unfoldable pub answer : (refusal : ℕ) → (m value : ℕ) → Answer
 answer zero m v = Found (record { m = m; value = v })
 answer (suc n) m v = Refused (suc n)
@@ -32,12 +33,3 @@ product-of a b = answer (two-refusal a b) (a .m) (times (a .m) (a .value) (b .va
 
 unfoldable pub inverse-of : Element → Answer
 inverse-of a = answer (one-refusal a) (a .m) (inverse (a .m) (a .value))
-
--- document 01's number of an answer, 0 where an element is given, and the element's value
-abbrev pub number-of : Answer → ℕ
-number-of (Found e) = 0
-number-of (Refused n) = n
-
-abbrev pub value-of : Answer → ℕ
-value-of (Found e) = e .value
-value-of (Refused n) = 0

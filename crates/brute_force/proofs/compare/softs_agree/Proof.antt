@@ -6,37 +6,43 @@ use Rattle.brute_force.proofs.compare.softs_agree.Statement.{statement}
 use Rattle.brute_force.proofs.compare.softs_agree.Tie as tie
 
 abbrev Inv-loop : tie.InvT-loop
-Inv-loop soft zero one n₀ b₀ n b = b ≤ 21
+Inv-loop soft most n₀ b₀ n b = b ≤ 21
 
 abbrev μ-loop : tie.MeasureT-loop
-μ-loop soft zero one n₀ b₀ n b = 21 - b
+μ-loop soft most n₀ b₀ n b = 21 - b
 
 loop-holds : tie.Need-loop-holds Inv-loop μ-loop
 loop-holds c = search needs
 
-mul-wide : tie.Need-mul-wide Inv-loop μ-loop
-mul-wide c = search needs
+mul-soft-agrees : tie.Need-mul-soft-agrees Inv-loop μ-loop
+mul-soft-agrees c = search needs
 
-element-copy-out-wide : tie.Need-element-copy-out-wide Inv-loop μ-loop
-element-copy-out-wide c = search needs
+element-copy-out-soft-agrees : tie.Need-element-copy-out-soft-agrees Inv-loop μ-loop
+element-copy-out-soft-agrees c = search needs
 
-wide-requires : tie.Need-wide-requires Inv-loop μ-loop
-wide-requires c κs = search needs
+mul-soft-agrees-2 : tie.Need-mul-soft-agrees-2 Inv-loop μ-loop
+mul-soft-agrees-2 c = search needs
 
-mul-difference : tie.Need-mul-difference Inv-loop μ-loop
-mul-difference c = search needs
+mul-soft-agrees-3 : tie.Need-mul-soft-agrees-3 Inv-loop μ-loop
+mul-soft-agrees-3 c = search needs
 
-element-copy-out-difference : tie.Need-element-copy-out-difference Inv-loop μ-loop
-element-copy-out-difference c = search needs
+element-copy-out-soft-agrees-2 : tie.Need-element-copy-out-soft-agrees-2 Inv-loop μ-loop
+element-copy-out-soft-agrees-2 c = search needs
 
-mul-difference-2 : tie.Need-mul-difference-2 Inv-loop μ-loop
-mul-difference-2 c = search needs
+mul-soft-agrees-4 : tie.Need-mul-soft-agrees-4 Inv-loop μ-loop
+mul-soft-agrees-4 c = search needs
 
-element-copy-out-difference-2 : tie.Need-element-copy-out-difference-2 Inv-loop μ-loop
-element-copy-out-difference-2 c = search needs
+add-soft-agrees : tie.Need-add-soft-agrees Inv-loop μ-loop
+add-soft-agrees c = search needs
 
-difference-requires : tie.Need-difference-requires Inv-loop μ-loop
-difference-requires c κs = search needs
+mul-soft-agrees-5 : tie.Need-mul-soft-agrees-5 Inv-loop μ-loop
+mul-soft-agrees-5 c = search needs
+
+element-copy-out-soft-agrees-3 : tie.Need-element-copy-out-soft-agrees-3 Inv-loop μ-loop
+element-copy-out-soft-agrees-3 c = search needs
+
+soft-agrees-requires : tie.Need-soft-agrees-requires Inv-loop μ-loop
+soft-agrees-requires c κs = search needs
 
 one-if-requires : tie.Need-one-if-requires Inv-loop μ-loop
 one-if-requires c κs = search needs
@@ -63,14 +69,16 @@ softs-agree-spec =
     Inv-loop
     μ-loop
     loop-holds
-    mul-wide
-    element-copy-out-wide
-    wide-requires
-    mul-difference
-    element-copy-out-difference
-    mul-difference-2
-    element-copy-out-difference-2
-    difference-requires
+    mul-soft-agrees
+    element-copy-out-soft-agrees
+    mul-soft-agrees-2
+    mul-soft-agrees-3
+    element-copy-out-soft-agrees-2
+    mul-soft-agrees-4
+    add-soft-agrees
+    mul-soft-agrees-5
+    element-copy-out-soft-agrees-3
+    soft-agrees-requires
     one-if-requires
     plus-requires
     add-b

@@ -7,10 +7,10 @@ use Rattle.brute_force.proofs.words.greatest.Statement.{statement}
 use Rattle.brute_force.proofs.words.greatest.Tie as tie
 
 abbrev Inv-loop : tie.InvT-loop
-Inv-loop levels words zero₀ one₀ best₀ i₀ zero one best i = i ≤ length words
+Inv-loop levels words most₀ best₀ i₀ most best i = i ≤ length words
 
 abbrev μ-loop : tie.MeasureT-loop
-μ-loop levels words zero₀ one₀ best₀ i₀ zero one best i = length words - i
+μ-loop levels words most₀ best₀ i₀ most best i = length words - i
 
 loop-holds : tie.Need-loop-holds Inv-loop μ-loop
 loop-holds c = search needs

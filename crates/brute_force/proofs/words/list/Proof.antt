@@ -8,34 +8,28 @@ use Rattle.brute_force.proofs.words.list.Statement.{statement}
 use Rattle.brute_force.proofs.words.list.Tie as tie
 
 abbrev Inv-loop : tie.InvT-loop
-Inv-loop code to₀ found₀ i₀ to found i = (i ≤ length to₀) × (length to ≡ length to₀)
+Inv-loop code to₀ found₀ word₀ to found word = (word ≤ 2097152) × (length to ≡ length to₀)
 
 abbrev μ-loop : tie.MeasureT-loop
-μ-loop code to₀ found₀ i₀ to found i = length to₀ - i
+μ-loop code to₀ found₀ word₀ to found word = 2097152 - word
 
 loop-holds : tie.Need-loop-holds Inv-loop μ-loop
 loop-holds c = search needs
 
-cast-x : tie.Need-cast-x Inv-loop μ-loop
-cast-x c = search needs
+put-requires : tie.Need-put-requires Inv-loop μ-loop
+put-requires c κs = search needs
 
-codeword-requires : tie.Need-codeword-requires Inv-loop μ-loop
-codeword-requires c κs = search needs
+is-codeword-requires : tie.Need-is-codeword-requires Inv-loop μ-loop
+is-codeword-requires c κs = search needs
 
-mul-to : tie.Need-mul-to Inv-loop μ-loop
-mul-to c = search needs
-
-slice-write-to : tie.Need-slice-write-to Inv-loop μ-loop
-slice-write-to c = search needs
-
-is-codeword-of-requires : tie.Need-is-codeword-of-requires Inv-loop μ-loop
-is-codeword-of-requires c κs = search needs
+one-if-requires : tie.Need-one-if-requires Inv-loop μ-loop
+one-if-requires c κs = search needs
 
 wrapping-add-u64-requires : tie.Need-wrapping-add-u64-requires Inv-loop μ-loop
 wrapping-add-u64-requires c κs = search needs
 
-add-i : tie.Need-add-i Inv-loop μ-loop
-add-i c = search needs
+add-word : tie.Need-add-word Inv-loop μ-loop
+add-word c = search needs
 
 loop-less : tie.Need-loop-less Inv-loop μ-loop
 loop-less c = search needs
@@ -56,13 +50,11 @@ list-spec =
     Inv-loop
     μ-loop
     loop-holds
-    cast-x
-    codeword-requires
-    mul-to
-    slice-write-to
-    is-codeword-of-requires
+    put-requires
+    is-codeword-requires
+    one-if-requires
     wrapping-add-u64-requires
-    add-i
+    add-word
     loop-less
     loop-again
     same-length

@@ -6,10 +6,10 @@ use Rattle.brute_force.proofs.words.metric.Statement.{statement}
 use Rattle.brute_force.proofs.words.metric.Tie as tie
 
 abbrev Inv-loop : tie.InvT-loop
-Inv-loop levels word sum₀ b₀ sum b = b ≤ 21
+Inv-loop levels word sum₀ rest₀ b₀ sum rest b = b ≤ 21
 
 abbrev μ-loop : tie.MeasureT-loop
-μ-loop levels word sum₀ b₀ sum b = 21 - b
+μ-loop levels word sum₀ rest₀ b₀ sum rest b = 21 - b
 
 loop-holds : tie.Need-loop-holds Inv-loop μ-loop
 loop-holds c = search needs
@@ -19,12 +19,6 @@ mul-gain c = search needs
 
 element-copy-out-gain : tie.Need-element-copy-out-gain Inv-loop μ-loop
 element-copy-out-gain c = search needs
-
-cast-bit : tie.Need-cast-bit Inv-loop μ-loop
-cast-bit c = search needs
-
-bit-requires : tie.Need-bit-requires Inv-loop μ-loop
-bit-requires c κs = search needs
 
 gain-requires : tie.Need-gain-requires Inv-loop μ-loop
 gain-requires c κs = search needs
@@ -53,8 +47,6 @@ metric-spec =
     loop-holds
     mul-gain
     element-copy-out-gain
-    cast-bit
-    bit-requires
     gain-requires
     wrapping-add-u32-requires
     add-b
