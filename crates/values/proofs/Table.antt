@@ -38,7 +38,7 @@ encodes c ms ws taken g e =
     }
 
 pub on-record : On-record
-unfolding code-good width roots long message-long row-long xor times times-from doubled alpha value-from value-at vanishes symbols-good is-codeword message encode-refusal unless unless
+unfolding code-good width roots long message-long row-long xor times times-from doubled alpha value-from value-at vanishes symbols-good is-codeword message encode-refusal unless
 on-record =
     record {
       first-word = encodes 1 _ _ refl refl refl;
