@@ -9,12 +9,13 @@ use lib.Dec.{eqb, lit<}
 use lib.ListN.{length}
 use borrow.Author.Tests.{eqb-true, eq-eqb}
 use Rattle.field.specs.Field.{width-good}
-use Rattle.field.proofs.Refusals.{passes, passes-last}
+use Rattle.refusal.proofs.Tests.{passed, first-none}
+use Rattle.refusal.specs.Refusal.{unless, first}
 use Rattle.code.specs.declared.Membership.the-variants.{Codeword, NoCodeword, Refused}
 use Rattle.code.specs.Code.{code-good, width, roots, long, message-long, symbols-good, is-codeword}
-use Rattle.code.specs.Calls.{encode-refusal, read-refusal, check-refusal, membership}
+use Rattle.code.specs.Calls.{encode-refusal, word-refusal, member-refusal, check-refusal, membership}
 use Rattle.code.specs.Within.{Word-within, Message-within}
-pub use Rattle.code.proofs.Outcomes.{outcome-done, outcome-refused, outcome-zero, outcome-taken}
+pub use Rattle.refusal.proofs.Outcomes.{outcome-done, outcome-refused, outcome-zero, outcome-taken}
 
 -- m and r of any number are those of a code
 pub width-fine : (c : ℕ) → width-good (width c) ≡ true
@@ -39,73 +40,57 @@ module _ (c : ℕ) where
   pub encode-accepts : (ms : List ℕ) (o : ℕ) → encode-refusal c ms o ≡ 0 → Message-within (width c) (roots c) ms o
   unfolding encode-refusal
   encode-accepts ms o e =
-      let s : ℕ = cond (symbols-good (width c) ms) 0 6 in
-      let l : ℕ = cond (not (eqb o (long (width c)))) 4 s in
-      let k : ℕ = cond (not (eqb (length ms) (message-long (width c) (roots c)))) 3 l in
-      let a : (code-good c ≡ true) × (k ≡ 0) = passes (code-good c) 0 k e in
-      let b : (eqb (length ms) (message-long (width c) (roots c)) ≡ true) × (l ≡ 0) = passes (eqb (length ms) (message-long (width c) (roots c))) 2 l (a .1) in
-      let d : (eqb o (long (width c)) ≡ true) × (s ≡ 0) = passes (eqb o (long (width c))) 3 s (b .1) in
+      let a = passed _ _ _ e in
+      let b = passed _ _ _ (a .1) in
+      let d = passed _ _ _ (b .1) in
       record {
         width = width-fine c;
         few = roots-few c;
         count = eqb-true (length ms) (message-long (width c) (roots c)) (b .0);
         room = eqb-true o (long (width c)) (d .0);
-        symbols = passes-last (symbols-good (width c) ms) 5 (d .1);
+        symbols = passed _ _ _ (d .1) .0;
       }
 
   pub encode-code : (ms : List ℕ) (o : ℕ) → encode-refusal c ms o ≡ 0 → code-good c ≡ true
   unfolding encode-refusal
-  encode-code ms o e = passes (code-good c) 0 _ e .0
+  encode-code ms o e = passed _ _ _ e .0
 
   -- and the other way round
   pub encode-taken : (ms : List ℕ) (o : ℕ) → code-good c ≡ true → Message-within (width c) (roots c) ms o → encode-refusal c ms o ≡ 0
-  unfolding encode-refusal
+  unfolding encode-refusal unless
   encode-taken ms o g w = rw (g, eq-eqb _ _ (w .count), eq-eqb _ _ (w .room), w .symbols) refl
 
   pub check-accepts : (ws : List ℕ) → check-refusal c ws ≡ 0 → Word-within (width c) (roots c) ws
   unfolding check-refusal
   check-accepts ws e =
-      let s : ℕ = cond (symbols-good (width c) ws) 0 6 in
-      let l : ℕ = cond (not (eqb (length ws) (long (width c)))) 3 s in
-      let a : (code-good c ≡ true) × (l ≡ 0) = passes (code-good c) 0 l e in
-      let b : (eqb (length ws) (long (width c)) ≡ true) × (s ≡ 0) = passes (eqb (length ws) (long (width c))) 2 s (a .1) in
-      record {
-        width = width-fine c;
-        count = eqb-true (length ws) (long (width c)) (b .0);
-        symbols = passes-last (symbols-good (width c) ws) 5 (b .1);
-        few = roots-few c;
-      }
+      let a = passed _ _ _ (passed _ _ _ e .1) in
+      record { width = width-fine c; count = eqb-true (length ws) (long (width c)) (a .0); symbols = passed _ _ _ (a .1) .0; few = roots-few c }
 
-  -- a word that is read is a codeword, and the output has room for its message
-  pub record Readable (ws : List ℕ) (o : ℕ) : Type 0 where
+  pub word-accepts : (ws : List ℕ) (o k : ℕ) → word-refusal c ws o k ≡ 0 → (o ≡ k) × Word-within (width c) (roots c) ws
+  unfolding word-refusal
+  word-accepts ws o k e =
+      let a = passed _ _ _ (passed _ _ _ e .1) in
+      let b = passed _ _ _ (a .1) in
+      (eqb-true o k (b .0), record { width = width-fine c; count = eqb-true (length ws) (long (width c)) (a .0); symbols = passed _ _ _ (b .1) .0; few = roots-few c })
+
+  -- a word that is read or split is a codeword, and the output has the room that it needs
+  pub record Member (ws : List ℕ) (o k : ℕ) : Type 0 where
+    pub code-is : code-good c ≡ true
     pub count : length ws ≡ long (width c)
-    pub room : o ≡ message-long (width c) (roots c)
+    pub room : o ≡ k
     pub codeword : is-codeword (width c) (roots c) ws ≡ true
 
-  pub read-accepts : (ws : List ℕ) (o : ℕ) → read-refusal c ws o ≡ 0 → Readable ws o
-  unfolding read-refusal
-  read-accepts ws o e =
-      let v : ℕ = cond (is-codeword (width c) (roots c) ws) 0 8 in
-      let s : ℕ = cond (not (symbols-good (width c) ws)) 6 v in
-      let k : ℕ = cond (not (eqb o (message-long (width c) (roots c)))) 4 s in
-      let l : ℕ = cond (not (eqb (length ws) (long (width c)))) 3 k in
-      let a : (code-good c ≡ true) × (l ≡ 0) = passes (code-good c) 0 l e in
-      let b : (eqb (length ws) (long (width c)) ≡ true) × (k ≡ 0) = passes (eqb (length ws) (long (width c))) 2 k (a .1) in
-      let d : (eqb o (message-long (width c) (roots c)) ≡ true) × (s ≡ 0) = passes (eqb o (message-long (width c) (roots c))) 3 s (b .1) in
-      let f : (symbols-good (width c) ws ≡ true) × (v ≡ 0) = passes (symbols-good (width c) ws) 5 v (d .1) in
-      record {
-        count = eqb-true (length ws) (long (width c)) (b .0);
-        room = eqb-true o (message-long (width c) (roots c)) (d .0);
-        codeword = passes-last (is-codeword (width c) (roots c) ws) 7 (f .1);
-      }
+  pub member-accepts : (ws : List ℕ) (o k : ℕ) → member-refusal c ws o k ≡ 0 → Member ws o k
+  unfolding member-refusal word-refusal
+  member-accepts ws o k e =
+      let f = first-none _ _ e in
+      let a = passed _ _ _ (f .0) in
+      let b = passed _ _ _ (a .1) in
+      record { code-is = a .0; count = eqb-true (length ws) (long (width c)) (b .0); room = eqb-true o k (passed _ _ _ (b .1) .0); codeword = passed _ _ _ (f .1) .0 }
 
-  pub read-code : (ws : List ℕ) (o : ℕ) → read-refusal c ws o ≡ 0 → code-good c ≡ true
-  unfolding read-refusal
-  read-code ws o e = passes (code-good c) 0 _ e .0
-
-  pub read-taken : (ws : List ℕ) (o : ℕ) → code-good c ≡ true → Readable ws o → symbols-good (width c) ws ≡ true → read-refusal c ws o ≡ 0
-  unfolding read-refusal
-  read-taken ws o g w s = rw (g, eq-eqb _ _ (w .count), eq-eqb _ _ (w .room), s, w .codeword) refl
+  pub member-taken : (ws : List ℕ) (o k : ℕ) → Member ws o k → symbols-good (width c) ws ≡ true → member-refusal c ws o k ≡ 0
+  unfolding member-refusal word-refusal unless first
+  member-taken ws o k w s = rw (w .code-is, eq-eqb _ _ (w .count), eq-eqb _ _ (w .room), s, w .codeword) refl
 
 pub refused : (n r : ℕ) (b : Bool) → r ≡ n → (r ≡ 0 → ⊥) → Refused r ≡ membership n b
 unfolding membership

@@ -4,7 +4,6 @@ pub mod Encoding
 pub mod Sweeps
 pub mod Parts
 pub mod Roots
-pub mod Outcomes
 pub mod Accepted
 pub mod Both
 pub mod Promise

@@ -20,10 +20,9 @@ use Rattle.code.proofs.Accepted.{
   encode-accepts,
   encode-code,
   encode-taken,
-  Readable,
-  read-accepts,
-  read-code,
-  read-taken,
+  Member,
+  member-accepts,
+  member-taken,
   outcome-zero,
   outcome-taken,
 }
@@ -61,28 +60,28 @@ message-good m r ws small g =
 
 -- the two calls undo each other: a codeword's message is encoded to it, and only to it
 pub encoded-read : Encoded-read
-unfolding Encoded-read Encode-says Read-says
+unfolding Encoded-read Encode-says Read-says read-refusal
 encoded-read c answer ms o ws q u e n r =
     let f : (encode-refusal c ms (length o) ≡ 0) × ((is-codeword (width c) (roots c) ws ≡ true) × (message (roots c) ws ≡ ms)) = outcome-zero _ _ _ e in
     let w : Message-within (width c) (roots c) ms (length o) = encode-accepts c ms (length o) (f .0) in
     let p : Codeword-parts (width c) (roots c) ws = codeword-parts (width c) (roots c) ws (f .1 .0) in
     let t : read-refusal c ws (length q) ≡ 0 =
-    read-taken c ws (length q) (encode-code c ms (length o) (f .0)) (record { count = p .count; room = n ∙ w .count; codeword = f .1 .0 }) (good (width c) ws (p .symbols)) in
+    member-taken c ws (length q) _ (record { code-is = encode-code c ms (length o) (f .0); count = p .count; room = n ∙ w .count; codeword = f .1 .0 }) (good (width c) ws (p .symbols)) in
     let d : (answer ≡ 0) × (u ≡ message (roots c) ws) = outcome-taken _ answer _ _ t r in
     (d .0, d .1 ∙ f .1 .1)
 
 pub read-encoded : Read-encoded
-unfolding Read-encoded Encode-says Read-says Message-good Encodes-once
+unfolding Read-encoded Encode-says Read-says read-refusal Message-good Encodes-once
 read-encoded c answer ws o ms q u r n e =
     let f : (read-refusal c ws (length o) ≡ 0) × (ms ≡ message (roots c) ws) = outcome-zero _ _ _ r in
-    let w : Readable c ws (length o) = read-accepts c ws (length o) (f .0) in
+    let w : Member c ws (length o) (message-long (width c) (roots c)) = member-accepts c ws (length o) _ (f .0) in
     let small : roots c ≤ long (width c) = omega (arith, roots-few c) in
     let g : (length (message (roots c) ws) ≡ message-long (width c) (roots c)) × (symbols-good (width c) (message (roots c) ws) ≡ true) =
     message-good (width c) (roots c) ws small (w .codeword) in
     let count : length ms ≡ message-long (width c) (roots c) = ap length (f .1) ∙ g .0 in
     let symbols : symbols-good (width c) ms ≡ true = ap (symbols-good (width c)) (f .1) ∙ g .1 in
     let t : encode-refusal c ms (length q) ≡ 0 =
-    encode-taken c ms (length q) (read-code c ws (length o) (f .0))
+    encode-taken c ms (length q) (w .code-is)
     (record { width = width-fine c; few = roots-few c; count = count; room = n ∙ w .count; symbols = symbols }) in
     let d : (answer ≡ 0) × ((is-codeword (width c) (roots c) u ≡ true) × (message (roots c) u ≡ ms)) = outcome-taken _ answer _ _ t e in
     (d .0, encodes-once (width c) (roots c) ms (width-fine c) small count symbols .1 u ws (d .1 .0) (w .codeword) (d .1 .1) (sym (f .1)))

@@ -1,37 +1,42 @@
 -- What the calls on words answer and leave behind, for every input. Refusals in document 01's order: code 1; lengths 3, 4; symbols 6; membership 8.
 -- Assumes nothing: these are definitions.
 use mathlib.Core.Path.{_≡_}
-use mathlib.Core.Bool.{Bool, true, not, cond}
+use mathlib.Core.Bool.{Bool, true, cond}
 use mathlib.Core.List.{List}
 use Prim.Native.Nat.{ℕ, zero, suc}
 use lib.Dec.{eqb}
 use lib.ListN.{length}
+use Rattle.refusal.specs.Refusal.{unless, first, Outcome}
 use Rattle.code.specs.declared.Membership.{Membership}
 use Rattle.code.specs.declared.Membership.the-variants.{Codeword, NoCodeword, Refused}
 use Rattle.code.specs.Code.{code-good, width, roots, long, message-long, symbols-good, is-codeword, message}
 
--- a call answers 0 and has done its work, or answers the refusal's number and has kept its outputs
-unfoldable pub Outcome : (refusal answer : ℕ) → (Done Kept : Type 0) → Type 0
-Outcome zero r Done Kept = (r ≡ 0) × Done
-Outcome (suc n) r Done Kept = (r ≡ suc n) × Kept
-
 unfoldable pub encode-refusal : (code : ℕ) → (message : List ℕ) → (output : ℕ) → ℕ
 encode-refusal c ms o =
-    cond (not (code-good c)) 1
-    (cond (not (eqb (length ms) (message-long (width c) (roots c)))) 3
-    (cond (not (eqb o (long (width c)))) 4 (cond (symbols-good (width c) ms) 0 6)))
+    unless (code-good c) 1
+    (unless (eqb (length ms) (message-long (width c) (roots c))) 3
+    (unless (eqb o (long (width c))) 4
+    (unless (symbols-good (width c) ms) 6 0)))
 
 -- the output is the codeword that carries the message
 unfoldable pub Encode-says : (code : ℕ) → (message : List ℕ) → (answer : ℕ) → (output output-now : List ℕ) → Type 0
 Encode-says c ms r o p =
     Outcome (encode-refusal c ms (length o)) r ((is-codeword (width c) (roots c) p ≡ true) × (message (roots c) p ≡ ms)) (p ≡ o)
 
+-- a word, and an output that needs so many places
+unfoldable pub word-refusal : (code : ℕ) → (word : List ℕ) → (output needed : ℕ) → ℕ
+word-refusal c ws o k =
+    unless (code-good c) 1
+    (unless (eqb (length ws) (long (width c))) 3
+    (unless (eqb o k) 4
+    (unless (symbols-good (width c) ws) 6 0)))
+
+-- a word that is to be read or split is a codeword
+unfoldable pub member-refusal : (code : ℕ) → (word : List ℕ) → (output needed : ℕ) → ℕ
+member-refusal c ws o k = first (word-refusal c ws o k) (unless (is-codeword (width c) (roots c) ws) 8 0)
+
 unfoldable pub read-refusal : (code : ℕ) → (word : List ℕ) → (output : ℕ) → ℕ
-read-refusal c ws o =
-    cond (not (code-good c)) 1
-    (cond (not (eqb (length ws) (long (width c)))) 3
-    (cond (not (eqb o (message-long (width c) (roots c)))) 4
-    (cond (not (symbols-good (width c) ws)) 6 (cond (is-codeword (width c) (roots c) ws) 0 8))))
+read-refusal c ws o = member-refusal c ws o (message-long (width c) (roots c))
 
 -- the output is the message that the codeword carries
 unfoldable pub Read-says : (code : ℕ) → (word : List ℕ) → (answer : ℕ) → (output output-now : List ℕ) → Type 0
@@ -39,8 +44,9 @@ Read-says c ws r o p = Outcome (read-refusal c ws (length o)) r (p ≡ message (
 
 unfoldable pub check-refusal : (code : ℕ) → (word : List ℕ) → ℕ
 check-refusal c ws =
-    cond (not (code-good c)) 1
-    (cond (not (eqb (length ws) (long (width c)))) 3 (cond (symbols-good (width c) ws) 0 6))
+    unless (code-good c) 1
+    (unless (eqb (length ws) (long (width c))) 3
+    (unless (symbols-good (width c) ws) 6 0))
 
 -- whether the word is a codeword, where nothing is refused
 unfoldable pub membership : (refusal : ℕ) → (codeword : Bool) → Membership

@@ -11,7 +11,7 @@ ghost use Rattle.field.specs.Field.{width-good};
 ghost use Rattle.field.specs.Within.{Tables};
 ghost use Rattle.code.specs.Code.{code-good, width, roots, long, message-long, value-at, vanishes, symbols-good, is-codeword};
 ghost use Rattle.code.specs.Division.{tails, product, spread, divided, multiplied};
-ghost use Rattle.code.specs.Calls.{encode-refusal, Encode-says, read-refusal, Read-says, check-refusal, checked};
+ghost use Rattle.code.specs.Calls.{encode-refusal, Encode-says, word-refusal, member-refusal, read-refusal, Read-says, check-refusal, checked};
 ghost use Rattle.code.specs.Within.{Word-within, Part-within, Place-within, Quotient-within, Message-within, Carries};
 ghost use Rattle.code.specs.Bits.{row-long};
 
@@ -65,54 +65,52 @@ pub fn check_word(code: u32, word: &[u8]) -> Membership
 fn encode_refusal(code: u32, message: &[u8], output: usize) -> u32
     ensures { λ r. ⌜ r ≡ encode-refusal code (now (message .entry)) output ⌝ }
 {
-    if !is_code(code) {
-        return 1;
-    }
     let m = width_of(code);
     let k = message_long_of(m, roots_of(code));
-    let n = long_of(m);
-    if message.len() != k {
-        return 3; // message not k long
+    let contents = refusal::unless(symbols_good(m, message), 6, 0);
+    let room = refusal::unless(output == long_of(m), 4, contents);
+    let lengths = refusal::unless(message.len() == k, 3, room);
+    refusal::unless(is_code(code), 1, lengths)
+}
+
+// What a word and an output are refused by before the word is tested at the roots, 0 for nothing.
+fn word_refusal(code: u32, word: &[u8], output: usize, needed: usize) -> u32
+    ensures { λ r. ⌜ r ≡ word-refusal code (now (word .entry)) output needed ⌝ }
+{
+    let m = width_of(code);
+    let contents = refusal::unless(symbols_good(m, word), 6, 0);
+    let room = refusal::unless(output == needed, 4, contents);
+    let lengths = refusal::unless(word.len() == long_of(m), 3, room);
+    refusal::unless(is_code(code), 1, lengths)
+}
+
+// What a word that is to be a codeword is refused by, with an output that needs so many places; 0 for nothing.
+pub fn member_refusal(code: u32, word: &[u8], output: usize, needed: usize) -> u32
+    ensures { λ r. ⌜ r ≡ member-refusal code (now (word .entry)) output needed ⌝ }
+{
+    let e = word_refusal(code, word, output, needed);
+    if e != 0 {
+        return e;
     }
-    if output != n {
-        return 4; // output not n long
-    }
-    if symbols_good(m, message) { 0 } else { 6 }
+    refusal::unless(is_codeword(width_of(code), roots_of(code), word), 8, 0)
 }
 
 // What reading is refused by, 0 for nothing.
 fn read_refusal(code: u32, word: &[u8], output: usize) -> u32
     ensures { λ r. ⌜ r ≡ read-refusal code (now (word .entry)) output ⌝ }
 {
-    if !is_code(code) {
-        return 1;
-    }
-    let m = width_of(code);
-    let r = roots_of(code);
-    if word.len() != long_of(m) {
-        return 3;
-    }
-    if output != message_long_of(m, r) {
-        return 4;
-    }
-    if !symbols_good(m, word) {
-        return 6;
-    }
-    if is_codeword(m, r, word) { 0 } else { 8 }
+    let k = message_long_of(width_of(code), roots_of(code));
+    member_refusal(code, word, output, k)
 }
 
 // What the codeword test is refused by, 0 for nothing.
 fn check_refusal(code: u32, word: &[u8]) -> u32
     ensures { λ r. ⌜ r ≡ check-refusal code (now (word .entry)) ⌝ }
 {
-    if !is_code(code) {
-        return 1;
-    }
     let m = width_of(code);
-    if word.len() != long_of(m) {
-        return 3;
-    }
-    if symbols_good(m, word) { 0 } else { 6 }
+    let contents = refusal::unless(symbols_good(m, word), 6, 0);
+    let lengths = refusal::unless(word.len() == long_of(m), 3, contents);
+    refusal::unless(is_code(code), 1, lengths)
 }
 
 // Whether a number is that of a code.

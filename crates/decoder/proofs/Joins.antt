@@ -8,7 +8,7 @@ use native.Mathlib.Omega.{arith}
 use lib.ListN.{length}
 use lib.IntN.{ℤ, pos}
 use Rattle.code.specs.Code.{code-good, width, roots}
-use Rattle.code.proofs.Outcomes.{outcome-done, outcome-refused}
+use Rattle.refusal.proofs.Outcomes.{outcome-done, outcome-refused}
 use Rattle.metric.specs.Metric.{Decoded}
 use Rattle.decoder.specs.Calls.{decode-refusal, Decode-says}
 use Rattle.decoder.specs.Within.{Accepted}

@@ -1,7 +1,6 @@
 -- What the decoder answers and leaves behind, for every input. Refusals in document 01's order: code 1; lengths 2, 4; contents 5.
 -- Assumes nothing: these are definitions.
 use mathlib.Core.Path.{_≡_}
-use mathlib.Core.Bool.{_&&_, not, cond}
 use mathlib.Core.List.{List}
 use Prim.Native.Nat.{ℕ}
 use lib.Dec.{eqb}
@@ -9,16 +8,18 @@ use lib.ListN.{length}
 use lib.IntN.{ℤ, pos}
 use Rattle.code.specs.Code.{code-good, width, roots, long}
 use Rattle.code.specs.Bits.{row-long}
-use Rattle.code.specs.Calls.{Outcome}
+use Rattle.refusal.specs.Refusal.{unless, Outcome}
 use Rattle.metric.specs.Row.{row-good}
 use Rattle.metric.specs.Metric.{Decoded}
 use Rattle.decoder.specs.declared.Decoding.{Decoding}
 
 unfoldable pub decode-refusal : (code : ℕ) → (row : List ℤ) → (word soft : ℕ) → ℕ
 decode-refusal c rs a b =
-    cond (not (code-good c)) 1
-    (cond (not (eqb (length rs) (row-long (width c)))) 2
-    (cond (not (eqb a (long (width c)) && eqb b (row-long (width c)))) 4 (cond (row-good rs) 0 5)))
+    unless (code-good c) 1
+    (unless (eqb (length rs) (row-long (width c))) 2
+    (unless (eqb a (long (width c))) 4
+    (unless (eqb b (row-long (width c))) 4
+    (unless (row-good rs) 5 0))))
 
 -- a best word, its metric and every soft output; refused, the metric is 0 and the outputs are kept
 unfoldable pub Decode-says : (code : ℕ) → (row : List ℤ) → Decoding → (word word-now : List ℕ) → (soft soft-now : List ℤ) → Type 0

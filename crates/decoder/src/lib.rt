@@ -223,24 +223,17 @@ fn decode_with(
     minus(search::weight(row), 2 * least)
 }
 
+// What a call is refused by, 0 for nothing.
 fn decode_refusal(code: u32, row: &[i16], word: usize, soft: usize) -> u32
     ensures { λ r. ⌜ r ≡ decode-refusal code (now (row .entry)) word soft ⌝ }
 {
-    if !code::is_code(code) {
-        return 1;
-    }
     let m = code::width_of(code);
     let long = code::row_long_of(m);
-    if row.len() != long {
-        return 2;
-    }
-    if word != code::long_of(m) {
-        return 4;
-    }
-    if soft != long {
-        return 4;
-    }
-    if metric::is_row(row) { 0 } else { 5 }
+    let contents = refusal::unless(metric::is_row(row), 5, 0);
+    let soft_room = refusal::unless(soft == long, 4, contents);
+    let word_room = refusal::unless(word == code::long_of(m), 4, soft_room);
+    let lengths = refusal::unless(row.len() == long, 2, word_room);
+    refusal::unless(code::is_code(code), 1, lengths)
 }
 
 // Each code with buffers of its own sizes: n + 1 tables of four layers, 2^q rows each.

@@ -14,7 +14,7 @@ use Rattle.code.specs.Within.{Word-within}
 use Rattle.code.specs.Promise.{Codes-inside}
 use Rattle.code.proofs.Promise.{codes-inside}
 use Rattle.code.proofs.Words.{Codeword-parts, codeword-parts}
-use Rattle.code.proofs.Outcomes.{outcome-done, outcome-refused}
+use Rattle.refusal.proofs.Outcomes.{outcome-done, outcome-refused}
 use Rattle.metric.specs.Metric.{Marked}
 use Rattle.metric.specs.Cost.{cost, Least}
 use Rattle.metric.proofs.Marks.{marked-none, marked-short, marked-best}

@@ -1,7 +1,6 @@
 -- What the marker answers, for every input. Refusals in document 01's order: code 1; lengths 2, 3; contents 5 before 6.
 -- Assumes nothing: these are definitions.
 use mathlib.Core.Path.{_≡_}
-use mathlib.Core.Bool.{not, cond}
 use mathlib.Core.List.{List}
 use Prim.Native.Nat.{ℕ}
 use lib.Dec.{eqb}
@@ -9,16 +8,18 @@ use lib.ListN.{length}
 use lib.IntN.{ℤ, pos}
 use Rattle.code.specs.Code.{code-good, width, roots, long, symbols-good}
 use Rattle.code.specs.Bits.{row-long}
-use Rattle.code.specs.Calls.{Outcome}
+use Rattle.refusal.specs.Refusal.{unless, Outcome}
 use Rattle.metric.specs.Row.{row-good}
 use Rattle.metric.specs.Metric.{Marked}
 use Rattle.marker.specs.declared.Mark.{Mark}
 
 unfoldable pub mark-refusal : (code : ℕ) → (row : List ℤ) → (word : List ℕ) → ℕ
 mark-refusal c rs ws =
-    cond (not (code-good c)) 1
-    (cond (not (eqb (length rs) (row-long (width c)))) 2
-    (cond (not (eqb (length ws) (long (width c)))) 3 (cond (not (row-good rs)) 5 (cond (symbols-good (width c) ws) 0 6))))
+    unless (code-good c) 1
+    (unless (eqb (length rs) (row-long (width c))) 2
+    (unless (eqb (length ws) (long (width c))) 3
+    (unless (row-good rs) 5
+    (unless (symbols-good (width c) ws) 6 0))))
 
 -- none, short by exactly what is lacking, or best; refused, the verdict and the shortfall are 0
 unfoldable pub Mark-says : (code : ℕ) → (row : List ℤ) → (word : List ℕ) → Mark → Type 0

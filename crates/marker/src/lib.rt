@@ -18,23 +18,16 @@ pub struct Mark {
     pub shortfall: i32,
 }
 
+// What a call is refused by, 0 for nothing.
 fn mark_refusal(code: u32, row: &[i16], word: &[u8]) -> u32
     ensures { λ r. ⌜ r ≡ mark-refusal code (now (row .entry)) (now (word .entry)) ⌝ }
 {
-    if !code::is_code(code) {
-        return 1;
-    }
     let m = code::width_of(code);
-    if row.len() != code::row_long_of(m) {
-        return 2;
-    }
-    if word.len() != code::long_of(m) {
-        return 3;
-    }
-    if !metric::is_row(row) {
-        return 5;
-    }
-    if code::symbols_good(m, word) { 0 } else { 6 }
+    let symbols = refusal::unless(code::symbols_good(m, word), 6, 0);
+    let contents = refusal::unless(metric::is_row(row), 5, symbols);
+    let word_long = refusal::unless(word.len() == code::long_of(m), 3, contents);
+    let lengths = refusal::unless(row.len() == code::row_long_of(m), 2, word_long);
+    refusal::unless(code::is_code(code), 1, lengths)
 }
 
 // What a codeword costs more than the least, with every buffer lent. It needs no marginals.

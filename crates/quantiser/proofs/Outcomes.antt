@@ -1,52 +1,29 @@
--- The refusal of `quantise`, test by test, and its outcome from the number that it answers.
+-- What is known of a call that is not refused, and its outcome from the number that it answers.
 -- Assumes nothing.
 use mathlib.Core.Path.{_≡_, refl, sym, _∙_}
 use mathlib.Core.Bool.{Bool, true, false, not, cond}
 use mathlib.Core.List.{List, map}
 use Prim.Native.Nat.{ℕ}
 use native.Mathlib.Omega.{arith}
-use borrow.Author.Tests.{eq-eqb, ne-eqb, eqb-true}
+use borrow.Author.Tests.{eqb-true, not-true}
 use lib.Dec.{eqb}
 use lib.IntN.{ℤ}
 use lib.ListN.{length}
 use lib.Ieee.{Float}
 use Rattle.code.specs.Code.{code-good, width}
 use Rattle.code.specs.Bits.{row-long}
-use Rattle.code.proofs.Outcomes.{outcome-done, outcome-refused}
+use Rattle.refusal.proofs.Tests.{passed}
+use Rattle.refusal.proofs.Outcomes.{outcome-done, outcome-refused}
 use Rattle.quantiser.specs.Calls.{has-nan, quantise-refusal, Quantise-says}
 use Rattle.quantiser.specs.Quantise.{quantised}
 
-module _ (c : ℕ) (xs : List Float) (o : ℕ) where
-  pub no-code : code-good c ≡ false → 1 ≡ quantise-refusal c xs o
-  unfolding quantise-refusal
-  no-code g = simp g
-
-  module _ (g : code-good c ≡ true) where
-    pub other-samples : (length xs ≡ row-long (width c) → ⊥) → 2 ≡ quantise-refusal c xs o
-    unfolding quantise-refusal
-    other-samples h = simp (g, ne-eqb (length xs) (row-long (width c)) h)
-
-    module _ (h : length xs ≡ row-long (width c)) where
-      pub other-output : (o ≡ row-long (width c) → ⊥) → 4 ≡ quantise-refusal c xs o
-      unfolding quantise-refusal
-      other-output k = simp (g, eq-eqb (length xs) (row-long (width c)) h, ne-eqb o (row-long (width c)) k)
-
-      pub by-nan : o ≡ row-long (width c) → cond (has-nan xs) 7 0 ≡ quantise-refusal c xs o
-      unfolding quantise-refusal
-      by-nan k = simp (g, eq-eqb (length xs) (row-long (width c)) h, eq-eqb o (row-long (width c)) k)
-
-  -- what holds where nothing is refused
-  pub accepted : quantise-refusal c xs o ≡ 0 → (o ≡ length xs) × (has-nan xs ≡ false)
-  unfolding quantise-refusal
-  accepted = go (code-good c) (eqb (length xs) (row-long (width c))) (eqb o (row-long (width c))) (has-nan xs) refl refl
-    where
-      go : (g h k b : Bool) → eqb (length xs) (row-long (width c)) ≡ h → eqb o (row-long (width c)) ≡ k
-          → _≡_ {A = ℕ} (cond (not g) 1 (cond (not h) 2 (cond (not k) 4 (cond b 7 0)))) 0 → (o ≡ length xs) × (b ≡ false)
-      go false h k b p q e = absurd (omega arith)
-      go true false k b p q e = absurd (omega arith)
-      go true true false b p q e = absurd (omega arith)
-      go true true true true p q e = absurd (omega arith)
-      go true true true false p q e = (eqb-true o (row-long (width c)) q ∙ sym (eqb-true (length xs) (row-long (width c)) p), refl)
+-- what holds where nothing is refused
+pub accepted : (c : ℕ) (xs : List Float) (o : ℕ) → quantise-refusal c xs o ≡ 0 → (o ≡ length xs) × (has-nan xs ≡ false)
+unfolding quantise-refusal
+accepted c xs o e =
+    let a = passed _ _ _ (passed _ _ _ e .1) in
+    let b = passed _ _ _ (a .1) in
+    (eqb-true _ _ (b .0) ∙ sym (eqb-true _ _ (a .0)), not-true _ (passed _ _ _ (b .1) .0))
 
 -- the call did its work, or kept its row
 module _ (c : ℕ) (xs : List Float) (r : ℕ) (o p : List ℤ) (e : r ≡ quantise-refusal c xs (length o)) where

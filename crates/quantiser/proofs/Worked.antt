@@ -11,6 +11,7 @@ use Rattle.metric.specs.Row.{bound}
 use Rattle.code.specs.Code.{code-good, width, long}
 use Rattle.code.specs.Bits.{row-long}
 use Rattle.quantiser.specs.Quantise.{rounded, quantised}
+use Rattle.refusal.specs.Refusal.{unless}
 use Rattle.quantiser.specs.Calls.{has-nan, quantise-refusal}
 
 abbrev sample : (bits : ℕ) → Float
@@ -74,5 +75,5 @@ pub refusals :
     × (quantise-refusal 1 (samples 21 0x7fc0_0000) 20 ≡ 4)  -- the lengths come before a NaN
     × (quantise-refusal 1 (samples 21 0x7fc0_0000) 21 ≡ 7)
     × (quantise-refusal 1 (sample 0xffff_ffff ∷ samples 20 0x3f80_0000) 21 ≡ 7)  -- another NaN's bits
-unfolding quantise-refusal has-nan code-good width long row-long isNan ofBits
+unfolding quantise-refusal unless has-nan code-good width long row-long isNan ofBits
 refusals = (refl, refl, refl, refl, refl, refl, refl, refl, refl, refl)

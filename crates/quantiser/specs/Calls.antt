@@ -1,16 +1,16 @@
 -- What `quantise` answers and leaves behind, for every input. Refusals in document 01's order: code 1; lengths 2, 4; samples 7.
 -- Assumes nothing: these are definitions.
 use mathlib.Core.Path.{_≡_}
-use mathlib.Core.Bool.{Bool, false, _||_, not, cond}
+use mathlib.Core.Bool.{Bool, false, _||_, not}
 use mathlib.Core.List.{List, [], _∷_, map}
 use Prim.Native.Nat.{ℕ}
 use lib.Dec.{eqb}
 use lib.IntN.{ℤ}
 use lib.ListN.{length}
 use lib.Ieee.{Float, isNan}
+use Rattle.refusal.specs.Refusal.{unless, Outcome}
 use Rattle.code.specs.Code.{code-good, width}
 use Rattle.code.specs.Bits.{row-long}
-use Rattle.code.specs.Calls.{Outcome}
 use Rattle.quantiser.specs.Quantise.{quantised}
 
 -- some sample is not a number
@@ -21,9 +21,10 @@ has-nan (x ∷ xs) = isNan x || has-nan xs
 -- 'It takes exactly the n·m samples of a code's row'
 unfoldable pub quantise-refusal : (code : ℕ) → (samples : List Float) → (output : ℕ) → ℕ
 quantise-refusal c xs o =
-    cond (not (code-good c)) 1
-    (cond (not (eqb (length xs) (row-long (width c)))) 2
-    (cond (not (eqb o (row-long (width c)))) 4 (cond (has-nan xs) 7 0)))
+    unless (code-good c) 1
+    (unless (eqb (length xs) (row-long (width c))) 2
+    (unless (eqb o (row-long (width c))) 4
+    (unless (not (has-nan xs)) 7 0)))
 
 -- the row is the samples quantised, each in its place
 unfoldable pub Quantise-says : (code : ℕ) → (samples : List Float) → (answer : ℕ) → (row row-now : List ℤ) → Type 0

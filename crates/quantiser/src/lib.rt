@@ -91,24 +91,15 @@ fn any_nan(samples: &[f32]) -> bool
     false
 }
 
-// The number that a call is refused by, or 0.
-fn refusal(code: u32, samples: &[f32], output: usize) -> u32
+// What a call is refused by, 0 for nothing.
+fn quantise_refusal(code: u32, samples: &[f32], output: usize) -> u32
     ensures { λ r. ⌜ r ≡ quantise-refusal code (now (samples .entry)) output ⌝ }
 {
-    if !code::is_code(code) {
-        return 1;
-    }
     let long = code::row_long_of(code::width_of(code));
-    if samples.len() != long {
-        return 2;
-    }
-    if output != long {
-        return 4;
-    }
-    if any_nan(samples) {
-        return 7;
-    }
-    0
+    let contents = refusal::unless(!any_nan(samples), 7, 0);
+    let room = refusal::unless(output == long, 4, contents);
+    let lengths = refusal::unless(samples.len() == long, 2, room);
+    refusal::unless(code::is_code(code), 1, lengths)
 }
 
 // Each sample quantised into its place.
@@ -127,7 +118,7 @@ fn fill(samples: &[f32], row: &mut [i16])
 pub fn quantise(code: u32, samples: &[f32], row: &mut [i16]) -> u32
     ensures { λ r. ⌜ Quantise-says code (now (samples .entry)) r (now (row .entry)) (now (row .exit)) ⌝ }
 {
-    let number = refusal(code, samples, row.len());
+    let number = quantise_refusal(code, samples, row.len());
     if number == 0 {
         fill(samples, row);
     }

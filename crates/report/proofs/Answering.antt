@@ -10,7 +10,7 @@ use lib.ListN.{length}
 use lib.IntN.{ℤ}
 use Rattle.code.specs.Code.{width, roots, long}
 use Rattle.code.specs.Bits.{row-long}
-use Rattle.code.specs.Calls.{Outcome}
+use Rattle.refusal.specs.Refusal.{Outcome}
 use Rattle.metric.specs.Metric.{Marked}
 use Rattle.decoder.specs.declared.Decoding.{Decoding}
 use Rattle.marker.specs.declared.Mark.{Mark}

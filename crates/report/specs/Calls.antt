@@ -5,7 +5,7 @@ use mathlib.Core.List.{List, _++_}
 use Prim.Native.Nat.{ℕ, _+_, _*_}
 use lib.Dec.{eqb}
 use lib.ListN.{length, drop}
-use Rattle.code.specs.Calls.{Outcome}
+use Rattle.refusal.specs.Refusal.{Outcome}
 use Rattle.sheet.specs.Sheet.{most}
 use Rattle.text.specs.Text.{header, count-line}
 use Rattle.report.specs.declared.Listed.{Listed}

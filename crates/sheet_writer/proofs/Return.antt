@@ -12,7 +12,7 @@ use lib.Seq.{take-at, drop-at}
 use lib.IntN.{ℤ}
 use Rattle.code.specs.Code.{width, long}
 use Rattle.code.specs.Bits.{row-long}
-use Rattle.code.specs.Calls.{Outcome}
+use Rattle.refusal.specs.Refusal.{Outcome}
 use Rattle.sheet.specs.Sheet.{Question, most, numbers, all-good, question-good, first, questions}
 use Rattle.sheet.proofs.Items.{passed, both, first-none}
 use Rattle.sheet.proofs.Trips.{good-parts, written-read, read-written}

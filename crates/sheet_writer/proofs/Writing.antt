@@ -13,7 +13,7 @@ use lib.Seq.{drop-cons, take-add, drop-drop, take-all, length-take-le}
 use lib.IntN.{ℤ}
 use Rattle.code.specs.Code.{code-good, width, long, symbols-good}
 use Rattle.code.specs.Bits.{row-long}
-use Rattle.code.specs.Calls.{Outcome}
+use Rattle.refusal.specs.Refusal.{Outcome}
 use Rattle.metric.specs.Row.{row-good}
 use Rattle.sheet.specs.Sheet.{Question, end-kind, most, numbers, worded, digits, first, question-words, all-words, written, question-good}
 use Rattle.sheet.proofs.Items.{passed, held, first-none}

@@ -9,7 +9,7 @@ use lib.ListN.{length, take, drop}
 use lib.IntN.{ℤ}
 use Rattle.code.specs.Code.{code-good, width, long, symbols-good}
 use Rattle.code.specs.Bits.{row-long}
-use Rattle.code.specs.Calls.{Outcome}
+use Rattle.refusal.specs.Refusal.{Outcome}
 use Rattle.metric.specs.Row.{row-good}
 use Rattle.sheet.specs.Sheet.{Question, most, numbers, first, written}
 

@@ -1,23 +1,18 @@
 -- What `split` answers and leaves behind, for every input. Refusals in document 01's order: code 1; lengths 3, 4; symbols 6; membership 8.
 -- Assumes nothing: these are definitions.
 use mathlib.Core.Path.{_≡_}
-use mathlib.Core.Bool.{not, cond}
 use mathlib.Core.List.{List, [], _∷_, _++_}
 use Prim.Native.Nat.{ℕ, zero, suc, _<_}
-use lib.Dec.{eqb}
 use lib.ListN.{length}
-use Rattle.code.specs.Code.{code-good, width, roots, long, symbols-good, is-codeword}
+use Rattle.refusal.specs.Refusal.{Outcome}
+use Rattle.code.specs.Code.{width, roots}
 use Rattle.code.specs.Bits.{row-long}
-use Rattle.code.specs.Calls.{Outcome}
+use Rattle.code.specs.Calls.{member-refusal}
 use Rattle.split.specs.declared.Splitting.{Splitting}
 use Rattle.split.specs.Split.{layer, syndrome, syndromes, padded, Leader, sum}
 
 unfoldable pub split-refusal : (code : ℕ) → (word : List ℕ) → (output : ℕ) → ℕ
-split-refusal c ws o =
-    cond (not (code-good c)) 1
-    (cond (not (eqb (length ws) (long (width c)))) 3
-    (cond (not (eqb o (row-long (width c)))) 4
-    (cond (not (symbols-good (width c) ws)) 6 (cond (is-codeword (width c) (roots c) ws) 0 8))))
+split-refusal c ws o = member-refusal c ws o (row-long (width c))
 
 -- each layer with a leader added, layer 1 first
 unfoldable pub remainders : (left j : ℕ) → (leaders : ℕ → List ℕ) → (word : List ℕ) → List ℕ

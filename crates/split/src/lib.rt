@@ -151,24 +151,8 @@ fn write_layers(code: u32, word: &[u8], tuple: [u16; 4], bch: &mut [u8])
 fn split_refusal(code: u32, word: &[u8], output: usize) -> u32
     ensures { λ r. ⌜ r ≡ split-refusal code (now (word .entry)) output ⌝ }
 {
-    if !code::is_code(code) {
-        return 1;
-    }
-    let m = code::width_of(code);
-    if word.len() != code::long_of(m) {
-        return 3;
-    }
-    if output != code::row_long_of(m) {
-        return 4;
-    }
-    if !code::symbols_good(m, word) {
-        return 6;
-    }
-    if code::is_codeword(m, code::roots_of(code), word) {
-        0
-    } else {
-        8
-    }
+    let needed = code::row_long_of(code::width_of(code));
+    code::member_refusal(code, word, output, needed)
 }
 
 // Splits a codeword: its configuration, and into the lent output of n·m places, layer 1 first, the BCH word that is left

@@ -4,7 +4,7 @@ use mathlib.Core.List.{List}
 use Prim.Native.Nat.{ℕ, zero, suc, _-_, _<_, _≤_}
 use native.Mathlib.Omega.{arith}
 use lib.ListN.{length}
-use Rattle.code.specs.Calls.{Outcome}
+use Rattle.refusal.specs.Refusal.{Outcome}
 use Rattle.sheet.specs.Sheet.{sheet-refusal, questions}
 use Rattle.sheet.specs.Calls.{judgement, judged}
 use Rattle.sheet_reader.proofs.Places.{judged-large}

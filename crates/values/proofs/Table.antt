@@ -9,6 +9,7 @@ use lib.ListN.{length}
 use Rattle.field.specs.Field.{xor, times, times-from, doubled, alpha}
 use Rattle.code.specs.Code.{code-good, width, roots, long, message-long, value-from, value-at, vanishes, symbols-good, is-codeword, message}
 use Rattle.code.specs.Bits.{row-long}
+use Rattle.refusal.specs.Refusal.{unless}
 use Rattle.code.specs.Calls.{Encode-says, encode-refusal}
 use Rattle.code.specs.Promise.{Encodes-once}
 use Rattle.code.proofs.Accepted.{width-fine, roots-few, encode-accepts, outcome-done, outcome-taken}
@@ -37,7 +38,7 @@ encodes c ms ws taken g e =
     }
 
 pub on-record : On-record
-unfolding code-good width roots long message-long row-long xor times times-from doubled alpha value-from value-at vanishes symbols-good is-codeword message encode-refusal
+unfolding code-good width roots long message-long row-long xor times times-from doubled alpha value-from value-at vanishes symbols-good is-codeword message encode-refusal unless
 on-record =
     record {
       first-word = encodes 1 _ _ refl refl refl;

@@ -5,20 +5,21 @@ use Prim.Native.Nat.{ℕ, _-_, _≤_}
 use native.Mathlib.Omega.{arith}
 use lib.ListN.{length, drop}
 use borrow.Author.Needs.{needs}
-use Rattle.code.specs.Code.{message-long, message}
-use Rattle.code.specs.Calls.{Read-says}
+use Rattle.code.specs.Code.{width, roots, message-long, message}
+use Rattle.code.specs.Calls.{read-refusal, Read-says}
 use Rattle.code.proofs.Parts.{tail-is, tail-long}
-use Rattle.code.proofs.Accepted.{outcome-refused, outcome-done, roots-few, Readable, read-accepts}
+use Rattle.code.proofs.Accepted.{outcome-refused, outcome-done, roots-few, Member, member-accepts}
 use Rattle.code.proofs.read_word.Statement.{statement}
 use Rattle.code.proofs.read_word.Tie as tie
 
 read-refusal-requires : tie.Need-read-refusal-requires
 read-refusal-requires c κs = search needs
 
-readable : (c : tie.After-roots-of) → let a = c .before .before .before .before .before .args in Readable (a .code) (a .word .now) (length (a .output .now))
+readable : (c : tie.After-roots-of) → let a = c .before .before .before .before .before .args in Member (a .code) (a .word .now) (length (a .output .now)) (message-long (width (a .code)) (roots (a .code)))
+unfolding read-refusal
 readable c =
     let e = c .before in let a = e .before .before .before .before .args in
-    read-accepts (a .code) (a .word .now) (length (a .output .now)) (sym (e .before .read-refusal .ensures) ∙ e .if1 .left)
+    member-accepts (a .code) (a .word .now) (length (a .output .now)) _ (sym (e .before .read-refusal .ensures) ∙ e .if1 .left)
 
 starts : (c : tie.After-roots-of) → c .roots-of .result ≤ length (c .before .before .before .before .before .args .word .now)
 starts c = omega (arith, c .roots-of .ensures, roots-few (c .before .before .before .before .before .args .code), readable c .count)

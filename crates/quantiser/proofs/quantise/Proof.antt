@@ -8,14 +8,14 @@ use Rattle.quantiser.proofs.Outcomes.{accepted, worked, kept}
 use Rattle.quantiser.proofs.quantise.Statement.{statement}
 use Rattle.quantiser.proofs.quantise.Tie as tie
 
-refusal-requires : tie.Need-refusal-requires
-refusal-requires c κs = search needs
+quantise-refusal-requires : tie.Need-quantise-refusal-requires
+quantise-refusal-requires c κs = search needs
 
 fill-requires : tie.Need-fill-requires
 fill-requires c κs =
     let l = c .before .before in
     let s = l .before .before in
-    accepted (s .args .code) (now (s .args .samples)) (length (now (s .args .row))) (sym (l .refusal .ensures) ∙ c .before .if1 .taken)
+    accepted (s .args .code) (now (s .args .samples)) (length (now (s .args .row))) (sym (l .quantise-refusal .ensures) ∙ c .before .if1 .taken)
 
 same-length : tie.Need-same-length
 same-length c = search needs
@@ -24,13 +24,13 @@ returns : tie.Need-returns
 returns c =
     let l = c .before .before .before .before in
     let s = l .before .before in
-    worked (s .args .code) (now (s .args .samples)) (l .refusal .result) (now (s .args .row)) _ (l .refusal .ensures) (c .before .before .before .if1 .taken) (c .before .fill .ensures)
+    worked (s .args .code) (now (s .args .samples)) (l .quantise-refusal .result) (now (s .args .row)) _ (l .quantise-refusal .ensures) (c .before .before .before .if1 .taken) (c .before .fill .ensures)
 
 returns-2 : tie.Need-returns-2
 returns-2 c =
     let l = c .before in
     let s = l .before .before in
-    kept (s .args .code) (now (s .args .samples)) (l .refusal .result) (now (s .args .row)) (now (s .args .row)) (l .refusal .ensures) (c .if1 .left) refl
+    kept (s .args .code) (now (s .args .samples)) (l .quantise-refusal .result) (now (s .args .row)) (now (s .args .row)) (l .quantise-refusal .ensures) (c .if1 .left) refl
 
 pub quantise-spec : {M : Type 1} → statement M
-quantise-spec = tie.close (tie.spec refusal-requires fill-requires same-length returns returns-2)
+quantise-spec = tie.close (tie.spec quantise-refusal-requires fill-requires same-length returns returns-2)

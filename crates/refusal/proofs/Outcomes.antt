@@ -3,7 +3,7 @@
 use mathlib.Core.Path.{_≡_, refl, _∙_}
 use Prim.Native.Nat.{ℕ, zero, suc}
 use native.Mathlib.Omega.{arith}
-use Rattle.code.specs.Calls.{Outcome}
+use Rattle.refusal.specs.Refusal.{Outcome}
 
 module _ (refusal r : ℕ) (Done Kept : Type 0) where
   pub outcome-done : refusal ≡ 0 → r ≡ 0 → Done → Outcome refusal r Done Kept

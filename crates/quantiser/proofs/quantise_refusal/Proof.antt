@@ -1,0 +1,28 @@
+-- `quantiser::quantise_refusal` meets its contract.
+-- Assumes nothing.
+use borrow.Author.Needs.{needs}
+use Rattle.code.proofs.Accepted.{width-fine}
+use Rattle.quantiser.specs.Calls.{quantise-refusal}
+use Rattle.quantiser.proofs.quantise_refusal.Statement.{statement}
+use Rattle.quantiser.proofs.quantise_refusal.Tie as tie
+
+row-long-of-requires : tie.Need-row-long-of-requires
+row-long-of-requires c κs = rw (c .width-of .ensures) (width-fine _)
+
+returns : tie.Need-returns
+unfolding quantise-refusal
+returns c = cc
+
+pub quantise-refusal-spec : {M : Type 1} → statement M
+quantise-refusal-spec =
+    tie.close
+    (tie.spec
+    (λ c κs. search needs)
+    row-long-of-requires
+    (λ c κs. search needs)
+    (λ c κs. search needs)
+    (λ c κs. search needs)
+    (λ c κs. search needs)
+    (λ c κs. search needs)
+    (λ c κs. search needs)
+    returns)

@@ -1,0 +1,27 @@
+-- What is known where a chain of tests refuses nothing.
+-- Assumes nothing.
+use mathlib.Core.Path.{_≡_, refl}
+use mathlib.Core.Bool.{Bool, true, false}
+use Prim.Native.Nat.{ℕ, zero, suc}
+use native.Mathlib.Omega.{arith}
+use Rattle.refusal.specs.Refusal.{unless, first}
+
+pub passed : (b : Bool) (n e : ℕ) → unless b (suc n) e ≡ 0 → (b ≡ true) × (e ≡ 0)
+unfolding unless
+passed true n e h = (refl, h)
+passed false n e h = absurd (omega arith)
+
+-- the first of two refusals, as a branch has it
+pub first-refuses : (n e : ℕ) → (n ≡ 0 → ⊥) → n ≡ first n e
+unfolding first
+first-refuses zero e h = absurd (h refl)
+first-refuses (suc n) e h = refl
+
+pub first-passes : (n e : ℕ) → n ≡ 0 → e ≡ first n e
+unfolding first
+first-passes n e h = rw h
+
+pub first-none : (n e : ℕ) → first n e ≡ 0 → (n ≡ 0) × (e ≡ 0)
+unfolding first
+first-none zero e h = (refl, h)
+first-none (suc n) e h = absurd (omega arith)
