@@ -7,8 +7,8 @@ use Prim.Native.Nat.{ℕ}
 use native.Mathlib.Omega.{arith}
 use lib.ListN.{length}
 use lib.IntN.{ℤ, pos}
-use Rattle.code.specs.Code.{code-good, width, roots}
 use Rattle.refusal.proofs.Outcomes.{outcome-done, outcome-refused}
+use Rattle.code.specs.Code.{code-good, width, roots, is-codeword}
 use Rattle.metric.specs.Metric.{Decoded}
 use Rattle.decoder.specs.Calls.{decode-refusal, Decode-says}
 use Rattle.decoder.specs.Within.{Accepted}
@@ -26,9 +26,9 @@ module _ (c : ℕ) (rs : List ℤ) (word : List ℕ) (soft : List ℤ) (r : ℕ)
     pub accepted : (k : ℕ) → c ≡ k → Accepted k rs (length word) (length soft)
     accepted k q = subst (λ (x : ℕ). Accepted x rs (length word) (length soft)) q (decode-accepted c rs (length word) (length soft) (sym e ∙ z) .1)
 
-    pub decode-done : (k : ℕ) → c ≡ k → (x y : ℤ) (word' : List ℕ) (soft' : List ℤ) → y ≡ x → Decoded (width k) (roots k) rs word' x soft' →
+    pub decode-done : (k : ℕ) → c ≡ k → (x y : ℤ) (word' : List ℕ) (soft' : List ℤ) → y ≡ x → Decoded (width k) (is-codeword (width k) (roots k)) rs word' x soft' →
         Decode-says c rs (record { number = 0; metric = y }) word word' soft soft'
     unfolding Decode-says
     decode-done k q x y word' soft' f d =
         outcome-done (decode-refusal c rs (length word) (length soft)) 0 _ _ (sym e ∙ z) refl
-        (subst (λ (u : ℕ). Decoded (width u) (roots u) rs word' y soft') (sym q) (subst (λ (u : ℤ). Decoded (width k) (roots k) rs word' u soft') (sym f) d))
+        (subst (λ (u : ℕ). Decoded (width u) (is-codeword (width u) (roots u)) rs word' y soft') (sym q) (subst (λ (u : ℤ). Decoded (width k) (is-codeword (width k) (roots k)) rs word' u soft') (sym f) d))

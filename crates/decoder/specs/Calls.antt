@@ -6,7 +6,7 @@ use Prim.Native.Nat.{ℕ}
 use lib.Dec.{eqb}
 use lib.ListN.{length}
 use lib.IntN.{ℤ, pos}
-use Rattle.code.specs.Code.{code-good, width, roots, long}
+use Rattle.code.specs.Code.{code-good, width, roots, long, is-codeword}
 use Rattle.code.specs.Bits.{row-long}
 use Rattle.refusal.specs.Refusal.{unless, Outcome}
 use Rattle.metric.specs.Row.{row-good}
@@ -24,4 +24,4 @@ decode-refusal c rs a b =
 -- a best word, its metric and every soft output; refused, the metric is 0 and the outputs are kept
 unfoldable pub Decode-says : (code : ℕ) → (row : List ℤ) → Decoding → (word word-now : List ℕ) → (soft soft-now : List ℤ) → Type 0
 Decode-says c rs r a b d e =
-    Outcome (decode-refusal c rs (length a) (length d)) (r .number) (Decoded (width c) (roots c) rs b (r .metric) e) ((r .metric ≡ pos 0) × (b ≡ a) × (e ≡ d))
+    Outcome (decode-refusal c rs (length a) (length d)) (r .number) (Decoded (width c) (is-codeword (width c) (roots c)) rs b (r .metric) e) ((r .metric ≡ pos 0) × (b ≡ a) × (e ≡ d))

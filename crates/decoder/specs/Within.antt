@@ -19,14 +19,15 @@ use Rattle.row_tables.specs.Within.{big, cap}
 pub record Best (code size count : ℕ) (row : List ℤ) (t cs g word : List ℕ) (least : ℕ) : Type 0 where
   pub codeword : is-codeword (width code) (roots code) word ≡ true
   pub costs : cost (width code) row word ≡ least
-  pub is-least : Least (width code) (roots code) row least
+  pub is-least : Least (width code) (is-codeword (width code) (roots code)) row least
   pub marginals : Marginals size count cap t cs g
 
 -- the least costs with a 0 and with a 1 at each bit
 abbrev pub Softs : (code m n : ℕ) → (row : List ℤ) → (zero one : List ℕ) → Type 0
 Softs code m n row zs os =
     (i j : ℕ) → i < n → j < m →
-    Least-with (width code) (roots code) row (i * m + j) 0 (folded zs i j) × Least-with (width code) (roots code) row (i * m + j) 1 (folded os i j)
+    Least-with (width code) (is-codeword (width code) (roots code)) row (i * m + j) 0 (folded zs i j)
+    × Least-with (width code) (is-codeword (width code) (roots code)) row (i * m + j) 1 (folded os i j)
     × (folded zs i j < big) × (folded os i j < big)
 
 -- all entries are n

@@ -4,7 +4,7 @@ ghost use mathlib.Core.Path.{_≡_};
 ghost use Prim.Native.Nat.{_+_, _*_, _^_, _<_, _≤_};
 ghost use lib.ListN.{length};
 ghost use lib.IntN.{pos, _-ℤ_};
-ghost use Rattle.code.specs.Code.{width, roots};
+ghost use Rattle.code.specs.Code.{width, roots, is-codeword};
 ghost use Rattle.metric.specs.Metric.{Decoded};
 ghost use Rattle.glue.specs.Walk.{Marginals};
 ghost use Rattle.search.specs.Search.{Headed};
@@ -181,7 +181,7 @@ fn decode_with(
     requires { ⌜ Headed m r (now hs) ⌝ }
     requires { ⌜ Buffers n size (now zs) (now os) (now t) ⌝ }
     requires { ⌜ Outputs m n size (now g) (now zero) (now one) (now word) (now soft) ⌝ }
-    ensures { λ x. ⌜ Decoded (width code) (roots code) (now (row .entry)) (now (word .exit)) x (now (soft .exit)) ⌝ }
+    ensures { λ x. ⌜ Decoded (width code) (is-codeword (width code) (roots code)) (now (row .entry)) (now (word .exit)) x (now (soft .exit)) ⌝ }
 {
     row_tables::of_row(code, m, r, q, n, size, count, row, cs, hs, zs, os, t);
     let least = best_word(
@@ -239,7 +239,7 @@ fn decode_refusal(code: u32, row: &[i16], word: usize, soft: usize) -> u32
 // Each code with buffers of its own sizes: n + 1 tables of four layers, 2^q rows each.
 fn decode_1(row: &[i16], word: &mut [u8], soft: &mut [i16]) -> i32
     requires { ⌜ Accepted 1 (now row) (length (now word)) (length (now soft)) ⌝ }
-    ensures { λ x. ⌜ Decoded (width 1) (roots 1) (now (row .entry)) (now (word .exit)) x (now (soft .exit)) ⌝ }
+    ensures { λ x. ⌜ Decoded (width 1) (is-codeword (width 1) (roots 1)) (now (row .entry)) (now (word .exit)) x (now (soft .exit)) ⌝ }
 {
     let all = configurations::all_of_code_1();
     let hs = search::columns_of_code_1();
@@ -273,7 +273,7 @@ fn decode_1(row: &[i16], word: &mut [u8], soft: &mut [i16]) -> i32
 
 fn decode_2(row: &[i16], word: &mut [u8], soft: &mut [i16]) -> i32
     requires { ⌜ Accepted 2 (now row) (length (now word)) (length (now soft)) ⌝ }
-    ensures { λ x. ⌜ Decoded (width 2) (roots 2) (now (row .entry)) (now (word .exit)) x (now (soft .exit)) ⌝ }
+    ensures { λ x. ⌜ Decoded (width 2) (is-codeword (width 2) (roots 2)) (now (row .entry)) (now (word .exit)) x (now (soft .exit)) ⌝ }
 {
     let all = configurations::all_of_code_2();
     let hs = search::columns_of_code_2();
@@ -307,7 +307,7 @@ fn decode_2(row: &[i16], word: &mut [u8], soft: &mut [i16]) -> i32
 
 fn decode_3(row: &[i16], word: &mut [u8], soft: &mut [i16]) -> i32
     requires { ⌜ Accepted 3 (now row) (length (now word)) (length (now soft)) ⌝ }
-    ensures { λ x. ⌜ Decoded (width 3) (roots 3) (now (row .entry)) (now (word .exit)) x (now (soft .exit)) ⌝ }
+    ensures { λ x. ⌜ Decoded (width 3) (is-codeword (width 3) (roots 3)) (now (row .entry)) (now (word .exit)) x (now (soft .exit)) ⌝ }
 {
     let all = configurations::all_of_code_3();
     let hs = search::columns_of_code_3();

@@ -18,6 +18,7 @@ use Rattle.refusal.proofs.Outcomes.{outcome-done, outcome-refused}
 use Rattle.metric.specs.Metric.{Marked}
 use Rattle.metric.specs.Cost.{cost, Least}
 use Rattle.metric.proofs.Marks.{marked-none, marked-short, marked-best}
+use Rattle.metric.proofs.Costs.{codeword-bits}
 use Rattle.metric.proofs.Bounds.{weight-le, cost-le}
 use Rattle.glue.specs.Walk.{least-total}
 use Rattle.search.specs.Search.{word-cost, Own}
@@ -48,7 +49,7 @@ module _ (c m r q n size count : ℕ) (row : List ℤ) (cs hs zs os t : List ℕ
   }
 
   module _ (least own : ℕ) (e : least ≡ least-total cap t cs count) (f : own ≡ word-cost zs os 0 word) where
-    is-least : Least (width c) (roots c) row least
+    is-least : Least (width c) (is-codeword (width c) (roots c)) row least
     is-least = rw e (least-is c m r q n size count row cs hs zs os t z b)
 
     own-is : own ≡ cost (width c) row word
@@ -85,7 +86,7 @@ module _ (c : ℕ) (rs : List ℤ) (ws : List ℕ) where
 
   pub mark-none : mark-refusal c rs ws ≡ 0 → is-codeword (width c) (roots c) ws ≡ false → Mark-says c rs ws (record { number = 0; verdict = 0; shortfall = pos 0 })
   unfolding Mark-says
-  mark-none z n = outcome-done (mark-refusal c rs ws) 0 _ _ z refl (marked-none (width c) (roots c) rs ws n)
+  mark-none z n = outcome-done (mark-refusal c rs ws) 0 _ _ z refl (marked-none (width c) (is-codeword (width c) (roots c)) rs ws n)
 
   pub mark-done : mark-refusal c rs ws ≡ 0 → is-codeword (width c) (roots c) ws ≡ true → (x : ℕ) → Short c rs ws x → (k : Mark) → Verdict x k → Mark-says c rs ws k
   unfolding Mark-says
@@ -98,11 +99,11 @@ module _ (c : ℕ) (rs : List ℤ) (ws : List ℕ) where
       zero-of zero v = v .0
       zero-of (suc x) v = v .0
 
-      marked : (x : ℕ) → Short c rs ws x → Verdict x k → Marked (k .verdict) (k .shortfall) (width c) (roots c) rs ws
-      marked zero s v = rw (v .1, v .2) (marked-best (width c) (roots c) rs l ws (s .least) cw (s .is-least) (omega (arith, s .own)))
+      marked : (x : ℕ) → Short c rs ws x → Verdict x k → Marked (k .verdict) (k .shortfall) (width c) (is-codeword (width c) (roots c)) rs ws
+      marked zero s v = rw (v .1, v .2) (marked-best (width c) (is-codeword (width c) (roots c)) rs (codeword-bits (width c) (roots c) rs l) ws (s .least) cw (s .is-least) (omega (arith, s .own)))
       marked (suc x) s v =
           let e : cost (width c) rs ws - s .least ≡ suc x = omega (arith, s .own) in
-          rw (v .1, v .2) (rw e at (marked-short (width c) (roots c) rs l ws (s .least) cw (s .is-least) (omega (arith, s .own))))
+          rw (v .1, v .2) (rw e at (marked-short (width c) (is-codeword (width c) (roots c)) rs (codeword-bits (width c) (roots c) rs l) ws (s .least) cw (s .is-least) (omega (arith, s .own))))
 
 -- the two verdicts on a codeword
 pub best-verdict : (x : ℕ) → x ≡ 0 → Verdict x (record { number = 0; verdict = 2; shortfall = pos 0 })

@@ -6,7 +6,7 @@ use Prim.Native.Nat.{ℕ}
 use lib.Dec.{eqb}
 use lib.ListN.{length}
 use lib.IntN.{ℤ, pos}
-use Rattle.code.specs.Code.{code-good, width, roots, long, symbols-good}
+use Rattle.code.specs.Code.{code-good, width, roots, long, symbols-good, is-codeword}
 use Rattle.code.specs.Bits.{row-long}
 use Rattle.refusal.specs.Refusal.{unless, Outcome}
 use Rattle.metric.specs.Row.{row-good}
@@ -24,4 +24,4 @@ mark-refusal c rs ws =
 -- none, short by exactly what is lacking, or best; refused, the verdict and the shortfall are 0
 unfoldable pub Mark-says : (code : ℕ) → (row : List ℤ) → (word : List ℕ) → Mark → Type 0
 Mark-says c rs ws r =
-    Outcome (mark-refusal c rs ws) (r .number) (Marked (r .verdict) (r .shortfall) (width c) (roots c) rs ws) ((r .verdict ≡ 0) × (r .shortfall ≡ pos 0))
+    Outcome (mark-refusal c rs ws) (r .number) (Marked (r .verdict) (r .shortfall) (width c) (is-codeword (width c) (roots c)) rs ws) ((r .verdict ≡ 0) × (r .shortfall ≡ pos 0))

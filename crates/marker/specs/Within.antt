@@ -13,7 +13,7 @@ use Rattle.metric.specs.Cost.{cost, Least}
 -- a word's cost is the least cost of a codeword and x
 pub record Short (code : ℕ) (row : List ℤ) (word : List ℕ) (x : ℕ) : Type 0 where
   pub least : ℕ
-  pub is-least : Least (width code) (roots code) row least
+  pub is-least : Least (width code) (is-codeword (width code) (roots code)) row least
   pub own : cost (width code) row word ≡ least + x
 
 -- an accepted row and a codeword

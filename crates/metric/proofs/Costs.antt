@@ -1,8 +1,8 @@
--- THE GREATER METRIC IS THE LESSER COST: a codeword's metric is the row's weight less twice its cost,
+-- THE GREATER METRIC IS THE LESSER COST: the metric of a word with a bit for each entry is the row's weight less twice its cost,
 -- so greatest metrics, soft outputs and decodings come from least costs.
 -- Assumes nothing.
 use mathlib.Core.Path.{_≡_, refl, sym, ap, _∙_}
-use mathlib.Core.Bool.{true}
+use mathlib.Core.Bool.{Bool, true}
 use mathlib.Core.List.{List, [], _∷_}
 use Prim.Native.Nat.{ℕ, zero, suc, _+_, _*_, _≤_, _<_}
 use native.Mathlib.Nat.{suc-inj}
@@ -22,15 +22,15 @@ unfolding bits-of
 length-bits zero c = refl
 length-bits (suc m) c = ap suc (length-bits m _)
 
-length-all-bits : (m : ℕ) (ws : List ℕ) → length (all-bits m ws) ≡ length ws * m
+pub length-all-bits : (m : ℕ) (ws : List ℕ) → length (all-bits m ws) ≡ length ws * m
 unfolding all-bits
 length-all-bits m [] = omega arith
 length-all-bits m (c ∷ cs) = omega (arith, length-append (bits-of m c) (all-bits m cs), length-bits m c, length-all-bits m cs)
 
 -- a codeword has a bit for each entry of a row
-pub codeword-bits : (m r : ℕ) (ws : List ℕ) → is-codeword m r ws ≡ true → length (all-bits m ws) ≡ row-long m
+pub codeword-bits : (m r : ℕ) (rs : List ℤ) → length rs ≡ row-long m → (ws : List ℕ) → is-codeword m r ws ≡ true → length (all-bits m ws) ≡ length rs
 unfolding row-long
-codeword-bits m r ws c = length-all-bits m ws ∙ ap (λ (n : ℕ). n * m) (codeword-parts m r ws c .count)
+codeword-bits m r rs l ws c = length-all-bits m ws ∙ ap (λ (n : ℕ). n * m) (codeword-parts m r ws c .count) ∙ sym l
 
 -- metric + 2 cost = weight, in natural numbers
 pub metric-parts : (rs : List ℤ) (bs : List ℕ) → length rs ≡ length bs →
@@ -45,12 +45,11 @@ pub top-parts : (rs : List ℤ) (d : ℕ) → costOne (top rs d) + 2 * d ≡ cos
 unfolding top
 top-parts rs d = omega (arith, minus (pos (weight-of rs)) (pos (2 * d)))
 
-pub top-own : (m r : ℕ) (rs : List ℤ) (ws : List ℕ) → length rs ≡ row-long m → is-codeword m r ws ≡ true → metric m rs ws ≡ top rs (cost m rs ws)
+pub top-own : (m : ℕ) (rs : List ℤ) (ws : List ℕ) → length (all-bits m ws) ≡ length rs → metric m rs ws ≡ top rs (cost m rs ws)
 unfolding metric cost
-top-own m r rs ws l c =
+top-own m rs ws l =
     let bs : List ℕ = all-bits m ws in
-    same (metric-of rs bs) (top rs (discrepancy rs bs))
-    (omega (arith, metric-parts rs bs (l ∙ sym (codeword-bits m r ws c)), top-parts rs (discrepancy rs bs)))
+    same (metric-of rs bs) (top rs (discrepancy rs bs)) (omega (arith, metric-parts rs bs (sym l), top-parts rs (discrepancy rs bs)))
 
 -- order and difference of metrics at two costs
 pub top-le : (rs : List ℤ) (d e : ℕ) → d ≤ e → at-most (top rs e) (top rs d) ≡ true
@@ -61,27 +60,27 @@ top-minus rs d e =
     same (top rs d -ℤ top rs e) (pos (2 * e) -ℤ pos (2 * d))
     (omega (arith, top-parts rs d, top-parts rs e, minus (top rs d) (top rs e), minus (pos (2 * e)) (pos (2 * d))))
 
-module _ (m r : ℕ) (rs : List ℤ) (l : length rs ≡ row-long m) where
-  -- a codeword at a cost, and above one
-  at-cost : (ws : List ℕ) (d : ℕ) → is-codeword m r ws ≡ true → cost m rs ws ≡ d → metric m rs ws ≡ top rs d
-  at-cost ws d c e = top-own m r rs ws l c ∙ ap (top rs) e
+module _ (m : ℕ) (among : List ℕ → Bool) (rs : List ℤ) (full : (ws : List ℕ) → among ws ≡ true → length (all-bits m ws) ≡ length rs) where
+  -- a word at a cost, and above one
+  at-cost : (ws : List ℕ) (d : ℕ) → among ws ≡ true → cost m rs ws ≡ d → metric m rs ws ≡ top rs d
+  at-cost ws d c e = top-own m rs ws (full ws c) ∙ ap (top rs) e
 
-  under : (ws : List ℕ) (d : ℕ) → is-codeword m r ws ≡ true → d ≤ cost m rs ws → at-most (metric m rs ws) (top rs d) ≡ true
-  under ws d c h = rw (top-own m r rs ws l c) (top-le rs d (cost m rs ws) h)
+  under : (ws : List ℕ) (d : ℕ) → among ws ≡ true → d ≤ cost m rs ws → at-most (metric m rs ws) (top rs d) ≡ true
+  under ws d c h = rw (top-own m rs ws (full ws c)) (top-le rs d (cost m rs ws) h)
 
-  pub greatest : (d : ℕ) → Least m r rs d → Greatest m r rs (top rs d)
+  pub greatest : (d : ℕ) → Least m among rs d → Greatest m among rs (top rs d)
   greatest d s = record {
     met = (s .met .0, s .met .1, at-cost (s .met .0) d (s .met .1) (s .met .2));
     all = λ ws c. under ws d c (s .all ws c);
   }
 
-  pub greatest-with : (b v d : ℕ) → Least-with m r rs b v d → Greatest-with m r rs b v (top rs d)
+  pub greatest-with : (b v d : ℕ) → Least-with m among rs b v d → Greatest-with m among rs b v (top rs d)
   greatest-with b v d s = record {
     met = (s .met .0, s .met .1, s .met .2, at-cost (s .met .0) d (s .met .1) (s .met .3));
     all = λ ws c e. under ws d c (s .all ws c e);
   }
 
-  pub soft : (b d0 d1 : ℕ) → Least-with m r rs b 0 d0 → Least-with m r rs b 1 d1 → Soft m r rs b (pos (2 * d1) -ℤ pos (2 * d0))
+  pub soft : (b d0 d1 : ℕ) → Least-with m among rs b 0 d0 → Least-with m among rs b 1 d1 → Soft m among rs b (pos (2 * d1) -ℤ pos (2 * d0))
   soft b d0 d1 s t = record {
     of-zero = top rs d0;
     of-one = top rs d1;
@@ -90,9 +89,9 @@ module _ (m r : ℕ) (rs : List ℤ) (l : length rs ≡ row-long m) where
     difference = sym (top-minus rs d0 d1);
   }
 
-  pub decoded : (ws : List ℕ) (d : ℕ) (so : List ℤ) (zs os : ℕ → ℕ) → is-codeword m r ws ≡ true → cost m rs ws ≡ d → Least m r rs d → length so ≡ row-long m →
-      ((b : ℕ) → b < row-long m → Least-with m r rs b 0 (zs b) × Least-with m r rs b 1 (os b) × (getD so b (pos 0) ≡ pos (2 * os b) -ℤ pos (2 * zs b))) →
-      Decoded m r rs ws (top rs d) so
+  pub decoded : (ws : List ℕ) (d : ℕ) (so : List ℤ) (zs os : ℕ → ℕ) → among ws ≡ true → cost m rs ws ≡ d → Least m among rs d → length so ≡ length rs →
+      ((b : ℕ) → b < length rs → Least-with m among rs b 0 (zs b) × Least-with m among rs b 1 (os b) × (getD so b (pos 0) ≡ pos (2 * os b) -ℤ pos (2 * zs b))) →
+      Decoded m among rs ws (top rs d) so
   decoded ws d so zs os c e s n f = record {
     word = c;
     own = sym (at-cost ws d c e);

@@ -8,17 +8,14 @@ use Prim.Native.Nat.{ℕ, zero, suc, _^_, _≤_, _<_}
 use native.Mathlib.Nat.{suc-inj, le-of-suc-le-suc, not-suc-le-zero, eq-or-lt-of-le, le-refl}
 use native.Mathlib.Omega.{arith}
 use borrow.Author.Tests.{ltb-false, eq-eqb}
-use lib.Dec.{T, ltb, eqb, ltb→lt, eqb→eq, lit<}
+use lib.Dec.{T, ltb, eqb, ltb→lt, eqb→eq}
 use lib.ListN.{length}
 use lib.IntN.{ℤ}
-use Rattle.field.proofs.Tests.{and-l, and-r, to-T, from-T, widths}
-use Rattle.field.specs.Field.{width-good}
-use Rattle.code.specs.Code.{long, is-codeword}
-use Rattle.code.specs.Bits.{bit-at, row-long}
-use Rattle.code.specs.Promise.{Both-there}
-use Rattle.code.proofs.Words.{Below, codeword-parts}
-use Rattle.code.proofs.Both.{both-there}
+use Rattle.field.proofs.Tests.{and-l, and-r, to-T, from-T}
+use Rattle.code.specs.Bits.{bit-at}
+use Rattle.code.proofs.Words.{Below, below}
 use Rattle.metric.specs.Cost.{cost, Least, Least-with}
+use Rattle.metric.specs.Promise.{Words-for}
 
 -- a word that passes a test, or none of n symbols below k does
 abbrev Looked : (n k : ℕ) → (List ℕ → Bool) → Type 0
@@ -90,53 +87,40 @@ module _ (n k : ℕ) (q : List ℕ → Bool) (f : List ℕ → ℕ) (within : (w
   lowest : (ws : List ℕ) → q ws ≡ true → Lowest q f
   lowest ws e = lowest-from (f ws) ws e (le-refl (f ws))
 
-module _ (m r : ℕ) (w : width-good m ≡ true) (few : r < long m) (rs : List ℤ) where
-  codeword-within : (ws : List ℕ) → is-codeword m r ws ≡ true → (length ws ≡ long m) × Below (2 ^ m) ws
-  codeword-within ws c = let p = codeword-parts m r ws c in (p .count, p .symbols)
+module _ (m : ℕ) (among : List ℕ → Bool) (rs : List ℤ) (x : Words-for m among rs) where
+  inside : (ws : List ℕ) → among ws ≡ true → (length ws ≡ x .count) × Below (2 ^ m) ws
+  inside ws c = (x .words ws c .0, below m ws (to-T (x .words ws c .1)))
 
-  some-bit : 0 < row-long m
-  unfolding row-long long
-  some-bit = widths (λ (m : ℕ). 0 < row-long m) (lit< tt) (lit< tt) m w
-
-  pub least-there : (d : ℕ) × Least m r rs d
-  unfolding Both-there
+  pub least-there : (d : ℕ) × Least m among rs d
   least-there =
-      let x : (ws : List ℕ) × (is-codeword m r ws ≡ true) × (bit-at m 0 ws ≡ 0) = both-there m r 0 w few some-bit .0 in
-      let l : Lowest (is-codeword m r) (cost m rs) = lowest (long m) (2 ^ m) (is-codeword m r) (cost m rs) codeword-within (x .0) (x .1) in
+      let l : Lowest among (cost m rs) = lowest (x .count) (2 ^ m) among (cost m rs) inside (x .some .0) (x .some .1) in
       (cost m rs (l .word), record { met = (l .word, l .passes, refl); all = l .least })
 
-  -- a codeword with v at bit b
-  held : (b v : ℕ) → List ℕ → Bool
-  held b v ws = is-codeword m r ws && eqb (bit-at m b ws) v
+  module _ (b v : ℕ) (hb : b < length rs) (hv : v < 2) where
+    -- a word with v at bit b
+    held : List ℕ → Bool
+    held ws = among ws && eqb (bit-at m b ws) v
 
-  held-codeword : (b v : ℕ) (ws : List ℕ) → held b v ws ≡ true → is-codeword m r ws ≡ true
-  unfolding held
-  held-codeword b v ws g = from-T (is-codeword m r ws) (and-l (is-codeword m r ws) (eqb (bit-at m b ws) v) (to-T g))
+    held-word : (ws : List ℕ) → held ws ≡ true → among ws ≡ true
+    unfolding held
+    held-word ws g = from-T (among ws) (and-l (among ws) (eqb (bit-at m b ws) v) (to-T g))
 
-  held-bit : (b v : ℕ) (ws : List ℕ) → held b v ws ≡ true → bit-at m b ws ≡ v
-  unfolding held
-  held-bit b v ws g = eqb→eq (bit-at m b ws) v (and-r (is-codeword m r ws) (eqb (bit-at m b ws) v) (to-T g))
+    held-bit : (ws : List ℕ) → held ws ≡ true → bit-at m b ws ≡ v
+    unfolding held
+    held-bit ws g = eqb→eq (bit-at m b ws) v (and-r (among ws) (eqb (bit-at m b ws) v) (to-T g))
 
-  held-of : (b v : ℕ) (ws : List ℕ) → is-codeword m r ws ≡ true → bit-at m b ws ≡ v → held b v ws ≡ true
-  unfolding held
-  held-of b v ws c e = rw (c, eq-eqb (bit-at m b ws) v e) refl
+    held-of : (ws : List ℕ) → among ws ≡ true → bit-at m b ws ≡ v → held ws ≡ true
+    unfolding held
+    held-of ws c e = rw (c, eq-eqb (bit-at m b ws) v e) refl
 
-  pub least-with-there : (b v : ℕ) → b < row-long m → v < 2 → (d : ℕ) × Least-with m r rs b v d
-  unfolding Both-there
-  least-with-there b v hb hv = go v hv
-    where
-      from : (v : ℕ) → (ws : List ℕ) × (is-codeword m r ws ≡ true) × (bit-at m b ws ≡ v) → (d : ℕ) × Least-with m r rs b v d
-      from v x =
-          let l : Lowest (held b v) (cost m rs) =
-          lowest (long m) (2 ^ m) (held b v) (cost m rs) (λ ws g. codeword-within ws (held-codeword b v ws g)) (x .0) (held-of b v (x .0) (x .1) (x .2)) in (
-            cost m rs (l .word),
-            record {
-              met = (l .word, held-codeword b v (l .word) (l .passes), held-bit b v (l .word) (l .passes), refl);
-              all = λ ws c e. l .least ws (held-of b v ws c e);
-            },
-          )
-
-      go : (v : ℕ) → v < 2 → (d : ℕ) × Least-with m r rs b v d
-      go zero h = from 0 (both-there m r b w few hb .0)
-      go (suc zero) h = from 1 (both-there m r b w few hb .1)
-      go (suc (suc v)) h = absurd (omega arith)
+    pub least-with-there : (d : ℕ) × Least-with m among rs b v d
+    least-with-there =
+        let y = x .both b v hb hv in
+        let l : Lowest held (cost m rs) =
+        lowest (x .count) (2 ^ m) held (cost m rs) (λ ws g. inside ws (held-word ws g)) (y .0) (held-of (y .0) (y .1) (y .2)) in (
+          cost m rs (l .word),
+          record {
+            met = (l .word, held-word (l .word) (l .passes), held-bit (l .word) (l .passes), refl);
+            all = λ ws c e. l .least ws (held-of ws c e);
+          },
+        )

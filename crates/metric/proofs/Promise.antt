@@ -7,55 +7,76 @@ use mathlib.Core.List.{List, [], _∷_, _++_}
 use Prim.Native.Nat.{ℕ, zero, suc, _+_, _*_, _-_, _/_, _≤_, _<_}
 use native.Mathlib.Nat.{eq-or-lt-of-le}
 use native.Mathlib.Omega.{arith}
-use lib.Dec.{eqb, lit≤, eqb·suc-zero}
+use lib.Dec.{eqb, lit<, eqb·suc-zero}
 use lib.ListN.{length, getD}
 use lib.Seq.{ext-getD}
 use lib.IntN.{ℤ, pos, negsuc, _+ℤ_, _-ℤ_}
-use Rattle.field.specs.Field.{width-good}
 use Rattle.field.proofs.Tests.{widths}
 use Rattle.code.specs.Code.{long, is-codeword}
 use Rattle.code.specs.Bits.{bits-of, all-bits, bit-at, row-long}
+use Rattle.code.specs.Promise.{Both-there}
+use Rattle.code.proofs.Words.{good, codeword-parts}
+use Rattle.code.proofs.Both.{both-there}
 use Rattle.metric.specs.Row.{row-good}
 use Rattle.metric.specs.Metric.{metric-of, metric, at-most, Greatest, Soft, Marked}
 use Rattle.metric.specs.Cost.{costZero, costOne, cost, top, Least}
 use Rattle.metric.specs.Right.{Soft-right, Marked-right}
-use Rattle.metric.specs.Promise.{Greatest-there, Greatest-with-there, Decoded-there, Marked-there, Greatest-one, Greatest-with-one, Soft-width, Best-of-two, Decoded-one, Marked-one, Soft-enough, Decoded-enough, Marked-enough}
+use Rattle.metric.specs.Promise.{Words-for, Codewords-for, Greatest-there, Greatest-with-there, Decoded-there, Marked-there, Greatest-one, Greatest-with-one, Soft-width, Best-of-two, Decoded-one, Marked-one, Soft-enough, Decoded-enough, Marked-enough}
 use Rattle.metric.proofs.Integers.{plus, minus, same, le-at-most, at-most-true, at-most-false, at-most-refl, at-most-antisym}
 use Rattle.metric.proofs.Bounds.{row-first, row-rest, costs-le}
-use Rattle.metric.proofs.Costs.{codeword-bits, greatest, greatest-with}
+use Rattle.metric.proofs.Costs.{length-all-bits, greatest, greatest-with}
 use Rattle.metric.proofs.Marks.{marked-none, marked-short, marked-best}
 use Rattle.metric.proofs.Finite.{least-there, least-with-there}
 
 clash {ℓ} : {X : Type ℓ} {b : Bool} → b ≡ true → b ≡ false → X
 clash p q = absurd (false≢true (sym q ∙ p))
 
+-- THE CODEWORDS: the zero word, and at each bit one of each value
+pub codewords-for : Codewords-for
+unfolding Codewords-for Both-there row-long long
+codewords-for m r rs w few l = record {
+  count = long m;
+  row = l;
+  words = λ ws c. let p = codeword-parts m r ws c in (p .count, good m ws (p .symbols));
+  some = let y = both-there m r 0 w few (widths (λ (m : ℕ). 0 < row-long m) (lit< tt) (lit< tt) m w) .0 in (y .0, y .1);
+  both = λ b v h. held b v (rw l at h);
+}
+  where
+    held : (b v : ℕ) → b < row-long m → v < 2 → (ws : List ℕ) × (is-codeword m r ws ≡ true) × (bit-at m b ws ≡ v)
+    held b zero h k = both-there m r b w few h .0
+    held b (suc zero) h k = both-there m r b w few h .1
+    held b (suc (suc v)) h k = absurd (omega arith)
+
 -- THERE IS A GREATEST, at the least cost
+filled : (m : ℕ) (among : List ℕ → Bool) (rs : List ℤ) → Words-for m among rs → (ws : List ℕ) → among ws ≡ true → length (all-bits m ws) ≡ length rs
+filled m among rs x ws c = length-all-bits m ws ∙ ap (λ (n : ℕ). n * m) (x .words ws c .0) ∙ sym (x .row)
+
 pub greatest-there : Greatest-there
 unfolding Greatest-there
-greatest-there m r rs w few l = let s = least-there m r w few rs in (top rs (s .0), greatest m r rs l (s .0) (s .1))
+greatest-there m among rs x = let s = least-there m among rs x in (top rs (s .0), greatest m among rs (filled m among rs x) (s .0) (s .1))
 
 pub greatest-with-there : Greatest-with-there
 unfolding Greatest-with-there
-greatest-with-there m r b v rs w few l hb hv =
-    let s = least-with-there m r w few rs b v hb hv in (top rs (s .0), greatest-with m r rs l b v (s .0) (s .1))
+greatest-with-there m among rs b v x hb hv =
+    let s = least-with-there m among rs x b v hb hv in (top rs (s .0), greatest-with m among rs (filled m among rs x) b v (s .0) (s .1))
 
 -- ONE GREATEST: each bounds the word that meets the other
 pub greatest-one : Greatest-one
 unfolding Greatest-one
-greatest-one m r rs g h p q =
+greatest-one m among rs g h p q =
     at-most-antisym g h (rw (p .met .2) at (q .all (p .met .0) (p .met .1))) (rw (q .met .2) at (p .all (q .met .0) (q .met .1)))
 
 pub greatest-with-one : Greatest-with-one
 unfolding Greatest-with-one
-greatest-with-one m r b v rs g h p q =
+greatest-with-one m among rs b v g h p q =
     at-most-antisym g h (rw (p .met .3) at (q .all (p .met .0) (p .met .1) (p .met .2))) (rw (q .met .3) at (p .all (q .met .0) (q .met .1) (q .met .2)))
 
--- THE WIDTH: a metric is at most 127 a bit, and there are at most 60 bits
+-- THE WIDTH: a metric is at most 127 an entry, and there are at most 60
 record Within (n : ℕ) (z : ℤ) : Type 0 where
   above : costOne z ≤ costZero z + n
   below : costZero z ≤ costOne z + n
 
-metric-within : (rs : List ℤ) (bs : List ℕ) → row-good rs ≡ true → Within (length bs * 127) (metric-of rs bs)
+metric-within : (rs : List ℤ) (bs : List ℕ) → row-good rs ≡ true → Within (length rs * 127) (metric-of rs bs)
 unfolding metric-of
 metric-within [] bs f = record { above = omega arith; below = omega arith }
 metric-within (r ∷ rs) [] f = record { above = omega arith; below = omega arith }
@@ -64,26 +85,21 @@ metric-within (r ∷ rs) (b ∷ bs) f = go b (costs-le r (row-first r rs f)) (me
     x : ℤ
     x = metric-of rs bs
 
-    go : (b : ℕ) → costZero r + costOne r ≤ 127 → Within (length bs * 127) x → Within (suc (length bs) * 127) (cond (eqb b 0) (x +ℤ r) (x -ℤ r))
+    go : (b : ℕ) → costZero r + costOne r ≤ 127 → Within (length rs * 127) x → Within (suc (length rs) * 127) (cond (eqb b 0) (x +ℤ r) (x -ℤ r))
     go zero s w = record { above = omega (arith, plus x r); below = omega (arith, plus x r) }
     go (suc b) s w = rw (eqb·suc-zero b) (record { above = omega (arith, minus x r); below = omega (arith, minus x r) })
 
-few-bits : (m : ℕ) → width-good m ≡ true → row-long m ≤ 60
-unfolding row-long long
-few-bits = widths (λ (m : ℕ). row-long m ≤ 60) (lit≤ tt) (lit≤ tt)
-
-codeword-within : (m r : ℕ) (rs : List ℤ) (ws : List ℕ) → width-good m ≡ true → row-good rs ≡ true → is-codeword m r ws ≡ true → Within 7620 (metric m rs ws)
+word-within : (m : ℕ) (rs : List ℤ) (ws : List ℕ) → length rs ≤ 60 → row-good rs ≡ true → Within 7620 (metric m rs ws)
 unfolding metric
-codeword-within m r rs ws w f c =
-    let n : length (all-bits m ws) ≤ 60 = omega (arith, few-bits m w, codeword-bits m r ws c) in
-    let x : Within (length (all-bits m ws) * 127) (metric-of rs (all-bits m ws)) = metric-within rs (all-bits m ws) f in
+word-within m rs ws n f =
+    let x : Within (length rs * 127) (metric-of rs (all-bits m ws)) = metric-within rs (all-bits m ws) f in
     record { above = omega arith; below = omega arith }
 
 pub soft-width : Soft-width
 unfolding Soft-width
-soft-width m r b rs g h w f p q =
-    let x : Within 7620 g = rw (p .met .3) at (codeword-within m r rs (p .met .0) w f (p .met .1)) in
-    let y : Within 7620 h = rw (q .met .3) at (codeword-within m r rs (q .met .0) w f (q .met .1)) in
+soft-width m among rs b g h n f p q =
+    let x : Within 7620 g = rw (p .met .3) at (word-within m rs (p .met .0) n f) in
+    let y : Within 7620 h = rw (q .met .3) at (word-within m rs (q .met .0) n f) in
     (le-at-most (g -ℤ h) (pos 15240) (omega (arith, minus g h)), le-at-most (negsuc 15239) (g -ℤ h) (omega (arith, minus g h)))
 
 -- THE BEST OF TWO: the best word has a 0 or a 1 at the bit
@@ -100,7 +116,7 @@ bit-small m b (c ∷ cs) = front m c (all-bits m cs) b (λ i. bit-small m i cs)
 
 pub best-of-two : Best-of-two
 unfolding Best-of-two
-best-of-two m r b rs e g h t p q = go (at-most h g) refl (bit-at m b ws) refl (bit-small m b ws)
+best-of-two m among rs b e g h t p q = go (at-most h g) refl (bit-at m b ws) refl (bit-small m b ws)
   where
     ws : List ℕ
     ws = t .met .0
@@ -121,62 +137,62 @@ best-of-two m r b rs e g h t p q = go (at-most h g) refl (bit-at m b ws) refl (b
 -- WHAT DOCUMENT 03 ASKS: a greatest metric that is given is the one that is named
 pub soft-enough : Soft-enough
 unfolding Soft-enough Soft-right Greatest-with-one
-soft-enough m r rs so n f = (
+soft-enough m among rs so n f = (
   n,
   λ b g h l p q. f b l .difference
-      ∙ ap₂ _-ℤ_ (greatest-with-one m r b 0 rs (f b l .of-zero) g (f b l .greatest-zero) p) (greatest-with-one m r b 1 rs (f b l .of-one) h (f b l .greatest-one) q),
+      ∙ ap₂ _-ℤ_ (greatest-with-one m among rs b 0 (f b l .of-zero) g (f b l .greatest-zero) p) (greatest-with-one m among rs b 1 (f b l .of-one) h (f b l .greatest-one) q),
 )
 
 pub decoded-enough : Decoded-enough
 unfolding Decoded-enough Soft-enough
-decoded-enough m r rs ws best so d = record {
+decoded-enough m among rs ws best so d = record {
   word = d .word;
   own = d .own;
   most = d .most;
-  softly = soft-enough m r rs so (d .count) (d .softly);
+  softly = soft-enough m among rs so (d .count) (d .softly);
 }
 
 pub marked-enough : Marked-enough
 unfolding Marked-enough Marked Greatest-one
-marked-enough m r rs ws zero d p = record {
+marked-enough m among rs ws zero d p = record {
   none = (λ e. p .0, λ e. (refl, p .1));
   best = (λ e. absurd (omega arith), λ c f. clash c (p .0));
   short = λ g c k f. clash c (p .0);
 }
-marked-enough m r rs ws (suc zero) d p =
+marked-enough m among rs ws (suc zero) d p =
     let g : ℤ = p .1 .0 in
-    let most : Greatest m r rs g = p .1 .1 in
+    let most : Greatest m among rs g = p .1 .1 in
     record {
       none = (λ e. absurd (omega arith), λ c. clash (p .0) c);
       best = (λ e. absurd (omega arith), λ c f. clash (rw (most .met .2) at (f (most .met .0) (most .met .1))) (p .1 .2));
-      short = λ h c k f. (refl, p .1 .3 ∙ ap (λ (x : ℤ). x -ℤ metric m rs ws) (greatest-one m r rs g h most k));
+      short = λ h c k f. (refl, p .1 .3 ∙ ap (λ (x : ℤ). x -ℤ metric m rs ws) (greatest-one m among rs g h most k));
     }
-marked-enough m r rs ws (suc (suc zero)) d p = record {
+marked-enough m among rs ws (suc (suc zero)) d p = record {
   none = (λ e. absurd (omega arith), λ c. clash (p .0) c);
   best = (λ e. (p .0, p .1 .all), λ c f. (refl, p .2));
-  short = λ h c k f. clash (rw (greatest-one m r rs h (metric m rs ws) k (p .1)) (at-most-refl (metric m rs ws))) f;
+  short = λ h c k f. clash (rw (greatest-one m among rs h (metric m rs ws) k (p .1)) (at-most-refl (metric m rs ws))) f;
 }
-marked-enough m r rs ws (suc (suc (suc v))) d p = absurd p
+marked-enough m among rs ws (suc (suc (suc v))) d p = absurd p
 
 -- A VERDICT: by membership, and by the cost against the least
 pub marked-there : Marked-there
 unfolding Marked-there
-marked-there m r rs ws w few l = go (is-codeword m r ws) refl
+marked-there m among rs ws x = go (among ws) refl
   where
-    by-cost : is-codeword m r ws ≡ true → (d : ℕ) → Least m r rs d → (d ≡ cost m rs ws) ⊎ (d < cost m rs ws) → (v : ℕ) × (e : ℤ) × Marked v e m r rs ws
-    by-cost c d s (inl e) = (2, pos 0, marked-best m r rs l ws d c s (sym e))
-    by-cost c d s (inr h) = (1, pos (2 * (cost m rs ws - d)), marked-short m r rs l ws d c s h)
+    by-cost : among ws ≡ true → (d : ℕ) → Least m among rs d → (d ≡ cost m rs ws) ⊎ (d < cost m rs ws) → (v : ℕ) × (e : ℤ) × Marked v e m among rs ws
+    by-cost c d s (inl e) = (2, pos 0, marked-best m among rs (filled m among rs x) ws d c s (sym e))
+    by-cost c d s (inr h) = (1, pos (2 * (cost m rs ws - d)), marked-short m among rs (filled m among rs x) ws d c s h)
 
-    go : (x : Bool) → is-codeword m r ws ≡ x → (v : ℕ) × (d : ℤ) × Marked v d m r rs ws
-    go true c = let s = least-there m r w few rs in by-cost c (s .0) (s .1) (eq-or-lt-of-le (s .1 .all ws c))
-    go false c = (0, pos 0, marked-none m r rs ws c)
+    go : (t : Bool) → among ws ≡ t → (v : ℕ) × (d : ℤ) × Marked v d m among rs ws
+    go true c = let s = least-there m among rs x in by-cost c (s .0) (s .1) (eq-or-lt-of-le (s .1 .all ws c))
+    go false c = (0, pos 0, marked-none m among rs ws c)
 
 -- ONE VERDICT: what document 03 asks of the first, at what the second says
 pub marked-one : Marked-one
 unfolding Marked-one Marked-enough Marked
-marked-one m r rs ws v w d e p = go w (marked-enough m r rs ws v d p)
+marked-one m among rs ws v w d e p = go w (marked-enough m among rs ws v d p)
   where
-    go : (w : ℕ) → Marked-right m r rs ws v d → Marked w e m r rs ws → (v ≡ w) × (d ≡ e)
+    go : (w : ℕ) → Marked-right m among rs ws v d → Marked w e m among rs ws → (v ≡ w) × (d ≡ e)
     go zero k q = let a : (v ≡ 0) × (d ≡ pos 0) = k .none .1 (q .0) in (a .0, a .1 ∙ sym (q .1))
     go (suc zero) k q =
         let a : (v ≡ 1) × (d ≡ q .1 .0 -ℤ metric m rs ws) = k .short (q .1 .0) (q .0) (q .1 .1) (q .1 .2) in
@@ -202,31 +218,31 @@ collected (suc n) P f =
 
 pub decoded-there : Decoded-there
 unfolding Decoded-there Greatest-there Greatest-with-there
-decoded-there m r rs w few l =
-    let g = greatest-there m r rs w few l in
-    let so = collected (row-long m) (Soft m r rs) soft-at in (
+decoded-there m among rs x =
+    let g = greatest-there m among rs x in
+    let so = collected (length rs) (Soft m among rs) soft-at in (
       g .1 .met .0,
       g .0,
       so .0,
       record { word = g .1 .met .1; own = sym (g .1 .met .2); most = g .1 .all; count = so .1; softly = so .2 },
     )
   where
-    soft-at : (b : ℕ) → b < row-long m → (s : ℤ) × Soft m r rs b s
+    soft-at : (b : ℕ) → b < length rs → (s : ℤ) × Soft m among rs b s
     soft-at b h =
-        let z = greatest-with-there m r b 0 rs w few l h (omega arith) in
-        let o = greatest-with-there m r b 1 rs w few l h (omega arith) in
+        let z = greatest-with-there m among rs b 0 x h (omega arith) in
+        let o = greatest-with-there m among rs b 1 x h (omega arith) in
         (z .0 -ℤ o .0, record { of-zero = z .0; of-one = o .0; greatest-zero = z .1; greatest-one = o .1; difference = refl })
 
 -- ONE DECODING, up to the word
 pub decoded-one : Decoded-one
 unfolding Decoded-one Soft-enough Soft-right
-decoded-one m r rs vs ws e g so to p q =
-    let s : Soft-right m r rs so = soft-enough m r rs so (p .count) (p .softly) in (
+decoded-one m among rs vs ws e g so to p q =
+    let s : Soft-right m among rs so = soft-enough m among rs so (p .count) (p .softly) in (
       at-most-antisym e g (rw (sym (p .own)) at (q .most vs (p .word))) (rw (sym (q .own)) at (p .most ws (q .word))),
       ext-getD (pos 0) so to (p .count ∙ sym (q .count)) (λ b h. each s b (rw (p .count) at h)),
     )
   where
-    each : Soft-right m r rs so → (b : ℕ) → b < row-long m → getD so b (pos 0) ≡ getD to b (pos 0)
+    each : Soft-right m among rs so → (b : ℕ) → b < length rs → getD so b (pos 0) ≡ getD to b (pos 0)
     each s b h =
-        let t : Soft m r rs b (getD to b (pos 0)) = q .softly b h in
+        let t : Soft m among rs b (getD to b (pos 0)) = q .softly b h in
         s .1 b (t .of-zero) (t .of-one) h (t .greatest-zero) (t .greatest-one) ∙ sym (t .difference)

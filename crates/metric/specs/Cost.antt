@@ -2,11 +2,10 @@
 -- A reader need not believe them: proofs/Costs.antt shows that the metric of Metric.antt is the row's weight less twice the cost.
 -- Assumes nothing: these are definitions.
 use mathlib.Core.Path.{_≡_}
-use mathlib.Core.Bool.{true}
+use mathlib.Core.Bool.{Bool, true}
 use mathlib.Core.List.{List, [], _∷_}
 use Prim.Native.Nat.{ℕ, zero, suc, _+_, _*_, _≤_}
 use lib.IntN.{ℤ, pos, negsuc, _-ℤ_}
-use Rattle.code.specs.Code.{is-codeword}
 use Rattle.code.specs.Bits.{all-bits, bit-at}
 
 -- what a 0 bit contradicts of a reliability, and what a 1 bit does
@@ -42,11 +41,11 @@ cost m rs ws = discrepancy rs (all-bits m ws)
 unfoldable pub top : (row : List ℤ) → (cost : ℕ) → ℤ
 top rs d = pos (weight-of rs) -ℤ pos (2 * d)
 
--- the least cost of a codeword, and of those with v at bit number b
-pub record Least (m r : ℕ) (rs : List ℤ) (d : ℕ) : Type 0 where
-  pub met : (ws : List ℕ) × (is-codeword m r ws ≡ true) × (cost m rs ws ≡ d)
-  pub all : (ws : List ℕ) → is-codeword m r ws ≡ true → d ≤ cost m rs ws
+-- the least cost of a word of a set, and of those with v at bit number b
+pub record Least (m : ℕ) (among : List ℕ → Bool) (rs : List ℤ) (d : ℕ) : Type 0 where
+  pub met : (ws : List ℕ) × (among ws ≡ true) × (cost m rs ws ≡ d)
+  pub all : (ws : List ℕ) → among ws ≡ true → d ≤ cost m rs ws
 
-pub record Least-with (m r : ℕ) (rs : List ℤ) (b v d : ℕ) : Type 0 where
-  pub met : (ws : List ℕ) × (is-codeword m r ws ≡ true) × (bit-at m b ws ≡ v) × (cost m rs ws ≡ d)
-  pub all : (ws : List ℕ) → is-codeword m r ws ≡ true → bit-at m b ws ≡ v → d ≤ cost m rs ws
+pub record Least-with (m : ℕ) (among : List ℕ → Bool) (rs : List ℤ) (b v d : ℕ) : Type 0 where
+  pub met : (ws : List ℕ) × (among ws ≡ true) × (bit-at m b ws ≡ v) × (cost m rs ws ≡ d)
+  pub all : (ws : List ℕ) → among ws ≡ true → bit-at m b ws ≡ v → d ≤ cost m rs ws

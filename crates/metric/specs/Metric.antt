@@ -1,5 +1,6 @@
--- Metrics, the greatest among codewords, soft outputs and marks, over (m, r) (document 01, 'Metric and soft output' and 'Marker').
--- They speak of all codewords and of no search. Assumes nothing: these are definitions.
+-- Metrics, the greatest among the words of a set, soft outputs and marks (document 01, 'Metric and soft output' and 'Marker'). The set is
+-- given by its test, `among`: of the codewords it is `is-codeword m r`. They speak of all its words and of no search.
+-- Assumes nothing: these are definitions.
 use mathlib.Core.Path.{_≡_}
 use mathlib.Core.Bool.{Bool, true, false, not, cond}
 use mathlib.Core.List.{List, [], _∷_}
@@ -7,8 +8,7 @@ use Prim.Native.Nat.{ℕ, zero, suc, _<_}
 use lib.Dec.{eqb}
 use lib.ListN.{length, getD}
 use lib.IntN.{ℤ, pos, negsuc, _+ℤ_, _-ℤ_}
-use Rattle.code.specs.Code.{is-codeword}
-use Rattle.code.specs.Bits.{all-bits, bit-at, row-long}
+use Rattle.code.specs.Bits.{all-bits, bit-at}
 
 -- the sum of the reliabilities at the 0 bits less the sum at the 1 bits
 unfoldable pub metric-of : (row : List ℤ) → (bits : List ℕ) → ℤ
@@ -27,39 +27,39 @@ is-neg (negsuc n) = true
 unfoldable pub at-most : ℤ → ℤ → Bool
 at-most a b = not (is-neg (b -ℤ a))
 
--- the best metric: the greatest that any codeword has, whether or not a search came upon it
-pub record Greatest (m r : ℕ) (rs : List ℤ) (g : ℤ) : Type 0 where
-  pub met : (ws : List ℕ) × (is-codeword m r ws ≡ true) × (metric m rs ws ≡ g)
-  pub all : (ws : List ℕ) → is-codeword m r ws ≡ true → at-most (metric m rs ws) g ≡ true
+-- the best metric: the greatest that any word of a set has, whether or not a search came upon it
+pub record Greatest (m : ℕ) (among : List ℕ → Bool) (rs : List ℤ) (g : ℤ) : Type 0 where
+  pub met : (ws : List ℕ) × (among ws ≡ true) × (metric m rs ws ≡ g)
+  pub all : (ws : List ℕ) → among ws ≡ true → at-most (metric m rs ws) g ≡ true
 
--- the greatest among the codewords with v at bit number b
-pub record Greatest-with (m r : ℕ) (rs : List ℤ) (b v : ℕ) (g : ℤ) : Type 0 where
-  pub met : (ws : List ℕ) × (is-codeword m r ws ≡ true) × (bit-at m b ws ≡ v) × (metric m rs ws ≡ g)
-  pub all : (ws : List ℕ) → is-codeword m r ws ≡ true → bit-at m b ws ≡ v → at-most (metric m rs ws) g ≡ true
+-- the greatest among the words with v at bit number b
+pub record Greatest-with (m : ℕ) (among : List ℕ → Bool) (rs : List ℤ) (b v : ℕ) (g : ℤ) : Type 0 where
+  pub met : (ws : List ℕ) × (among ws ≡ true) × (bit-at m b ws ≡ v) × (metric m rs ws ≡ g)
+  pub all : (ws : List ℕ) → among ws ≡ true → bit-at m b ws ≡ v → at-most (metric m rs ws) g ≡ true
 
 -- soft output b: the greatest metric with 0 at that bit less the greatest with 1
-pub record Soft (m r : ℕ) (rs : List ℤ) (b : ℕ) (soft : ℤ) : Type 0 where
+pub record Soft (m : ℕ) (among : List ℕ → Bool) (rs : List ℤ) (b : ℕ) (soft : ℤ) : Type 0 where
   pub of-zero : ℤ
   pub of-one : ℤ
-  pub greatest-zero : Greatest-with m r rs b 0 of-zero
-  pub greatest-one : Greatest-with m r rs b 1 of-one
+  pub greatest-zero : Greatest-with m among rs b 0 of-zero
+  pub greatest-one : Greatest-with m among rs b 1 of-one
   pub difference : soft ≡ of-zero -ℤ of-one
 
--- THE THIRD DEMAND, of a decoding: a best word, its metric, and every soft output
-pub record Decoded (m r : ℕ) (rs : List ℤ) (ws : List ℕ) (best : ℤ) (soft : List ℤ) : Type 0 where
-  pub word : is-codeword m r ws ≡ true
+-- THE THIRD DEMAND, of a decoding: a best word, its metric, and a soft output for each entry of the row
+pub record Decoded (m : ℕ) (among : List ℕ → Bool) (rs : List ℤ) (ws : List ℕ) (best : ℤ) (soft : List ℤ) : Type 0 where
+  pub word : among ws ≡ true
   pub own : best ≡ metric m rs ws
-  pub most : (vs : List ℕ) → is-codeword m r vs ≡ true → at-most (metric m rs vs) best ≡ true
-  pub count : length soft ≡ row-long m
-  pub softly : (b : ℕ) → b < row-long m → Soft m r rs b (getD soft b (pos 0))
+  pub most : (vs : List ℕ) → among vs ≡ true → at-most (metric m rs vs) best ≡ true
+  pub count : length soft ≡ length rs
+  pub softly : (b : ℕ) → b < length rs → Soft m among rs b (getD soft b (pos 0))
 
 -- and of a mark: 0 `none`, 1 `short` with the shortfall, 2 `best`
-unfoldable pub Marked : (verdict : ℕ) → (shortfall : ℤ) → (m r : ℕ) → (row : List ℤ) → (word : List ℕ) → Type 0
-Marked zero d m r rs ws = (is-codeword m r ws ≡ false) × (d ≡ pos 0)
-Marked (suc zero) d m r rs ws =
-    (is-codeword m r ws ≡ true) × ((g : ℤ) × Greatest m r rs g × (at-most g (metric m rs ws) ≡ false) × (d ≡ g -ℤ metric m rs ws))
-Marked (suc (suc zero)) d m r rs ws = (is-codeword m r ws ≡ true) × Greatest m r rs (metric m rs ws) × (d ≡ pos 0)
-Marked (suc (suc (suc v))) d m r rs ws = ⊥
+unfoldable pub Marked : (verdict : ℕ) → (shortfall : ℤ) → (m : ℕ) → (among : List ℕ → Bool) → (row : List ℤ) → (word : List ℕ) → Type 0
+Marked zero d m among rs ws = (among ws ≡ false) × (d ≡ pos 0)
+Marked (suc zero) d m among rs ws =
+    (among ws ≡ true) × ((g : ℤ) × Greatest m among rs g × (at-most g (metric m rs ws) ≡ false) × (d ≡ g -ℤ metric m rs ws))
+Marked (suc (suc zero)) d m among rs ws = (among ws ≡ true) × Greatest m among rs (metric m rs ws) × (d ≡ pos 0)
+Marked (suc (suc (suc v))) d m among rs ws = ⊥
 
 -- the decided bits: 1 where the soft output is negative, else 0
 unfoldable pub decided : (soft : List ℤ) → List ℕ

@@ -1,74 +1,88 @@
--- What is promised of metrics, over (m, r). A statement is a type; proofs/Promise.antt names the proof of each. Assumes nothing.
+-- What is promised of metrics, over a set of words. A statement is a type; proofs/Promise.antt names the proof of each. Assumes nothing.
 use mathlib.Core.Path.{_≡_}
-use mathlib.Core.Bool.{true, cond}
+use mathlib.Core.Bool.{Bool, true, cond}
 use mathlib.Core.List.{List}
-use Prim.Native.Nat.{ℕ, _<_}
+use Prim.Native.Nat.{ℕ, _*_, _≤_, _<_}
 use lib.ListN.{length, getD}
 use lib.IntN.{ℤ, pos, negsuc, _-ℤ_}
 use Rattle.field.specs.Field.{width-good}
-use Rattle.code.specs.Code.{long}
-use Rattle.code.specs.Bits.{row-long}
+use Rattle.code.specs.Code.{long, symbols-good, is-codeword}
+use Rattle.code.specs.Bits.{bit-at, row-long}
 use Rattle.metric.specs.Row.{row-good}
 use Rattle.metric.specs.Metric.{at-most, Greatest, Greatest-with, Soft, Decoded, Marked}
 use Rattle.metric.specs.Right.{Soft-right, Decoded-right, Marked-right}
 
+-- what greatest metrics need to be there: the words have a bit for each entry of the row, and at each some have 0 and some have 1
+pub record Words-for (m : ℕ) (among : List ℕ → Bool) (rs : List ℤ) : Type 0 where
+  pub count : ℕ
+  pub row : length rs ≡ count * m
+  pub words : (ws : List ℕ) → among ws ≡ true → (length ws ≡ count) × (symbols-good m ws ≡ true)
+  pub some : (ws : List ℕ) × (among ws ≡ true)
+  pub both : (b v : ℕ) → b < length rs → v < 2 → (ws : List ℕ) × (among ws ≡ true) × (bit-at m b ws ≡ v)
+
+-- the codewords do
+unfoldable pub Codewords-for : Type 0
+Codewords-for = (m r : ℕ) (rs : List ℤ) → width-good m ≡ true → r < long m → length rs ≡ row-long m → Words-for m (is-codeword m r) rs
+
 -- a row has a greatest metric, and one of each value at a bit
 unfoldable pub Greatest-there : Type 0
-Greatest-there =
-    (m r : ℕ) (rs : List ℤ) → width-good m ≡ true → r < long m → length rs ≡ row-long m → (g : ℤ) × Greatest m r rs g
+Greatest-there = (m : ℕ) (among : List ℕ → Bool) (rs : List ℤ) → Words-for m among rs → (g : ℤ) × Greatest m among rs g
 
 unfoldable pub Greatest-with-there : Type 0
 Greatest-with-there =
-    (m r b v : ℕ) (rs : List ℤ) → width-good m ≡ true → r < long m → length rs ≡ row-long m → b < row-long m → v < 2 →
-    (g : ℤ) × Greatest-with m r rs b v g
+    (m : ℕ) (among : List ℕ → Bool) (rs : List ℤ) (b v : ℕ) → Words-for m among rs → b < length rs → v < 2 → (g : ℤ) × Greatest-with m among rs b v g
 
 -- and only one
 unfoldable pub Greatest-one : Type 0
-Greatest-one = (m r : ℕ) (rs : List ℤ) (g h : ℤ) → Greatest m r rs g → Greatest m r rs h → g ≡ h
+Greatest-one = (m : ℕ) (among : List ℕ → Bool) (rs : List ℤ) (g h : ℤ) → Greatest m among rs g → Greatest m among rs h → g ≡ h
 
 unfoldable pub Greatest-with-one : Type 0
-Greatest-with-one = (m r b v : ℕ) (rs : List ℤ) (g h : ℤ) → Greatest-with m r rs b v g → Greatest-with m r rs b v h → g ≡ h
+Greatest-with-one =
+    (m : ℕ) (among : List ℕ → Bool) (rs : List ℤ) (b v : ℕ) (g h : ℤ) → Greatest-with m among rs b v g → Greatest-with m among rs b v h → g ≡ h
 
--- soft outputs stay within -15,240 .. 15,240
+-- soft outputs stay within -15,240 .. 15,240: no row is longer than 60
 unfoldable pub Soft-width : Type 0
 Soft-width =
-    (m r b : ℕ) (rs : List ℤ) (g h : ℤ) → width-good m ≡ true → row-good rs ≡ true → Greatest-with m r rs b 0 g → Greatest-with m r rs b 1 h →
+    (m : ℕ) (among : List ℕ → Bool) (rs : List ℤ) (b : ℕ) (g h : ℤ) → length rs ≤ 60 → row-good rs ≡ true →
+    Greatest-with m among rs b 0 g → Greatest-with m among rs b 1 h →
     (at-most (g -ℤ h) (pos 15240) ≡ true) × (at-most (negsuc 15239) (g -ℤ h) ≡ true)
 
 -- the best metric is the greater of the two at any bit
 unfoldable pub Best-of-two : Type 0
 Best-of-two =
-    (m r b : ℕ) (rs : List ℤ) (e g h : ℤ) → Greatest m r rs e → Greatest-with m r rs b 0 g → Greatest-with m r rs b 1 h →
+    (m : ℕ) (among : List ℕ → Bool) (rs : List ℤ) (b : ℕ) (e g h : ℤ) → Greatest m among rs e → Greatest-with m among rs b 0 g → Greatest-with m among rs b 1 h →
     e ≡ cond (at-most h g) g h
 
 -- a row has a decoding, and two differ at most in the word
 unfoldable pub Decoded-there : Type 0
 Decoded-there =
-    (m r : ℕ) (rs : List ℤ) → width-good m ≡ true → r < long m → length rs ≡ row-long m →
-    (ws : List ℕ) × (best : ℤ) × (soft : List ℤ) × Decoded m r rs ws best soft
+    (m : ℕ) (among : List ℕ → Bool) (rs : List ℤ) → Words-for m among rs →
+    (ws : List ℕ) × (best : ℤ) × (soft : List ℤ) × Decoded m among rs ws best soft
 
 unfoldable pub Decoded-one : Type 0
 Decoded-one =
-    (m r : ℕ) (rs : List ℤ) (vs ws : List ℕ) (e g : ℤ) (so to : List ℤ) → Decoded m r rs vs e so → Decoded m r rs ws g to → (e ≡ g) × (so ≡ to)
+    (m : ℕ) (among : List ℕ → Bool) (rs : List ℤ) (vs ws : List ℕ) (e g : ℤ) (so to : List ℤ) → Decoded m among rs vs e so → Decoded m among rs ws g to →
+    (e ≡ g) × (so ≡ to)
 
 -- a row and a word have a verdict, and only one, with one shortfall
 unfoldable pub Marked-there : Type 0
 Marked-there =
-    (m r : ℕ) (rs : List ℤ) (ws : List ℕ) → width-good m ≡ true → r < long m → length rs ≡ row-long m →
-    (v : ℕ) × (d : ℤ) × Marked v d m r rs ws
+    (m : ℕ) (among : List ℕ → Bool) (rs : List ℤ) (ws : List ℕ) → Words-for m among rs → (v : ℕ) × (d : ℤ) × Marked v d m among rs ws
 
 unfoldable pub Marked-one : Type 0
 Marked-one =
-    (m r : ℕ) (rs : List ℤ) (ws : List ℕ) (v w : ℕ) (d e : ℤ) → Marked v d m r rs ws → Marked w e m r rs ws → (v ≡ w) × (d ≡ e)
+    (m : ℕ) (among : List ℕ → Bool) (rs : List ℤ) (ws : List ℕ) (v w : ℕ) (d e : ℤ) → Marked v d m among rs ws → Marked w e m among rs ws → (v ≡ w) × (d ≡ e)
 
 -- what document 03 asks follows
 unfoldable pub Soft-enough : Type 0
 Soft-enough =
-    (m r : ℕ) (rs so : List ℤ) → length so ≡ row-long m → ((b : ℕ) → b < row-long m → Soft m r rs b (getD so b (pos 0))) → Soft-right m r rs so
+    (m : ℕ) (among : List ℕ → Bool) (rs so : List ℤ) → length so ≡ length rs →
+    ((b : ℕ) → b < length rs → Soft m among rs b (getD so b (pos 0))) → Soft-right m among rs so
 
 unfoldable pub Decoded-enough : Type 0
 Decoded-enough =
-    (m r : ℕ) (rs : List ℤ) (ws : List ℕ) (best : ℤ) (so : List ℤ) → Decoded m r rs ws best so → Decoded-right m r rs ws best so
+    (m : ℕ) (among : List ℕ → Bool) (rs : List ℤ) (ws : List ℕ) (best : ℤ) (so : List ℤ) → Decoded m among rs ws best so → Decoded-right m among rs ws best so
 
 unfoldable pub Marked-enough : Type 0
-Marked-enough = (m r : ℕ) (rs : List ℤ) (ws : List ℕ) (v : ℕ) (d : ℤ) → Marked v d m r rs ws → Marked-right m r rs ws v d
+Marked-enough =
+    (m : ℕ) (among : List ℕ → Bool) (rs : List ℤ) (ws : List ℕ) (v : ℕ) (d : ℤ) → Marked v d m among rs ws → Marked-right m among rs ws v d

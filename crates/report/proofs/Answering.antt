@@ -8,7 +8,7 @@ use native.Mathlib.Omega.{arith}
 use borrow.Author.Tests.{eq-eqb}
 use lib.ListN.{length}
 use lib.IntN.{ℤ}
-use Rattle.code.specs.Code.{width, roots, long}
+use Rattle.code.specs.Code.{width, roots, long, is-codeword}
 use Rattle.code.specs.Bits.{row-long}
 use Rattle.refusal.specs.Refusal.{Outcome}
 use Rattle.metric.specs.Metric.{Marked}
@@ -47,7 +47,7 @@ pub record Said (c n : ℕ) (rs : List ℤ) (ws : List ℕ) (best : ℤ) (so : L
   pub few : n < 2 ^ 24
   pub fine : Fine c rs
   pub answer : Answered c rs best so
-  pub marked : Marked verdict shortfall (width c) (roots c) rs ws
+  pub marked : Marked verdict shortfall (width c) (is-codeword (width c) (roots c)) rs ws
 
 -- the marker takes its word
 pub said :

@@ -9,7 +9,7 @@ use native.Mathlib.Omega.{arith}
 use lib.Dec.{lit<, lit≤}
 use lib.ListN.{length, getD, replicate}
 use lib.IntN.{ℤ, pos, negsuc, natAbs, _-ℤ_}
-use Rattle.field.specs.Field.{width-good, xor, doubled, times-from, times, alpha}
+use Rattle.field.specs.Field.{xor, doubled, times-from, times, alpha}
 use Rattle.code.specs.Code.{code-good, width, roots, long, value-from, value-at, vanishes, symbols-good, is-codeword}
 use Rattle.code.specs.Bits.{bits-of, all-bits, row-long}
 use Rattle.code.proofs.Promise.{codes}
@@ -20,7 +20,7 @@ use Rattle.metric.proofs.Promise.{soft-width}
 use Rattle.metric.specs.Cost.{costZero, costOne, discrepancy, weight-of, cost}
 use Rattle.metric.proofs.Integers.{at-most-true, at-most-false, minus}
 use Rattle.metric.proofs.Bounds.{weight-le, cost-le}
-use Rattle.metric.proofs.Costs.{top-own, top-parts}
+use Rattle.metric.proofs.Costs.{codeword-bits, top-own, top-parts}
 use Rattle.text.specs.Text.{signed, shortfall-field, least-magnitude, question-line}
 use Rattle.text.proofs.Decimal.{digits-at-most}
 use Rattle.text.proofs.Fields.{bits-length}
@@ -70,14 +70,11 @@ bits-some : (c : ℕ) → code-good c ≡ true → 0 < row-long (width c)
 unfolding row-long width long
 bits-some = codes (λ c. 0 < row-long (width c)) (lit< tt) (lit< tt) (lit< tt)
 
-weight-most : (c : ℕ) (rs : List ℤ) → Fine c rs → weight-of rs ≤ 7620
-weight-most c rs f =
-    let l : length rs ≤ 60 = omega (arith, bits-few c (f .known), f .whole) in
-    omega (arith, weight-le rs (f .good), mul-le-mul-right 127 l)
+row-few : (c : ℕ) (rs : List ℤ) → Fine c rs → length rs ≤ 60
+row-few c rs f = omega (arith, bits-few c (f .known), f .whole)
 
-codes-wide : (c : ℕ) → code-good c ≡ true → width-good (width c) ≡ true
-unfolding width width-good
-codes-wide = codes (λ c. width-good (width c) ≡ true) refl refl refl
+weight-most : (c : ℕ) (rs : List ℤ) → Fine c rs → weight-of rs ≤ 7620
+weight-most c rs f = omega (arith, weight-le rs (f .good), mul-le-mul-right 127 (row-few c rs f))
 
 code-digit : (c : ℕ) → code-good c ≡ true → c < 10
 code-digit = codes (λ c. c < 10) (lit< tt) (lit< tt) (lit< tt)
@@ -90,7 +87,7 @@ record At (rs : List ℤ) (z : ℤ) (d : ℕ) : Type 0 where
 at-cost : (c : ℕ) (rs : List ℤ) (ws : List ℕ) → Fine c rs → is-codeword (width c) (roots c) ws ≡ true →
     At rs (metric (width c) rs ws) (cost (width c) rs ws)
 at-cost c rs ws f h =
-    record { below = cost-le (width c) rs ws; parts = rw (top-own (width c) (roots c) rs ws (f .whole) h) (top-parts rs (cost (width c) rs ws)) }
+    record { below = cost-le (width c) rs ws; parts = rw (top-own (width c) rs ws (codeword-bits (width c) (roots c) rs (f .whole) ws h)) (top-parts rs (cost (width c) rs ws)) }
 
 not-negative : (g : ℤ) → costZero g ≤ costOne g → costZero g ≡ 0
 not-negative (pos n) h = refl
@@ -111,14 +108,14 @@ best-not-negative c rs g f all =
     not-negative g (omega (arith, a .parts, b .parts))
 
 -- ---- lengths of the fields
-best-length : (c : ℕ) (rs : List ℤ) (ws : List ℕ) (g : ℤ) (so : List ℤ) → Fine c rs → Decoded (width c) (roots c) rs ws g so → length (signed g) ≤ 4
+best-length : (c : ℕ) (rs : List ℤ) (ws : List ℕ) (g : ℤ) (so : List ℤ) → Fine c rs → Decoded (width c) (is-codeword (width c) (roots c)) rs ws g so → length (signed g) ≤ 4
 best-length c rs ws g so f d =
     let z = best-not-negative c rs g f (d .most) in
     let a : At rs g (cost (width c) rs ws) = rw (d .own) (at-cost c rs ws f (d .word)) in
     signed-at-most 3 g z (omega (arith, a .parts, weight-most c rs f))
 
 short-length :
-    (c : ℕ) (rs : List ℤ) (ws : List ℕ) (g d : ℤ) → Fine c rs → is-codeword (width c) (roots c) ws ≡ true → Greatest (width c) (roots c) rs g →
+    (c : ℕ) (rs : List ℤ) (ws : List ℕ) (g d : ℤ) → Fine c rs → is-codeword (width c) (roots c) ws ≡ true → Greatest (width c) (is-codeword (width c) (roots c)) rs g →
     at-most g (metric (width c) rs ws) ≡ false → d ≡ g -ℤ metric (width c) rs ws → length (signed d) ≤ 5
 short-length c rs ws g d f h q lacks e =
     let m = width c in let x = metric m rs ws in
@@ -130,7 +127,7 @@ short-length c rs ws g d f h q lacks e =
     let z : costZero (g -ℤ x) ≡ 0 = not-negative (g -ℤ x) (omega arith) in
     signed-at-most 4 d (rw e z) (rw e (omega (arith, a .parts, b .parts, a .below, b .below, weight-most c rs f)))
 
-mark-length : (v : ℕ) (d : ℤ) (c : ℕ) (rs : List ℤ) (ws : List ℕ) → Fine c rs → Marked v d (width c) (roots c) rs ws → length (shortfall-field v d) ≤ 5
+mark-length : (v : ℕ) (d : ℤ) (c : ℕ) (rs : List ℤ) (ws : List ℕ) → Fine c rs → Marked v d (width c) (is-codeword (width c) (roots c)) rs ws → length (shortfall-field v d) ≤ 5
 unfolding shortfall-field Marked
 mark-length zero d c rs ws f k = lit≤ tt
 mark-length (suc zero) d c rs ws f k = let j = k .1 in short-length c rs ws (j .0) d f (k .0) (j .1) (j .2) (j .3)
@@ -141,20 +138,20 @@ size-le : (z : ℤ) (k : ℕ) → costOne z ≤ k + costZero z → costZero z �
 size-le (pos n) k p q = omega arith
 size-le (negsuc n) k p q = omega arith
 
-soft-size : (c : ℕ) (rs : List ℤ) (s : ℤ) (b : ℕ) → Fine c rs → Soft (width c) (roots c) rs b s → natAbs s ≤ 15240
+soft-size : (c : ℕ) (rs : List ℤ) (s : ℤ) (b : ℕ) → Fine c rs → Soft (width c) (is-codeword (width c) (roots c)) rs b s → natAbs s ≤ 15240
 unfolding Soft-width
 soft-size c rs s b f o =
-    let w = soft-width (width c) (roots c) b rs (o .of-zero) (o .of-one) (codes-wide c (f .known)) (f .good) (o .greatest-zero) (o .greatest-one) in
+    let w = soft-width (width c) (is-codeword (width c) (roots c)) rs b (o .of-zero) (o .of-one) (row-few c rs f) (f .good) (o .greatest-zero) (o .greatest-one) in
     let z = o .of-zero -ℤ o .of-one in
     rw (o .difference) (size-le z 15240 (omega (arith, at-most-true z (pos 15240) (w .0))) (omega (arith, at-most-true (negsuc 15239) z (w .1))))
 
 -- ---- the length of a line
 pub line-fits :
-    (n c : ℕ) (rs : List ℤ) (us ws : List ℕ) (g : ℤ) (so : List ℤ) (v : ℕ) (d : ℤ) → n < 2 ^ 24 → Fine c rs → Decoded (width c) (roots c) rs us g so →
-    Marked v d (width c) (roots c) rs ws → length (question-line n c g v d so) ≤ line-most
+    (n c : ℕ) (rs : List ℤ) (us ws : List ℕ) (g : ℤ) (so : List ℤ) (v : ℕ) (d : ℤ) → n < 2 ^ 24 → Fine c rs → Decoded (width c) (is-codeword (width c) (roots c)) rs us g so →
+    Marked v d (width c) (is-codeword (width c) (roots c)) rs ws → length (question-line n c g v d so) ≤ line-most
 unfolding line-most
 line-fits n c rs us ws g so v d h f p k =
-    let o = p .softly 0 (bits-some c (f .known)) in
+    let o = p .softly 0 (omega (arith, bits-some c (f .known), f .whole)) in
     let l : least-magnitude so < 10 ^ 5 = omega (arith, least-at-most so 15240 (soft-size c rs (getD so 0 (pos 0)) 0 f o)) in
     omega (
       arith,
@@ -166,6 +163,6 @@ line-fits n c rs us ws g so v d h f p k =
       mark-length v d c rs ws f k,
       bits-length so,
       p .count,
-      bits-few c (f .known),
+      row-few c rs f,
       digits-at-most 4 (least-magnitude so) l,
     )

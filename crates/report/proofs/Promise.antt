@@ -9,10 +9,10 @@ use native.Mathlib.Omega.{arith}
 use borrow.Author.Tests.{ltb-true, ltb-false}
 use lib.Dec.{ltb, lit<}
 use lib.ListN.{length, length-append}
-use Rattle.code.specs.Code.{width, roots}
+use Rattle.code.specs.Code.{width, roots, is-codeword}
 use Rattle.code.proofs.Accepted.{width-fine, roots-few}
-use Rattle.metric.specs.Promise.{Decoded-there, Decoded-one, Marked-there, Marked-one}
-use Rattle.metric.proofs.Promise.{decoded-there, decoded-one, marked-there, marked-one}
+use Rattle.metric.specs.Promise.{Codewords-for, Decoded-there, Decoded-one, Marked-there, Marked-one}
+use Rattle.metric.proofs.Promise.{codewords-for, decoded-there, decoded-one, marked-there, marked-one}
 use Rattle.sheet.specs.Sheet.{Question, most, question-good, all-good, sheet-refusal, questions}
 use Rattle.sheet.specs.Calls.{judgement, judged}
 use Rattle.sheet.specs.Promise.{Read-written}
@@ -29,13 +29,12 @@ use Rattle.report.proofs.Bounds.{Fine, line-fits}
 
 -- THERE IS A LISTING: a line for each question of an accepted sheet, which is one that a sheet can hold
 line-there : (q : Question) → question-good q ≡ true → (t : List ℕ) × Line q t
-unfolding Decoded-there Marked-there
+unfolding Codewords-for Decoded-there Marked-there
 line-there q h =
-    let l = good-parts q h .row-length in
-    let w = width-fine (q .code) in
-    let f = roots-few (q .code) in
-    let d = decoded-there (width (q .code)) (roots (q .code)) (q .row) w f l in
-    let k = marked-there (width (q .code)) (roots (q .code)) (q .row) (q .word) w f l in (
+    let m = width (q .code) in let r = roots (q .code) in
+    let x = codewords-for m r (q .row) (width-fine (q .code)) (roots-few (q .code)) (good-parts q h .row-length) in
+    let d = decoded-there m (is-codeword m r) (q .row) x in
+    let k = marked-there m (is-codeword m r) (q .row) (q .word) x in (
       question-line (q .number) (q .code) (d .1) (k .0) (k .1) (d .2),
       record { word = d .0; best = d .1; soft = d .2; decoded = d .3; verdict = k .0; shortfall = k .1; marked = k .2; text-is = refl },
     )
@@ -64,8 +63,8 @@ line-one : (q : Question) (s t : List ℕ) → Line q s → Line q t → s ≡ t
 unfolding Decoded-one Marked-one
 line-one q s t v w =
     let m = width (q .code) in let r = roots (q .code) in
-    let d = decoded-one m r (q .row) (v .word) (w .word) (v .best) (w .best) (v .soft) (w .soft) (v .decoded) (w .decoded) in
-    let k = marked-one m r (q .row) (q .word) (v .verdict) (w .verdict) (v .shortfall) (w .shortfall) (v .marked) (w .marked) in
+    let d = decoded-one m (is-codeword m r) (q .row) (v .word) (w .word) (v .best) (w .best) (v .soft) (w .soft) (v .decoded) (w .decoded) in
+    let k = marked-one m (is-codeword m r) (q .row) (q .word) (v .verdict) (w .verdict) (v .shortfall) (w .shortfall) (v .marked) (w .marked) in
     v .text-is ∙ rw (d .0, d .1, k .0, k .1) (sym (w .text-is))
 
 lines-one : (qs : List Question) (s t : List ℕ) → Lines qs s → Lines qs t → s ≡ t

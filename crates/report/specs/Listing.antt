@@ -5,7 +5,7 @@ use mathlib.Core.List.{List, [], _∷_, _++_}
 use Prim.Native.Nat.{ℕ, zero, suc}
 use lib.ListN.{length}
 use lib.IntN.{ℤ}
-use Rattle.code.specs.Code.{width, roots}
+use Rattle.code.specs.Code.{width, roots, is-codeword}
 use Rattle.metric.specs.Metric.{Decoded, Marked}
 use Rattle.sheet.specs.Sheet.{Question, sheet-refusal, questions}
 use Rattle.text.specs.Text.{header, question-line, count-line, refused-line}
@@ -15,10 +15,10 @@ pub record Line (q : Question) (text : List ℕ) : Type 0 where
   pub word : List ℕ
   pub best : ℤ
   pub soft : List ℤ
-  pub decoded : Decoded (width (q .code)) (roots (q .code)) (q .row) word best soft
+  pub decoded : Decoded (width (q .code)) (is-codeword (width (q .code)) (roots (q .code))) (q .row) word best soft
   pub verdict : ℕ
   pub shortfall : ℤ
-  pub marked : Marked verdict shortfall (width (q .code)) (roots (q .code)) (q .row) (q .word)
+  pub marked : Marked verdict shortfall (width (q .code)) (is-codeword (width (q .code)) (roots (q .code))) (q .row) (q .word)
   pub text-is : text ≡ question-line (q .number) (q .code) best verdict shortfall soft
 
 -- one line a question

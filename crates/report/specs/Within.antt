@@ -5,7 +5,7 @@ use mathlib.Core.List.{List}
 use Prim.Native.Nat.{ℕ, _≤_}
 use lib.ListN.{length, getD}
 use lib.IntN.{ℤ}
-use Rattle.code.specs.Code.{width, roots, long}
+use Rattle.code.specs.Code.{width, roots, long, is-codeword}
 use Rattle.code.specs.Bits.{row-long}
 use Rattle.metric.specs.Metric.{Decoded}
 use Rattle.sheet.specs.Sheet.{Question, head-kind, kind, head-code, as-words, question-good, sheet-refusal, questions}
@@ -21,7 +21,7 @@ question c n rs ws = record { code = c; number = n; row = rs; word = ws }
 -- a row was decoded, whichever best word was found
 pub record Answered (code : ℕ) (row : List ℤ) (best : ℤ) (soft : List ℤ) : Type 0 where
   pub word : List ℕ
-  pub decoded : Decoded (width code) (roots code) row word best soft
+  pub decoded : Decoded (width code) (is-codeword (width code) (roots code)) row word best soft
 
 -- a question's line was written from a place on
 pub record Put-line (q : Question) (at : ℕ) (o p : List ℕ) (next : ℕ) : Type 0 where

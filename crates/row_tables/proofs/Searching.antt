@@ -10,7 +10,7 @@ use native.Mathlib.Decide.{decLe}
 use lib.ListN.{length, getD}
 use lib.IntN.{ℤ}
 use Rattle.field.proofs.Tests.{to-T}
-use Rattle.code.specs.Code.{code-good, width, roots, long}
+use Rattle.code.specs.Code.{code-good, width, roots, long, is-codeword}
 use Rattle.code.specs.Bits.{row-long}
 use Rattle.code.proofs.Promise.{codes}
 use Rattle.code.proofs.Words.{Below}
@@ -136,7 +136,7 @@ module _ (c m r q n size count : ℕ) (row : List ℤ) (cs hs zs os t : List ℕ
   }
 
   -- the least total is the least cost
-  pub least-is : Least (width c) (roots c) row (least-total cap t cs count)
+  pub least-is : Least (width c) (is-codeword (width c) (roots c)) row (least-total cap t cs count)
   least-is =
       rw (ap (least-total cap t cs) (z .count-is)
       ∙ least-same (λ k. total t (tuple cs k)) (λ k. over F (conf c k)) cap (configurations c) (λ k h. total-is k (omega (arith, z .count-is))))

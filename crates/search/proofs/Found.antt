@@ -93,7 +93,7 @@ module _ (c : ℕ) (g : code-good c ≡ true) (rs : List ℤ) (l : length rs ≡
       some : 0 < row-long (width c)
       some = widths (λ (m : ℕ). 0 < row-long m) (unfold row-long long in omega arith) (unfold row-long long in omega arith) (width c) w
 
-  pub least : big ≤ cap → Least (width c) (roots c) rs best
+  pub least : big ≤ cap → Least (width c) (is-codeword (width c) (roots c)) rs best
   least h =
       let r = least-found (λ k. over F (t k)) cap (configurations c) (omega (arith, best-small)) in
       let a = attains c g rs l hs zs os y big (λ j. free) (λ j. free-two) (λ j h. refl) (r .0) (r .1) (omega (arith, r .2, best-small)) in
@@ -165,7 +165,7 @@ module _ (c : ℕ) (g : code-good c ≡ true) (rs : List ℤ) (l : length rs ≡
           let p = some-with c g (i * width c + j) (digits-lt hi hj) v hv in
           omega (arith, low-with (p .0) (p .1) (p .2), cost-le (width c) rs (p .0))
 
-      pub least-with : Least-with (width c) (roots c) rs (i * width c + j) v soft
+      pub least-with : Least-with (width c) (is-codeword (width c) (roots c)) rs (i * width c + j) v soft
       unfolding holds
       least-with =
           let f = soft-found F t cap (configurations c) j lj H size big e room le soft-small in
