@@ -14,7 +14,8 @@ fine c = rw (c .width-of .ensures) (width-fine _)
 
 returns : tie.Need-returns
 unfolding check-refusal
-returns c = cc
+returns c = rw
+    (c .unless3 .ensures, c .before .is-code .ensures, c .before .before .unless2 .ensures, c .before .before .before .long-of .ensures, c .before .before .before .before .unless .ensures, c .before .before .before .before .before .symbols-good .ensures, c .before .before .before .before .before .before .width-of .ensures)
 
 pub check-refusal-spec : {M : Type 1} → statement M
 check-refusal-spec =

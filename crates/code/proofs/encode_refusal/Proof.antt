@@ -17,7 +17,8 @@ message-long-of-requires c κs = rw (c .before .width-of .ensures, c .roots-of .
 
 returns : tie.Need-returns
 unfolding encode-refusal
-returns c = cc
+returns c = rw
+    (c .unless4 .ensures, c .before .is-code .ensures, c .before .before .unless3 .ensures, c .before .before .before .unless2 .ensures, c .before .before .before .before .long-of .ensures, c .before .before .before .before .before .unless .ensures, c .before .before .before .before .before .before .symbols-good .ensures, c .before .before .before .before .before .before .before .message-long-of .ensures, c .before .before .before .before .before .before .before .before .roots-of .ensures, c .before .before .before .before .before .before .before .before .before .width-of .ensures)
 
 pub encode-refusal-spec : {M : Type 1} → statement M
 encode-refusal-spec =

@@ -12,7 +12,8 @@ message-long-of-requires c κs = rw (c .before .width-of .ensures, c .roots-of .
 
 returns : tie.Need-returns
 unfolding read-refusal
-returns c = cc
+returns c = rw
+    (c .member-refusal .ensures, c .before .message-long-of .ensures, c .before .before .roots-of .ensures, c .before .before .before .width-of .ensures)
 
 pub read-refusal-spec : {M : Type 1} → statement M
 read-refusal-spec =

@@ -14,7 +14,8 @@ fine c = rw (c .width-of .ensures) (width-fine _)
 
 returns : tie.Need-returns
 unfolding decode-refusal
-returns c = cc
+returns c = rw
+    (c .unless5 .ensures, c .before .is-code .ensures, c .before .before .unless4 .ensures, c .before .before .before .unless3 .ensures, c .before .before .before .before .long-of .ensures, c .before .before .before .before .before .unless2 .ensures, c .before .before .before .before .before .before .unless .ensures, c .before .before .before .before .before .before .before .is-row .ensures, c .before .before .before .before .before .before .before .before .row-long-of .ensures, c .before .before .before .before .before .before .before .before .before .width-of .ensures)
 
 pub decode-refusal-spec : {M : Type 1} → statement M
 decode-refusal-spec =

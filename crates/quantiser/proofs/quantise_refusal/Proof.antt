@@ -11,7 +11,8 @@ row-long-of-requires c κs = rw (c .width-of .ensures) (width-fine _)
 
 returns : tie.Need-returns
 unfolding quantise-refusal
-returns c = cc
+returns c = rw
+    (c .unless4 .ensures, c .before .is-code .ensures, c .before .before .unless3 .ensures, c .before .before .before .unless2 .ensures, c .before .before .before .before .unless .ensures, c .before .before .before .before .before .any-nan .ensures, c .before .before .before .before .before .before .row-long-of .ensures, c .before .before .before .before .before .before .before .width-of .ensures)
 
 pub quantise-refusal-spec : {M : Type 1} → statement M
 quantise-refusal-spec =

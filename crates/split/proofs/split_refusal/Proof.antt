@@ -11,7 +11,8 @@ row-long-of-requires c κs = rw (c .width-of .ensures) (width-fine _)
 
 returns : tie.Need-returns
 unfolding split-refusal
-returns c = cc
+returns c = rw
+    (c .member-refusal .ensures, c .before .row-long-of .ensures, c .before .before .width-of .ensures)
 
 pub split-refusal-spec : {M : Type 1} → statement M
 split-refusal-spec =
