@@ -64,15 +64,15 @@ module _ (bs : List ℕ) (at : ℕ) (row : List ℤ) (word : List ℕ) where
   answer = answered (getD (as-words bs) at 0) (length row) (length word)
 
   pub says-found : (row-now : List ℤ) (word-now : List ℕ) (c k next : ℕ) → answer ≡ Found c k →
-      next ≡ behind c at → Read-says (width c) (drop (at + 1) (as-words bs)) row-now word-now →
+      next ≡ behind c at → Read-says reliabilities (width c) (drop (at + 1) (as-words bs)) row-now word-now →
       Place-says bs at (record { answer = Found c k; next = next }) row row-now word word-now
   unfolding yielded moved filled question-here question-in
   says-found row-now word-now c k next e n s =
       let t = standing (getD (as-words bs) at 0) (length row) (length word) c k e in
       record {
         step = rw (e, n);
-        row-is = s .row-is ∙ ap (λ (x : ℕ). row-of (items-in reliabilities (row-words (width x)) (row-long (width x)) (drop (at + 1) (as-words bs)))) (t .code-is);
-        word-is = s .word-is ∙ ap (λ (x : ℕ). items-in symbols (symbol-words (width x)) (long (width x)) (after-row (width x) (drop (at + 1) (as-words bs)))) (t .code-is);
+        row-is = s .row-is ∙ ap (λ (x : ℕ). row-of reliabilities (items-in reliabilities (row-words reliabilities (width x)) (row-long (width x)) (drop (at + 1) (as-words bs)))) (t .code-is);
+        word-is = s .word-is ∙ ap (λ (x : ℕ). items-in symbols (symbol-words (width x)) (long (width x)) (after-row reliabilities (width x) (drop (at + 1) (as-words bs)))) (t .code-is);
       }
 
   pub says-none : (a : Yield) → a ≡ answer → a ≡ NoneLeft → Place-says bs at (record { answer = a; next = at }) row row word word

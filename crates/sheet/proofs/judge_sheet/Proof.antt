@@ -7,11 +7,11 @@ use lib.Dec.{lit≤}
 use lib.ListN.{length, getD, drop, drop-of-length-le}
 use denote.Ref.{now}
 use Rattle.code.specs.Code.{width}
-use Rattle.sheet.specs.Sheet.{as-words, kind, head-code, end-refusal, row-words, symbol-words}
-use Rattle.sheet.specs.Steps.{head-refusal}
+use Rattle.sheet.specs.Sheet.{as-words, kind, head-code, end-refusal, reliabilities, question-long}
+use Rattle.sheet.specs.Within.{head-refusal}
 use Rattle.sheet.specs.Calls.{judgement, judged}
 use Rattle.sheet.proofs.Bytes.{as-words-length}
-use Rattle.sheet.proofs.Judging.{tail, tail-none, turn-end, turn-refused, turn-more, judged-whole, judged-odd, width-fine, row-words-le, symbol-words-le}
+use Rattle.sheet.proofs.Judging.{tail, tail-none, turn-end, turn-refused, turn-more, judged-whole, judged-odd, question-long-le}
 use borrow.Author.Needs.{needs}
 use native.Mathlib.Omega.{arith}
 use Rattle.sheet.proofs.judge_sheet.Statement.{statement}
@@ -39,16 +39,18 @@ refused c =
 more : (c : tie.Else3 Inv-loop μ-loop) → let a = c .before .before .before .before .before .before in
     let bs : List ℕ = now (a .before .before .before .args .sheet) in
     let m : ℕ = width (head-code (getD (as-words bs) (a .loop .at) 0)) in
-    (0 < a .loop .left) × (judged bs ≡ tail (a .loop .left - 1) (drop (a .loop .at + (1 + (row-words m + symbol-words m))) (as-words bs)))
+    (0 < a .loop .left) × (judged bs ≡ tail (a .loop .left - 1) (drop (a .loop .at + (1 + question-long reliabilities m)) (as-words bs)))
 more c =
     let r = c .before in let a = r .before .before .before .before .before in
     let t = turn-more (now (a .before .before .before .args .sheet)) (a .loop .left) (a .loop .at) (r .before .before .before .before .loop-test .taken) (no-end (r .before)) (sym (refused r) ∙ c .if3 .left) (a .loop .inv .0) in
     (t .0, a .loop .inv .1 ∙ t .1)
 
+words-of : (c : tie.After-question-words-of Inv-loop μ-loop) → c .question-words-of .result ≡ question-long reliabilities (width (c .before .head-code-of .result))
+unfolding reliabilities
+words-of c = c .question-words-of .ensures
+
 few : (c : tie.After-question-words-of Inv-loop μ-loop) → c .question-words-of .result ≤ 23
-few c =
-    let k : ℕ = c .before .head-code-of .result in
-    omega (arith, c .question-words-of .ensures, row-words-le (width k) (width-fine k), symbol-words-le (width k) (width-fine k))
+few c = omega (arith, words-of c, question-long-le (c .before .head-code-of .result))
 
 returns : tie.Need-returns Inv-loop μ-loop
 returns c = sym (judged-odd (now (c .before .before .args .sheet)) (c .if1 .taken))
@@ -120,7 +122,7 @@ loop-again c = let r = c .before .before .before in let a = r .before .before .b
       omega (arith, a .loop .inv .0),
       more (c .before .before) .1
           ∙ ap (λ (x : ℕ). tail (a .loop .left - 1) (drop (a .loop .at + (1 + x)) (as-words bs)))
-          (sym (c .question-words-of .ensures ∙ ap (λ (x : ℕ). row-words (width x) + symbol-words (width x)) (c .before .head-code-of .ensures ∙ ap head-code (r .before .before .before .word-at .ensures)))),
+          (sym (words-of c ∙ ap (λ (x : ℕ). question-long reliabilities (width x)) (c .before .head-code-of .ensures ∙ ap head-code (r .before .before .before .word-at .ensures)))),
     )
 
 returns-4 : tie.Need-returns-4 Inv-loop μ-loop

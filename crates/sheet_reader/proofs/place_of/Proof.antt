@@ -6,8 +6,8 @@ use Prim.Native.Nat.{ℕ, _+_, _-_, _≤_}
 use lib.ListN.{getD}
 use denote.Ref.{now}
 use Rattle.code.specs.Code.{width}
-use Rattle.sheet.specs.Sheet.{as-words, kind, head-code, head-kind, row-words, symbol-words}
-use Rattle.sheet.proofs.Judging.{width-fine, row-words-le, symbol-words-le}
+use Rattle.sheet.specs.Sheet.{as-words, kind, head-code, head-kind, reliabilities, question-long}
+use Rattle.sheet.proofs.Judging.{question-long-le}
 use Rattle.sheet_reader.specs.Within.{behind, skipped}
 use Rattle.sheet_reader.proofs.Says.{inside}
 use Rattle.sheet_reader.proofs.Choice.{skip-none, skip-end, skip-more}
@@ -26,10 +26,12 @@ head : (c : tie.Else1 Inv-loop μ-loop) → let a = c .before .before .before .b
 unfolding head-kind
 head c = ap kind (sym (c .before .before .word-at .ensures)) ∙ sym (c .before .kind-of .ensures) ∙ c .if1 .left
 
+words-of : (c : tie.After-question-words-of Inv-loop μ-loop) → c .question-words-of .result ≡ question-long reliabilities (width (c .before .head-code-of .result))
+unfolding reliabilities
+words-of c = c .question-words-of .ensures
+
 few : (c : tie.After-question-words-of Inv-loop μ-loop) → c .question-words-of .result ≤ 23
-few c =
-    let k : ℕ = c .before .head-code-of .result in
-    omega (arith, c .question-words-of .ensures, row-words-le (width k) (width-fine k), symbol-words-le (width k) (width-fine k))
+few c = omega (arith, words-of c, question-long-le (c .before .head-code-of .result))
 
 loop-holds : tie.Need-loop-holds Inv-loop μ-loop
 loop-holds c = refl
@@ -69,7 +71,7 @@ unfolding behind
 loop-again c = let e = c .before .before in let w = e .before .before in let a = w .before .before in let ws : List ℕ = as-words (now (a .before .before .args .sheet)) in
     a .loop .inv ∙ skip-more ws (a .loop .at) (a .loop .left) (w .before .loop-test .taken) (head e)
     ∙ ap (λ (x : ℕ). skipped (a .loop .left - 1) ws (a .loop .at + (1 + x)))
-    (sym (c .question-words-of .ensures ∙ ap (λ (x : ℕ). row-words (width x) + symbol-words (width x)) (c .before .head-code-of .ensures ∙ ap head-code (w .word-at .ensures))))
+    (sym (words-of c ∙ ap (λ (x : ℕ). question-long reliabilities (width x)) (c .before .head-code-of .ensures ∙ ap head-code (w .word-at .ensures))))
 
 returns-2 : tie.Need-returns-2 Inv-loop μ-loop
 returns-2 c = let a = c .before in sym (a .loop .inv ∙ skip-none (as-words (now (a .before .before .args .sheet))) (a .loop .at) (a .loop .left) (c .loop-test .left))

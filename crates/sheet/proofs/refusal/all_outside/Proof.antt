@@ -5,7 +5,7 @@ use mathlib.Core.Bool.{Bool, _&&_}
 use Prim.Native.Nat.{_-_, _/_}
 use borrow.Author.Tests.{not-true, not-false}
 use Rattle.sheet.specs.Sheet.{digits}
-use Rattle.sheet.specs.Steps.{outside}
+use Rattle.sheet.specs.Within.{outside}
 use Rattle.sheet.proofs.Scan.{outside-step, outside-none}
 use borrow.Author.Needs.{needs}
 use Rattle.sheet.proofs.refusal.all_outside.Statement.{statement}

@@ -5,7 +5,7 @@ use mathlib.Core.List.{List}
 use Prim.Native.Nat.{ℕ}
 use lib.ListN.{drop}
 use denote.Ref.{now}
-use Rattle.sheet.specs.Sheet.{as-words, kind, question-refusal}
+use Rattle.sheet.specs.Sheet.{reliabilities, as-words, kind, question-refusal}
 use Rattle.sheet.proofs.Judging.{no-head, one-too-many, head-more}
 use borrow.Author.Needs.{needs}
 use Rattle.sheet.proofs.refusal.refused_head.Statement.{statement}
@@ -30,9 +30,10 @@ refused-question-requires : tie.Need-refused-question-requires
 refused-question-requires c κs = search needs
 
 returns-3 : tie.Need-returns-3
+unfolding reliabilities
 returns-3 c = let s = c .before .before .before .before .before .before .args in
     let ws : List ℕ = drop (s .at) (as-words (now (s .sheet))) in
-    c .refused-question .ensures ∙ ap (λ (k : ℕ). question-refusal k ws) (c .before .head-code-of .ensures)
+    c .refused-question .ensures ∙ ap (λ (k : ℕ). question-refusal reliabilities k ws) (c .before .head-code-of .ensures)
     ∙ sym (head-more (s .left) (s .w) ws (head (c .before .before .before)) (c .before .before .if2 .left))
 
 pub refused-head-spec : {M : Type 1} → statement M

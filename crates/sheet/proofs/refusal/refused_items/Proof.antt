@@ -7,7 +7,7 @@ use lib.ListN.{drop}
 use denote.Ref.{now}
 use Rattle.sheet.specs.declared.Form.{Form}
 use Rattle.sheet.specs.Sheet.{as-words, count, first, items-refusal, word-refusal}
-use Rattle.sheet.specs.Steps.{outside}
+use Rattle.sheet.specs.Within.{outside}
 use Rattle.sheet.proofs.Bytes.{as-words-length}
 use Rattle.sheet.proofs.Scan.{items-none, items-out, items-step, first-some, first-next}
 use borrow.Author.Needs.{needs}
@@ -34,7 +34,7 @@ turn c =
     let a = c .before .before .before .before in let s = a .before .before .args in
     let w = c .before .word-at .ensures in
     a .loop .inv
-    ∙ items-step (s .f) (a .before .before .pre .1) (s .bad) (outside (s .low) (s .high)) (as-words (now (s .sheet))) (a .loop .left) (a .loop .i)
+    ∙ items-step (s .f) (a .before .before .pre .holds) (s .bad) (outside (s .low) (s .high)) (as-words (now (s .sheet))) (a .loop .left) (a .loop .i)
     (c .before .before .before .loop-test .taken) (omega (arith, as-words-length (now (s .sheet)), c .before .before .if1 .left))
     ∙ ap (λ (x : ℕ). first x (left-refusal (s .f) (s .bad) (s .low) (s .high) (now (s .sheet)) (a .loop .left - s .f .each) (a .loop .i + 1)))
     (sym (c .refused-word .ensures ∙ ap (word-refusal (s .f) (s .bad) (outside (s .low) (s .high)) (a .loop .left)) w))
@@ -45,7 +45,7 @@ loop-holds c = refl
 returns : tie.Need-returns Inv-loop μ-loop
 returns c = let a = c .before .before in let s = a .before .before .args in
     sym (a .loop .inv
-    ∙ items-out (s .f) (a .before .before .pre .1) (s .bad) (outside (s .low) (s .high)) (as-words (now (s .sheet))) (a .loop .left) (a .loop .i) (c .before .loop-test .taken)
+    ∙ items-out (s .f) (a .before .before .pre .holds) (s .bad) (outside (s .low) (s .high)) (as-words (now (s .sheet))) (a .loop .left) (a .loop .i) (c .before .loop-test .taken)
     (omega (arith, as-words-length (now (s .sheet)), c .if1 .taken)))
 
 word-at-requires : tie.Need-word-at-requires Inv-loop μ-loop
@@ -77,7 +77,7 @@ loop-again c = let b = c .before .before in let l = b .before .before .before .b
 returns-3 : tie.Need-returns-3 Inv-loop μ-loop
 returns-3 c = let a = c .before in let s = a .before .before .args in
     sym (a .loop .inv
-    ∙ items-none (s .f) (a .before .before .pre .1) (s .bad) (outside (s .low) (s .high)) (as-words (now (s .sheet))) (a .loop .left) (a .loop .i) (c .loop-test .left))
+    ∙ items-none (s .f) (a .before .before .pre .holds) (s .bad) (outside (s .low) (s .high)) (as-words (now (s .sheet))) (a .loop .left) (a .loop .i) (c .loop-test .left))
 
 pub refused-items-spec : {M : Type 1} → statement M
 refused-items-spec =

@@ -4,7 +4,7 @@ use mathlib.Core.Path.{_≡_, sym, ap, ap₂, _∙_}
 use mathlib.Core.Bool.{Bool, true, false, cond}
 use Prim.Native.Nat.{ℕ, _/_, _^_}
 use Rattle.sheet.specs.Sheet.{digits, kind, body, used, items, unused, word-refusal}
-use Rattle.sheet.specs.Steps.{outside}
+use Rattle.sheet.specs.Within.{outside}
 use Rattle.sheet.proofs.Scan.{wrong-kind, not-clear, clear-word}
 use borrow.Author.Needs.{needs}
 use Rattle.sheet.proofs.refusal.refused_word.Statement.{statement}
