@@ -13,7 +13,7 @@ use lib.Pow.{pow-mono}
 use lib.ListN.{length, length-map}
 use lib.IntN.{ℤ, pos, negsuc}
 use Rattle.field.proofs.Tests.{to-T}
-use Rattle.code.specs.Code.{width, long, symbols-good}
+use Rattle.code.specs.Code.{long, symbols-good}
 use Rattle.code.specs.Bits.{row-long}
 use Rattle.code.proofs.Words.{Below, below, widen}
 use Rattle.metric.specs.Row.{bound, reliability-good, row-good}
@@ -39,15 +39,12 @@ symbol-splits m (d ∷ ds) b = ap (λ (x : Bool). ltb d (2 ^ m) && x) (symbol-sp
 
 -- today's forms
 pub reliabilities-fine : Fine reliabilities
-unfolding reliabilities
 reliabilities-fine = record { kinds = lit< tt; some = lit< tt; small = lit< tt; holds = lit< tt; few = lit≤ tt; fits = lit≤ tt }
 
 pub reliabilities-wide : 256 ≤ reliabilities .base
-unfolding reliabilities
 reliabilities-wide = lit≤ tt
 
 pub symbols-fine : Fine symbols
-unfolding symbols
 symbols-fine = record { kinds = lit< tt; some = lit< tt; small = lit< tt; holds = lit< tt; few = lit≤ tt; fits = lit≤ tt }
 
 pub symbol-tested : (m : ℕ) → Tested symbols (symbols-good m)
@@ -124,7 +121,6 @@ module _ (f : Form) where
 
 -- symbols of either width have four bits
 pub symbols-below : (m : ℕ) (ws : List ℕ) → m ≤ 4 → symbols-good m ws ≡ true → Below (symbols .base) ws
-unfolding symbols
 symbols-below m ws h g = widen (pow-mono {j = 4} h) ws (below m ws (to-T g))
 
 -- the words of a row and of a word have room for them

@@ -4,7 +4,7 @@ use mathlib.Core.Path.{_≡_, refl, sym, ap, ap₂, _∙_, subst}
 use mathlib.Core.Logic.{_⊎_, inl, inr}
 use mathlib.Core.Bool.{Bool, true, false, _&&_, not, cond, false≢true}
 use mathlib.Core.List.{List, [], _∷_, _++_, append-nil}
-use Prim.Native.Nat.{ℕ, zero, suc, _+_, _*_, _-_, _^_, _<_, _≤_, min}
+use Prim.Native.Nat.{ℕ, zero, suc, _*_, _-_, _^_, _<_, _≤_, min}
 use native.Mathlib.Nat.{div-eq-of-lt, lt-of-lt-of-le, min-eq-left, mul-suc, le-trans, pow-le-pow-right, min-le-left, min-zero, zero-sub, mul-zero, sub-eq-zero-of-le}
 use native.Mathlib.Omega.{arith}
 use borrow.Author.Tests.{eqb-true, eq-eqb, not-false, leb-true, leb-false}

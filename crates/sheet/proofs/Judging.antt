@@ -19,7 +19,7 @@ use Rattle.code.specs.Bits.{row-long}
 use Rattle.code.proofs.Words.{Below}
 use Rattle.metric.specs.Row.{bound, reliability-good, row-good}
 use Rattle.sheet.specs.declared.Form.{Form}
-use Rattle.sheet.specs.Sheet.{reliabilities, symbols, signed-of, row-of, digits, kind, body, head-code, low, head-kind, count, row-words, symbol-words, question-long, row-refusal, symbol-refusal, after-row, end-kind, most, used, items, first, word-refusal, items-refusal, question-refusal, end-refusal, next-refusal, rest-refusal, after, questions-from, question-in, Question, as-words, sheet-refusal, questions}
+use Rattle.sheet.specs.Sheet.{reliabilities, signed-of, row-of, digits, kind, body, head-code, low, head-kind, count, row-words, symbol-words, question-long, row-refusal, symbol-refusal, after-row, end-kind, most, used, items, first, word-refusal, items-refusal, question-refusal, end-refusal, next-refusal, rest-refusal, after, questions-from, question-in, Question, as-words, sheet-refusal, questions}
 use Rattle.sheet.specs.Within.{Fine, outside, head-refusal}
 use Rattle.sheet.specs.Calls.{judgement, judged}
 use Rattle.sheet.proofs.Digits.{digits-below}
@@ -194,11 +194,11 @@ unfolding row-words
 row-words-le f z m w = omega (arith, count-le f z (row-long m), row-long-le m w)
 
 pub symbol-words-le : (m : ℕ) → width-good m ≡ true → symbol-words m ≤ 3
-unfolding symbol-words count symbols long
+unfolding symbol-words count long
 symbol-words-le = widths (λ m. symbol-words m ≤ 3) (lit≤ tt) (lit≤ tt)
 
 pub question-long-le : (c : ℕ) → question-long reliabilities (width c) ≤ 23
-unfolding question-long row-words symbol-words count reliabilities symbols row-long long
+unfolding question-long row-words symbol-words count row-long long
 question-long-le c = widths (λ m. question-long reliabilities m ≤ 23) (lit≤ tt) (lit≤ tt) (width c) (width-fine c)
 
 -- one turn of the loop over questions, at a place

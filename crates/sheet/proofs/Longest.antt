@@ -10,7 +10,7 @@ use lib.IntN.{pos}
 use Rattle.code.specs.Code.{code-good, width, long, symbols-good}
 use Rattle.code.specs.Bits.{row-long}
 use Rattle.metric.specs.Row.{bound, reliability-good, row-good}
-use Rattle.sheet.specs.Sheet.{Question, reliabilities, symbols, end-kind, most, numbers, worded, count, row-words, symbol-words, question-long, question-words, all-words, written, questions, question-good, all-good}
+use Rattle.sheet.specs.Sheet.{Question, reliabilities, end-kind, most, numbers, worded, count, row-words, symbol-words, question-long, question-words, all-words, written, questions, question-good, all-good}
 use Rattle.sheet.specs.Promise.{sheet-most, Longest-sheet, Read-written, Written-read}
 use Rattle.sheet.proofs.Items.{items-words-length}
 use Rattle.sheet.proofs.Bytes.{bytes-length, bytes, as-bytes-below}
@@ -43,7 +43,7 @@ longest-good zero = refl
 longest-good (suc n) = longest-good n
 
 longest-words : (n : ℕ) → length (all-words (replicate n longest)) ≡ 24 * n
-unfolding all-words longest width question-long row-words symbol-words count reliabilities symbols row-long long
+unfolding all-words longest width question-long row-words symbol-words count row-long long
 longest-words zero = refl
 longest-words (suc n) =
     omega (arith, length-append (question-words reliabilities longest) (all-words (replicate n longest)), question-length longest, longest-words n)

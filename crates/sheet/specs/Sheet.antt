@@ -19,11 +19,11 @@ unfoldable pub end-kind : ℕ
 end-kind = 15
 
 -- a kind of word that holds items: how many, and below what each is. Kind 2: three reliabilities of 8 bits
-unfoldable pub reliabilities : Form
+abbrev pub reliabilities : Form
 reliabilities = record { kind = 2; each = 3; base = 2 ^ 8 }
 
 -- kind 3: six 4-bit symbols
-unfoldable pub symbols : Form
+abbrev pub symbols : Form
 symbols = record { kind = 3; each = 6; base = 2 ^ 4 }
 
 -- at most 200 questions; a question number and a count have 24 bits

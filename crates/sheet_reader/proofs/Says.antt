@@ -4,7 +4,7 @@ use mathlib.Core.Path.{_≡_, refl, sym, ap, _∙_}
 use mathlib.Core.Logic.{_⊎_, inl, inr}
 use mathlib.Core.Bool.{Bool, true, false, _&&_, not, cond}
 use mathlib.Core.List.{List}
-use Prim.Native.Nat.{ℕ, zero, suc, _+_, _/_, _<_, _≤_}
+use Prim.Native.Nat.{ℕ, _+_, _/_, _<_, _≤_}
 use native.Mathlib.Omega.{arith}
 use borrow.Author.Tests.{eqb-true}
 use lib.Dec.{eqb}
@@ -15,7 +15,6 @@ use Rattle.code.specs.Bits.{row-long}
 use Rattle.sheet.specs.Sheet.{kind, head-code, low, head-kind, row-words, symbol-words, as-words, question-in, reliabilities, symbols, items-in, row-of, after-row}
 use Rattle.sheet.proofs.Bytes.{no-word}
 use Rattle.sheet.proofs.Items.{both, le-or-lt}
-use Rattle.sheet_reader.specs.declared.Step.{Step}
 use Rattle.sheet_reader.specs.declared.Yield.{Yield}
 use Rattle.sheet_reader.specs.declared.Yield.the-variants.{Found, NoneLeft, Refused}
 use Rattle.sheet_reader.specs.Calls.{filled}

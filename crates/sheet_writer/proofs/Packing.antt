@@ -8,7 +8,7 @@ use native.Mathlib.Nat.{lt-of-lt-of-le, pow-le-pow-right}
 use native.Mathlib.Numerals.{add-one}
 use native.Mathlib.Omega.{arith}
 use borrow.Author.Tests.{ltb-true, leb-true, le-ltb}
-use lib.Dec.{T, lit<}
+use lib.Dec.{T}
 use lib.ListN.{length, getD, take, drop, set, length-take, length-drop, length-append, drop-of-length-le, List·getD-map}
 use lib.Seq.{drop-cons, sets-eq, getD-take, take-suc, take-at, drop-at, drop-drop, length-take-le}
 use lib.IntN.{ℤ, pos, negsuc, natAbs, _+ℤ_}

@@ -16,7 +16,7 @@ use Rattle.code.specs.Bits.{row-long}
 use Rattle.code.proofs.Words.{Below}
 use Rattle.metric.specs.Row.{row-good}
 use Rattle.sheet.specs.declared.Form.{Form}
-use Rattle.sheet.specs.Sheet.{question, reliabilities, symbols, head-kind, numbers, worded, packed, count, row-items, row-words, symbol-words, question-long, items-words, question-words}
+use Rattle.sheet.specs.Sheet.{question, reliabilities, symbols, head-kind, numbers, worded, packed, row-items, row-words, symbol-words, question-long, items-words, question-words}
 use Rattle.sheet.specs.Within.{Fine}
 use Rattle.sheet.proofs.Items.{items-words-length, below-parts}
 use Rattle.sheet.proofs.Forms.{reliabilities-fine, symbols-fine, count-place, items-below, symbols-below}
@@ -119,7 +119,6 @@ module _ (f : Form) (rs : List ℤ) (ws : List ℕ) where
   }
 
 pub row-form : Row-form reliabilities
-unfolding reliabilities symbols
 row-form = record { form = reliabilities-fine; wide = lit≤ tt; other = λ e. omega (arith, e) }
 
 pub packs-symbols : (m : ℕ) (rs : List ℤ) (ws : List ℕ) → m ≤ 4 → row-good rs ≡ true → symbols-good m ws ≡ true → Packs symbols rs ws

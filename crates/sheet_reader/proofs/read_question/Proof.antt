@@ -15,30 +15,12 @@ use borrow.Author.Needs.{needs}
 use Rattle.sheet_reader.proofs.read_question.Statement.{statement}
 use Rattle.sheet_reader.proofs.read_question.Tie as tie
 
-add-read-row : tie.Need-add-read-row
-add-read-row c = search needs
-
-read-row-requires : tie.Need-read-row-requires
-read-row-requires c κs = search needs
-
-add-read-symbols : tie.Need-add-read-symbols
-add-read-symbols c = search needs
-
-row-words-of-requires : tie.Need-row-words-of-requires
-row-words-of-requires c κs = search needs
-
 add-read-symbols-2 : tie.Need-add-read-symbols-2
 add-read-symbols-2 c = let s = c .before .before .before .before .before .before in omega (arith, c .row-words-of .ensures, row-words-le (s .args .f) (s .pre .0) (s .args .m) (s .pre .1 .0))
 
 read-symbols-requires : tie.Need-read-symbols-requires
 read-symbols-requires c κs = let s = c .before .before .before .before .before .before .before in
     omega (arith, c .before .row-words-of .ensures, row-words-le (s .args .f) (s .pre .0) (s .args .m) (s .pre .1 .0), long-le (s .args .m) (s .pre .1 .0), s .pre .1 .1 .1 .1)
-
-same-length : tie.Need-same-length
-same-length c = search needs
-
-same-length-2 : tie.Need-same-length-2
-same-length-2 c = search needs
 
 returns : tie.Need-returns
 unfolding items-from row-words symbol-words after-row
@@ -57,12 +39,12 @@ pub read-question-spec : {M : Type 1} → statement M
 read-question-spec =
     tie.close
     (tie.spec
-    add-read-row
-    read-row-requires
-    add-read-symbols
-    row-words-of-requires
+    (λ c. search needs)
+    (λ c κs. search needs)
+    (λ c. search needs)
+    (λ c κs. search needs)
     add-read-symbols-2
     read-symbols-requires
-    same-length
-    same-length-2
+    (λ c. search needs)
+    (λ c. search needs)
     returns)

@@ -10,7 +10,7 @@ use denote.Ref.{now}
 use Rattle.field.specs.Field.{width-good}
 use Rattle.code.specs.Code.{width, long}
 use Rattle.code.specs.Bits.{row-long}
-use Rattle.sheet.specs.Sheet.{Question, reliabilities, question-long, question, digits, question-words, question-good}
+use Rattle.sheet.specs.Sheet.{Question, reliabilities, question, digits, question-words, question-good}
 use Rattle.sheet.proofs.Judging.{width-fine, question-long-le}
 use Rattle.sheet_writer.specs.Within.{begun}
 use Rattle.sheet_writer.proofs.Questions.{words-length}
@@ -59,18 +59,12 @@ same-question c =
     let m : a .loop .word + c .long-of .result - a .loop .word ≡ long (width (next-code (a .loop .inv))) = omega (arith, word-is c) in
     rw (n, m)
 
-words-of : (c : tie.After-question-words-of Inv-loop μ-loop) →
-    c .question-words-of .result
-    ≡ question-long reliabilities (width (next-code (c .before .before .before .before .before .before .before .before .before .before .before .before .before .loop .inv)))
-unfolding reliabilities
-words-of c = c .question-words-of .ensures
-
 words-here : (c : tie.After-question-words-of Inv-loop μ-loop) →
     1 + c .question-words-of .result ≡ length (question-words reliabilities (next (c .before .before .before .before .before .before .before .before .before .before .before .before .before .loop .inv)))
-words-here c = rw words-length (omega (arith, words-of c))
+words-here c = rw words-length (omega (arith, c .question-words-of .ensures))
 
 few : (c : tie.After-question-words-of Inv-loop μ-loop) → c .question-words-of .result ≤ 23
-few c = omega (arith, words-of c, question-long-le (next-code (c .before .before .before .before .before .before .before .before .before .before .before .before .before .loop .inv)))
+few c = omega (arith, c .question-words-of .ensures, question-long-le (next-code (c .before .before .before .before .before .before .before .before .before .before .before .before .before .loop .inv)))
 
 loop-holds : tie.Need-loop-holds Inv-loop μ-loop
 loop-holds c =

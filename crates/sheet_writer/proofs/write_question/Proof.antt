@@ -6,8 +6,7 @@ use Prim.Native.Nat.{ℕ, _+_, _*_, _-_, _<_, _≤_}
 use lib.ListN.{length, take, drop}
 use lib.Seq.{take-all}
 use denote.Ref.{now}
-use Rattle.code.specs.Code.{width}
-use Rattle.sheet.specs.Sheet.{digits, reliabilities, question-long, question, question-words}
+use Rattle.sheet.specs.Sheet.{digits, reliabilities, question, question-words}
 use Rattle.sheet.proofs.Judging.{question-long-le}
 use Rattle.sheet_writer.specs.Within.{begun}
 use Rattle.sheet_writer.proofs.Packing.{begun-none, begun-next}
@@ -28,23 +27,18 @@ abbrev μ-loop : tie.MeasureT-loop
 abbrev wanted : (c : tie.In-loop Inv-loop μ-loop) → List ℕ
 wanted c = let s = c .before .before .before .before .before .args in question-words reliabilities (question (s .code) (s .number) (now (s .row)) (now (s .word)))
 
-words-of : (c : tie.After-question-words-of Inv-loop μ-loop) → c .question-words-of .result ≡ question-long reliabilities (width (c .before .before .before .args .code))
-unfolding reliabilities
-words-of c = c .question-words-of .ensures
-
 inside : (c : tie.In-loop Inv-loop μ-loop) → c .before .loop .j < length (wanted c)
 inside c =
     let a = c .before in let s = a .before .before .before .before .args in
-    omega (arith, c .loop-test .taken, words-of (a .before), words-length reliabilities (s .code) (s .number) (now (s .row)) (now (s .word)))
+    omega (arith, c .loop-test .taken, a .before .question-words-of .ensures, words-length reliabilities (s .code) (s .number) (now (s .row)) (now (s .word)))
 
 add-n : tie.Need-add-n Inv-loop μ-loop
-add-n c = let k : ℕ = c .before .before .before .args .code in omega (arith, words-of c, question-long-le k)
+add-n c = let k : ℕ = c .before .before .before .args .code in omega (arith, c .question-words-of .ensures, question-long-le k)
 
 loop-holds : tie.Need-loop-holds Inv-loop μ-loop
 loop-holds c = (omega arith, refl, sym (begun-none (now (c .before .before .before .args .output))))
 
 question-word-requires : tie.Need-question-word-requires Inv-loop μ-loop
-unfolding reliabilities
 question-word-requires c κs = let s = c .before .before .before .before .before in (row-form, (s .pre .0, inside c))
 
 put-word-requires : tie.Need-put-word-requires Inv-loop μ-loop
@@ -57,7 +51,6 @@ loop-less : tie.Need-loop-less Inv-loop μ-loop
 loop-less c = let i = c .before .before .before .before .before in omega (arith, inside i)
 
 loop-again : tie.Need-loop-again Inv-loop μ-loop
-unfolding reliabilities
 loop-again c = let p = c .before .before in let i = p .before .before .before in let a = i .before in (
   omega (arith, inside i),
   p .put-word .kept .0 ∙ a .loop .inv .1,
@@ -70,7 +63,7 @@ returns : tie.Need-returns Inv-loop μ-loop
 returns c = let a = c .before in let s = a .before .before .before .before .args in
     let ws : List ℕ = question-words reliabilities (question (s .code) (s .number) (now (s .row)) (now (s .word))) in
     a .loop .inv .2 ∙ ap (λ (l : List ℕ). begun l (now (s .output)))
-    (take-all (a .loop .j) ws (omega (arith, c .loop-test .left, words-of (a .before), words-length reliabilities (s .code) (s .number) (now (s .row)) (now (s .word)))))
+    (take-all (a .loop .j) ws (omega (arith, c .loop-test .left, a .before .question-words-of .ensures, words-length reliabilities (s .code) (s .number) (now (s .row)) (now (s .word)))))
 
 pub write-question-spec : {M : Type 1} → statement M
 write-question-spec =

@@ -48,26 +48,8 @@ returns c = let a = c .before .before in let s = a .before .before .args in
     ∙ items-out (s .f) (a .before .before .pre .holds) (s .bad) (outside (s .low) (s .high)) (as-words (now (s .sheet))) (a .loop .left) (a .loop .i) (c .before .loop-test .taken)
     (omega (arith, as-words-length (now (s .sheet)), c .if1 .taken)))
 
-word-at-requires : tie.Need-word-at-requires Inv-loop μ-loop
-word-at-requires c κs = search needs
-
-refused-word-requires : tie.Need-refused-word-requires Inv-loop μ-loop
-refused-word-requires c κs = search needs
-
 returns-2 : tie.Need-returns-2 Inv-loop μ-loop
 returns-2 c = sym (turn (c .before) ∙ first-some (c .before .refused-word .result) _ (c .if2 .taken))
-
-add-i : tie.Need-add-i Inv-loop μ-loop
-add-i c = search needs
-
-least-requires : tie.Need-least-requires Inv-loop μ-loop
-least-requires c κs = search needs
-
-sub-left : tie.Need-sub-left Inv-loop μ-loop
-sub-left c = search needs
-
-loop-less : tie.Need-loop-less Inv-loop μ-loop
-loop-less c = search needs
 
 loop-again : tie.Need-loop-again Inv-loop μ-loop
 loop-again c = let b = c .before .before in let l = b .before .before .before .before .loop in let s = b .before .before .before .before .before .before .args in
@@ -87,12 +69,12 @@ refused-items-spec =
     μ-loop
     loop-holds
     returns
-    word-at-requires
-    refused-word-requires
+    (λ c κs. search needs)
+    (λ c κs. search needs)
     returns-2
-    add-i
-    least-requires
-    sub-left
-    loop-less
+    (λ c. search needs)
+    (λ c κs. search needs)
+    (λ c. search needs)
+    (λ c. search needs)
     loop-again
     returns-3)

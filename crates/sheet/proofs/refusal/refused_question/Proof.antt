@@ -33,15 +33,9 @@ parts c =
     ∙ ap (λ (x : ℕ). first x (symbol-refusal (width (s .code)) (drop (row-words (s .f) (width (s .code))) ws)))
     (sym (c .refused-row .ensures ∙ ap (λ (m : ℕ). row-refusal (s .f) m ws) (c .before .width-of .ensures)))
 
-is-code-requires : tie.Need-is-code-requires
-is-code-requires c κs = search needs
-
 returns : tie.Need-returns
 returns c = let s = c .before .before .before .args in let a = c .before in
     sym (code-unknown (s .f) (s .code) (drop (s .at) (as-words (now (s .sheet)))) (sym (a .is-code .ensures) ∙ not-true (a .is-code .result) (c .if1 .taken)))
-
-width-of-requires : tie.Need-width-of-requires
-width-of-requires c κs = search needs
 
 refused-row-requires : tie.Need-refused-row-requires
 refused-row-requires c κs = let s = c .before .before .before .before in (s .pre .0, (s .pre .1 .0, fine c))
@@ -71,9 +65,9 @@ pub refused-question-spec : {M : Type 1} → statement M
 refused-question-spec =
     tie.close
     (tie.spec
-    is-code-requires
+    (λ c κs. search needs)
     returns
-    width-of-requires
+    (λ c κs. search needs)
     refused-row-requires
     returns-2
     row-words-of-requires

@@ -15,11 +15,10 @@ use Rattle.sheet.proofs.refusal.refused_symbols.Statement.{statement}
 use Rattle.sheet.proofs.refusal.refused_symbols.Tie as tie
 
 refused-items-requires : tie.Need-refused-items-requires
-unfolding symbols
 refused-items-requires c κs = symbols-fine
 
 returns : tie.Need-returns
-unfolding symbol-refusal symbol-words symbols
+unfolding symbol-refusal symbol-words
 returns c = let s = c .before .before .before .before .args in
     let ws : List ℕ = drop (s .at) (as-words (now (s .sheet))) in
     c .refused-items .ensures

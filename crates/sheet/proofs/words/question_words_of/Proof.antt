@@ -16,11 +16,10 @@ fine : (c : tie.After-width-of) → width-good (c .width-of .result) ≡ true
 fine c = ap width-good (c .width-of .ensures) ∙ width-fine (c .before .args .code)
 
 count-of-requires : tie.Need-count-of-requires
-unfolding symbols
 count-of-requires c κs = let w = c .before .before in (symbols-fine, omega (arith, c .long-of .ensures, long-le (w .width-of .result) (fine w)))
 
 word-is : (c : tie.After-count-of) → c .count-of .result ≡ symbol-words (c .before .before .before .width-of .result)
-unfolding symbol-words symbols
+unfolding symbol-words
 word-is c = c .count-of .ensures ∙ ap (count symbols) (c .before .long-of .ensures)
 
 add-result : tie.Need-add-result

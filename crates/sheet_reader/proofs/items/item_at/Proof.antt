@@ -13,26 +13,8 @@ use borrow.Author.Needs.{needs}
 use Rattle.sheet_reader.proofs.items.item_at.Statement.{statement}
 use Rattle.sheet_reader.proofs.items.item_at.Tie as tie
 
-div-word-at : tie.Need-div-word-at
-div-word-at c = search needs
-
 add-word-at : tie.Need-add-word-at
 add-word-at c = let s = c .before .args in omega (arith, div-le-self (s .i) (s .f .each), c .before .pre .1)
-
-word-at-requires : tie.Need-word-at-requires
-word-at-requires c κs = search needs
-
-body-of-requires : tie.Need-body-of-requires
-body-of-requires c κs = search needs
-
-rem-above : tie.Need-rem-above
-rem-above c = search needs
-
-above-requires : tie.Need-above-requires
-above-requires c κs = search needs
-
-rem-result : tie.Need-rem-result
-rem-result c = search needs
 
 returns : tie.Need-returns
 returns c = let s = c .before .before .before .before in let f = s .args .f in
@@ -45,11 +27,11 @@ pub item-at-spec : {M : Type 1} → statement M
 item-at-spec =
     tie.close
     (tie.spec
-    div-word-at
+    (λ c. search needs)
     add-word-at
-    word-at-requires
-    body-of-requires
-    rem-above
-    above-requires
-    rem-result
+    (λ c κs. search needs)
+    (λ c κs. search needs)
+    (λ c. search needs)
+    (λ c κs. search needs)
+    (λ c. search needs)
     returns)

@@ -1,6 +1,5 @@
 -- `sheet_reader::read_symbols` meets its contract.
 -- Assumes nothing.
-use mathlib.Core.Path.{sym, ap, _∙_}
 use mathlib.Core.List.{List}
 use Prim.Native.Nat.{ℕ, _-_}
 use native.Mathlib.Omega.{arith}
@@ -24,14 +23,12 @@ abbrev μ-loop : tie.MeasureT-loop
 μ-loop sheet at word₀ i₀ word i = length word₀ - i
 
 item-at-requires : tie.Need-item-at-requires Inv-loop μ-loop
-unfolding symbols
 item-at-requires c κs = (symbols-fine, search needs)
 
 cast-word : tie.Need-cast-word Inv-loop μ-loop
 cast-word c = omega (arith, c .item-at .ensures .small)
 
 loop-again : tie.Need-loop-again Inv-loop μ-loop
-unfolding symbols
 loop-again c = let a = c .before .before in let s = a .before .before .before in let n : ℕ = length (now (s .args .word)) in
     filled-more 0 _ (items-from-length symbols symbols-fine n _) (search needs) (c .item-at .ensures .is n (search needs)) (a .loop .inv)
 

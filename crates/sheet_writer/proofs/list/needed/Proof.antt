@@ -6,8 +6,6 @@ use Prim.Native.Nat.{ℕ, _+_, _-_, _≤_}
 use lib.ListN.{length, getD, drop, length-drop}
 use lib.Seq.{drop-length}
 use denote.Ref.{now}
-use Rattle.code.specs.Code.{width}
-use Rattle.sheet.specs.Sheet.{reliabilities, question-long}
 use Rattle.sheet.proofs.Judging.{question-long-le}
 use Rattle.sheet_writer.specs.Within.{words-needed}
 use Rattle.sheet_writer.proofs.Lists.{needed-step, needed-le}
@@ -22,15 +20,10 @@ Inv-loop codes total₀ i₀ total i = (i ≤ length codes) × (total ≡ words-
 abbrev μ-loop : tie.MeasureT-loop
 μ-loop codes total₀ i₀ total i = i
 
-words-of : (c : tie.After-question-words-of Inv-loop μ-loop) → let a = c .before .before .before in
-    c .question-words-of .result ≡ question-long reliabilities (width (getD (now (a .before .before .args .codes)) (a .loop .i - 1) 0))
-unfolding reliabilities
-words-of c = c .question-words-of .ensures
-
 few : (c : tie.After-question-words-of Inv-loop μ-loop) → c .question-words-of .result ≤ 23
 few c =
     let a = c .before .before .before in
-    omega (arith, words-of c, question-long-le (getD (now (a .before .before .args .codes)) (a .loop .i - 1) 0))
+    omega (arith, c .question-words-of .ensures, question-long-le (getD (now (a .before .before .args .codes)) (a .loop .i - 1) 0))
 
 loop-holds : tie.Need-loop-holds Inv-loop μ-loop
 unfolding words-needed
@@ -44,7 +37,7 @@ loop-again : tie.Need-loop-again Inv-loop μ-loop
 loop-again c = let a = c .before .before .before in let cs : List ℕ = now (a .before .before .args .codes) in
     let e : a .loop .i - 1 + 1 ≡ a .loop .i = omega arith in (
       omega (arith, a .loop .inv .0),
-      sym (needed-step cs (a .loop .i - 1) (omega (arith, a .loop .inv .0)) ∙ rw e (omega (arith, words-of c, a .loop .inv .1))),
+      sym (needed-step cs (a .loop .i - 1) (omega (arith, a .loop .inv .0)) ∙ rw e (omega (arith, c .question-words-of .ensures, a .loop .inv .1))),
     )
 
 returns : tie.Need-returns Inv-loop μ-loop

@@ -2,7 +2,7 @@
 -- Assumes nothing.
 use mathlib.Core.Path.{_≡_, refl, sym, ap, _∙_, subst}
 use mathlib.Core.List.{List}
-use Prim.Native.Nat.{ℕ, _+_, _*_, _-_, _<_, _≤_}
+use Prim.Native.Nat.{ℕ, _*_, _-_, _<_, _≤_}
 use lib.ListN.{length}
 use denote.Ref.{now}
 use Rattle.field.specs.Field.{width-good}
@@ -57,7 +57,7 @@ returns-2 c = let k = c .before .before in let e = k .before .before in let s = 
     ∙ sym (word-row _ _ _ _ _ _ (e .if1 .left) (subst (λ (x : ℕ). a .j ≤ x) (size k) (c .before .if2 .taken)))
 
 items-word-requires-2 : tie.Need-items-word-requires-2
-unfolding question symbols
+unfolding question
 items-word-requires-2 c κs = let k = c .before in let s = k .before .before .before .before in let a = s .args in (
   packs-symbols (width (a .code)) (now (a .row)) (now (a .word)) (width-le (a .code) (good s .known)) (good s .row-fine) (good s .word-fine),
   (
@@ -69,7 +69,6 @@ items-word-requires-2 c κs = let k = c .before in let s = k .before .before .be
 )
 
 returns-3 : tie.Need-returns-3
-unfolding symbols
 returns-3 c = let k = c .before .before in let s = k .before .before .before .before in let a = s .args in
     c .items-word2 .ensures ∙ ap (λ (l : List ℕ). items-word symbols l (a .j - 1 - k .row-words-of .result)) (items-symbols symbols (now (a .row)) (now (a .word)) refl)
     ∙ ap (λ (x : ℕ). items-word symbols (now (a .word)) (a .j - 1 - x)) (size k)
