@@ -12,7 +12,7 @@ use lib.Seq.{drop-drop}
 use lib.IntN.{ℤ}
 use Rattle.code.specs.Code.{width, long}
 use Rattle.code.specs.Bits.{row-long}
-use Rattle.sheet.specs.Sheet.{Question, most, sheet-refusal, question-in, questions-from, questions, kind, head-code, head-kind, after, as-words}
+use Rattle.sheet.specs.Sheet.{Question, reliabilities, most, sheet-refusal, question-in, questions-from, questions, kind, head-code, head-kind, after, as-words}
 use Rattle.sheet_reader.specs.declared.Step.{Step}
 use Rattle.sheet_reader.specs.declared.Yield.{Yield}
 use Rattle.sheet_reader.specs.declared.Yield.the-variants.{Found, NoneLeft, Refused}
@@ -24,9 +24,9 @@ few : (k : ℕ) (ws : List ℕ) → length (questions-from k ws) ≤ k
 unfolding questions-from
 few zero ws = omega arith
 few (suc k) [] = omega arith
-few (suc k) (w ∷ ws) = by (eqb (kind w) head-kind) (few k (after (width (head-code w)) ws))
+few (suc k) (w ∷ ws) = by (eqb (kind w) head-kind) (few k (after reliabilities (width (head-code w)) ws))
   where
-    by : (t : Bool) → length (questions-from k (after (width (head-code w)) ws)) ≤ k → length (cond t (question-in w ws ∷ questions-from k (after (width (head-code w)) ws)) []) ≤ suc k
+    by : (t : Bool) → length (questions-from k (after reliabilities (width (head-code w)) ws)) ≤ k → length (cond t (question-in reliabilities w ws ∷ questions-from k (after reliabilities (width (head-code w)) ws)) []) ≤ suc k
     by true h = omega arith
     by false h = omega arith
 

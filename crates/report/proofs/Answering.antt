@@ -16,12 +16,12 @@ use Rattle.decoder.specs.declared.Decoding.{Decoding}
 use Rattle.marker.specs.declared.Mark.{Mark}
 use Rattle.decoder.specs.Calls.{decode-refusal, Decode-says}
 use Rattle.marker.specs.Calls.{mark-refusal, Mark-says}
-use Rattle.sheet.specs.Sheet.{question-good}
+use Rattle.sheet.specs.Sheet.{question, question-good}
 use Rattle.sheet.proofs.Trips.{good-parts}
 use Rattle.text.specs.Text.{question-line}
 use Rattle.text.specs.Within.{Written}
 use Rattle.report.specs.Calls.{line-most}
-use Rattle.report.specs.Within.{question, Answered, Put-line}
+use Rattle.report.specs.Within.{Answered, Put-line}
 use Rattle.report.proofs.Bounds.{Fine, line-fits}
 
 done : (refusal r : ℕ) (D K : Type 0) → refusal ≡ 0 → Outcome refusal r D K → D

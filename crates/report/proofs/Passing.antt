@@ -15,7 +15,7 @@ use lib.IntN.{ℤ}
 use Rattle.field.specs.Field.{width-good}
 use Rattle.code.specs.Code.{width, long}
 use Rattle.code.specs.Bits.{row-long}
-use Rattle.sheet.specs.Sheet.{Question, head-kind, kind, head-code, low, as-words, question-in, question-good, all-good, sheet-refusal, questions}
+use Rattle.sheet.specs.Sheet.{Question, question, head-kind, kind, head-code, low, as-words, question-in, question-good, all-good, sheet-refusal, questions}
 use Rattle.sheet.specs.Promise.{all-bytes, Read-written}
 use Rattle.sheet.proofs.Items.{both}
 use Rattle.sheet.proofs.Trips.{read-written}
@@ -29,7 +29,7 @@ use Rattle.sheet_reader.proofs.Order.{Done, More, cases}
 use Rattle.text.proofs.Writing.{nothing, then}
 use Rattle.report.specs.Listing.{Line, Lines}
 use Rattle.report.specs.Calls.{line-most}
-use Rattle.report.specs.Within.{question, Put-line, Put-lines, Asked, Lengths}
+use Rattle.report.specs.Within.{Put-line, Put-lines, Asked, Lengths}
 
 -- ---- one question
 pub record Read (bs : List ℕ) (at : ℕ) (s : Step) (rs : List ℤ) (ws : List ℕ) : Type 0 where

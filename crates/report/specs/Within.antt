@@ -15,9 +15,6 @@ use Rattle.report.specs.declared.Place.{Place}
 use Rattle.report.specs.Listing.{Line, Lines}
 use Rattle.report.specs.Calls.{line-most}
 
-unfoldable pub question : (code number : ℕ) → (row : List ℤ) → (word : List ℕ) → Question
-question c n rs ws = record { code = c; number = n; row = rs; word = ws }
-
 -- a row was decoded, whichever best word was found
 pub record Answered (code : ℕ) (row : List ℤ) (best : ℤ) (soft : List ℤ) : Type 0 where
   pub word : List ℕ

@@ -6,10 +6,10 @@ ghost use Prim.Native.Nat.{ℕ, _+_, _*_, _≤_};
 ghost use lib.ListN.{length, getD};
 ghost use Rattle.code.specs.Code.{width, long};
 ghost use Rattle.code.specs.Bits.{row-long};
-ghost use Rattle.sheet.specs.Sheet.{as-words, head-code, question-good, sheet-refusal, questions};
+ghost use Rattle.sheet.specs.Sheet.{as-words, head-code, question, question-good, sheet-refusal, questions};
 ghost use Rattle.sheet_reader.specs.Within.{question-here};
 ghost use Rattle.report.specs.Calls.{line-most, List-says};
-ghost use Rattle.report.specs.Within.{question, Answered, Asked, Lengths, Passed, Accepted, Put-line, Put-lines};
+ghost use Rattle.report.specs.Within.{Answered, Asked, Lengths, Passed, Accepted, Put-line, Put-lines};
 
 // 0 and the number of bytes of the text, or the number of a refusal and 0.
 #[repr(C)]

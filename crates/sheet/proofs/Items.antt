@@ -4,7 +4,7 @@ use mathlib.Core.Path.{_≡_, refl, sym, ap, ap₂, _∙_, subst}
 use mathlib.Core.Logic.{_⊎_, inl, inr}
 use mathlib.Core.Bool.{Bool, true, false, _&&_, not, cond, false≢true}
 use mathlib.Core.List.{List, [], _∷_, _++_, append-nil}
-use Prim.Native.Nat.{ℕ, zero, suc, _+_, _*_, _-_, _^_, _<_, _≤_, min}
+use Prim.Native.Nat.{ℕ, zero, suc, _*_, _-_, _^_, _<_, _≤_, min}
 use native.Mathlib.Nat.{div-eq-of-lt, lt-of-lt-of-le, min-eq-left, mul-suc, le-trans, pow-le-pow-right, min-le-left, min-zero, zero-sub, mul-zero, sub-eq-zero-of-le}
 use native.Mathlib.Omega.{arith}
 use borrow.Author.Tests.{eqb-true, eq-eqb, not-false, leb-true, leb-false}
@@ -14,6 +14,7 @@ use lib.Seq.{take-all, take-at, drop-at}
 use Rattle.code.proofs.Words.{Below}
 use Rattle.sheet.specs.declared.Form.{Form}
 use Rattle.sheet.specs.Sheet.{digits, packed, worded, kind, body, used, items, unused, items-words, first, word-refusal, items-refusal, items-in}
+use Rattle.sheet.specs.Within.{Fine}
 use Rattle.sheet.proofs.Digits.{digits-length, digits-below, digits-packed, packed-digits, packed-lt}
 
 -- what a passed test leaves
@@ -68,10 +69,9 @@ unfolding items-words
 items-words-length f zero ds = refl
 items-words-length f (suc k) ds = ap suc (items-words-length f k (drop (f .each) ds))
 
--- a form, the refusal that a bad item meets, and what is asked of items
+-- a form, and what is asked of items
 pub record Tested (f : Form) (good : List ℕ → Bool) : Type 0 where
-  pub some : 0 < f .base
-  pub fits : f .base ^ f .each ≤ 2 ^ 28
+  pub fine : Fine f
   pub none : good [] ≡ true
   pub splits : (a b : List ℕ) → good (a ++ b) ≡ (good a && good b)
 
@@ -138,20 +138,20 @@ module _ (f : Form) (good : List ℕ → Bool) (t : Tested f good) where
       let b : Below (f .base) (take (f .each) ds) = below-parts (f .base) (f .each) ds g .0 in
       let l : length (take (f .each) ds) ≡ min (f .each) (length ds) = length-take (f .each) ds in
       let n : v < f .base ^ min (f .each) (length ds) = subst (λ (x : ℕ). v < f .base ^ x) l (packed-lt (f .base) (take (f .each) ds) b) in
-      let m : v < 2 ^ 28 = lt-of-lt-of-le n (le-trans (pow-le-pow-right (t .some) (min-le-left (f .each) (length ds))) (t .fits)) in
+      let m : v < 2 ^ 28 = lt-of-lt-of-le n (le-trans (pow-le-pow-right (t .fine .some) (min-le-left (f .each) (length ds))) (t .fine .fits)) in
       let e : body (worded (f .kind) v) ≡ v = body-worded (f .kind) v m in
       record {
         small = m;
         right = kind-worded (f .kind) v m;
         clear = rw e (div-eq-of-lt n);
-        same = rw e (rw (← l) (digits-packed (f .base) (t .some) (take (f .each) ds) b));
+        same = rw e (rw (← l) (digits-packed (f .base) (t .fine .some) (take (f .each) ds) b));
       }
 
-  pub items-words-below : f .kind < 16 → (k : ℕ) (ds : List ℕ) → Below (f .base) ds → Below (2 ^ 32) (items-words f k ds)
+  pub items-words-below : (k : ℕ) (ds : List ℕ) → Below (f .base) ds → Below (2 ^ 32) (items-words f k ds)
   unfolding items-words worded
-  items-words-below h zero ds g = tt
-  items-words-below h (suc k) ds g =
-      (omega (arith, word ds g .small), items-words-below h k (drop (f .each) ds) (below-parts (f .base) (f .each) ds g .1))
+  items-words-below zero ds g = tt
+  items-words-below (suc k) ds g =
+      (omega (arith, word ds g .small, t .fine .kinds), items-words-below k (drop (f .each) ds) (below-parts (f .base) (f .each) ds g .1))
 
   fine-parts : (ds : List ℕ) → good ds ≡ true → (good (take (f .each) ds) ≡ true) × (good (drop (f .each) ds) ≡ true)
   fine-parts ds h =
@@ -198,5 +198,5 @@ module _ (f : Form) (good : List ℕ → Bool) (t : Tested f good) where
             rw (part f n w k ws .0, part f n w k ws .1)
             (ap₂ _∷_ (ap₂ worded (sym right) (packed-digits (f .base) (used f n) (body w) clear) ∙ worded-again w) (r .again));
         fine = t .splits (items f n w) (items-in f k (n - f .each) ws) ∙ ap₂ _&&_ fine (r .fine);
-        inside = below-join (f .base) (items f n w) (items-in f k (n - f .each) ws) (digits-below (f .base) (t .some) (used f n) (body w)) (r .inside);
+        inside = below-join (f .base) (items f n w) (items-in f k (n - f .each) ws) (digits-below (f .base) (t .fine .some) (used f n) (body w)) (r .inside);
       }

@@ -19,11 +19,12 @@ use Rattle.code.specs.Bits.{row-long}
 use Rattle.code.proofs.Words.{Below}
 use Rattle.metric.specs.Row.{bound, reliability-good, row-good}
 use Rattle.sheet.specs.declared.Form.{Form}
-use Rattle.sheet.specs.Sheet.{reliabilities, symbols, signed-of, row-of, digits, kind, body, head-code, low, head-kind, count, row-words, symbol-words, row-refusal, symbol-refusal, after-row, end-kind, most, used, items, first, word-refusal, items-refusal, question-refusal, end-refusal, next-refusal, rest-refusal, after, questions-from, question-in, Question, as-words, sheet-refusal, questions}
-use Rattle.sheet.specs.Steps.{outside, head-refusal}
+use Rattle.sheet.specs.Sheet.{reliabilities, signed-of, row-of, digits, kind, body, head-code, low, head-kind, count, row-words, symbol-words, question-long, row-refusal, symbol-refusal, after-row, end-kind, most, used, items, first, word-refusal, items-refusal, question-refusal, end-refusal, next-refusal, rest-refusal, after, questions-from, question-in, Question, as-words, sheet-refusal, questions}
+use Rattle.sheet.specs.Within.{Fine, outside, head-refusal}
 use Rattle.sheet.specs.Calls.{judgement, judged}
 use Rattle.sheet.proofs.Digits.{digits-below}
 use Rattle.sheet.proofs.Items.{held}
+use Rattle.sheet.proofs.Forms.{count-le}
 use Rattle.sheet.proofs.Bytes.{as-words-length}
 use Rattle.sheet.proofs.Scan.{first-some, first-next}
 
@@ -52,10 +53,10 @@ reliability-outside d = by (ltb d 128) refl
     by true e = sym (le-leb d 127 (omega (arith, ltb-true d 128 e)))
     by false e = high (leb 129 d) refl (ltb-false d 128 e)
 
-pub row-outside : (ds : List ℕ) → outside 128 129 ds ≡ row-good (row-of ds)
-unfolding outside row-good row-of reliabilities
-row-outside [] = refl
-row-outside (d ∷ ds) = ap₂ _&&_ (reliability-outside d) (row-outside ds)
+pub row-outside : (f : Form) → f .base ≡ 256 → (ds : List ℕ) → outside 128 129 ds ≡ row-good (row-of f ds)
+unfolding outside row-good row-of
+row-outside f e [] = refl
+row-outside f e (d ∷ ds) = ap₂ _&&_ (reliability-outside d ∙ ap (λ (b : ℕ). reliability-good (signed-of b d)) (sym e)) (row-outside f e ds)
 
 or-false : (b : Bool) → (b || false) ≡ b
 or-false true = refl
@@ -88,11 +89,11 @@ module _ (w : ℕ) (ws : List ℕ) where
   tail-end (suc k) e = rw (e, add-zero)
 
   rest-step : (left : ℕ) → (kind w ≡ end-kind → ⊥) →
-      rest-refusal left (w ∷ ws) ≡ first (head-refusal left w ws) (rest-refusal (left - 1) (after (width (head-code w)) ws))
+      rest-refusal left (w ∷ ws) ≡ first (head-refusal left w ws) (rest-refusal (left - 1) (after reliabilities (width (head-code w)) ws))
   unfolding rest-refusal next-refusal head-refusal first
   rest-step zero n = rw (ne-eqb (kind w) end-kind n) (by (eqb (kind w) head-kind))
     where
-      by : (t : Bool) → cond t 12 10 ≡ first (cond t (cond true 12 (question-refusal (head-code w) ws)) 10) (rest-refusal (0 - 1) (after (width (head-code w)) ws))
+      by : (t : Bool) → cond t 12 10 ≡ first (cond t (cond true 12 (question-refusal reliabilities (head-code w) ws)) 10) (rest-refusal (0 - 1) (after reliabilities (width (head-code w)) ws))
       by true = refl
       by false = refl
   rest-step (suc k) n = rw (ne-eqb (kind w) end-kind n, k-back, eqb·suc-zero k) (by (eqb (kind w) head-kind))
@@ -101,8 +102,8 @@ module _ (w : ℕ) (ws : List ℕ) where
       k-back = omega arith
 
       by : (t : Bool) →
-          cond t (first (question-refusal (head-code w) ws) (rest-refusal k (after (width (head-code w)) ws))) 10
-          ≡ first (cond t (question-refusal (head-code w) ws) 10) (rest-refusal k (after (width (head-code w)) ws))
+          cond t (first (question-refusal reliabilities (head-code w) ws) (rest-refusal k (after reliabilities (width (head-code w)) ws))) 10
+          ≡ first (cond t (question-refusal reliabilities (head-code w) ws) 10) (rest-refusal k (after reliabilities (width (head-code w)) ws))
       by true = refl
       by false = refl
 
@@ -111,7 +112,7 @@ module _ (w : ℕ) (ws : List ℕ) where
   tail-refused left n h = judgement-of _ _ (rest-step left n ∙ first-some (head-refusal left w ws) _ h) h
 
   pub tail-more : (left : ℕ) → (kind w ≡ end-kind → ⊥) → head-refusal left w ws ≡ 0 → left ≤ most →
-      (0 < left) × (tail left (w ∷ ws) ≡ tail (left - 1) (after (width (head-code w)) ws))
+      (0 < left) × (tail left (w ∷ ws) ≡ tail (left - 1) (after reliabilities (width (head-code w)) ws))
   unfolding tail head-refusal questions-from
   tail-more zero n h l =
       let a = held (eqb (kind w) head-kind) 9 12 h in
@@ -119,10 +120,10 @@ module _ (w : ℕ) (ws : List ℕ) where
   tail-more (suc k) n h l =
       let a = held (eqb (kind w) head-kind) 9 _ h in
       let e : suc k - 1 ≡ k = omega arith in
-      let q : questions-from (suc k) (w ∷ ws) ≡ question-in w ws ∷ questions-from k (after (width (head-code w)) ws) = rw (a .0) in (
+      let q : questions-from (suc k) (w ∷ ws) ≡ question-in reliabilities w ws ∷ questions-from k (after reliabilities (width (head-code w)) ws) = rw (a .0) in (
         zero-lt-suc k,
-        ap₂ judgement (rest-step (suc k) n ∙ first-next (head-refusal (suc k) w ws) _ h ∙ ap (λ (x : ℕ). rest-refusal x (after (width (head-code w)) ws)) e)
-            (ap (λ (x : List Question). most - suc k + length x) q ∙ more (length (questions-from k (after (width (head-code w)) ws))))
+        ap₂ judgement (rest-step (suc k) n ∙ first-next (head-refusal (suc k) w ws) _ h ∙ ap (λ (x : ℕ). rest-refusal x (after reliabilities (width (head-code w)) ws)) e)
+            (ap (λ (x : List Question). most - suc k + length x) q ∙ more (length (questions-from k (after reliabilities (width (head-code w)) ws))))
             ∙ rw e,
       )
     where
@@ -157,17 +158,17 @@ module _ (left w : ℕ) (ws : List ℕ) where
   unfolding head-refusal head-kind
   one-too-many h l = rw (eq-eqb (kind w) 1 h, eq-eqb left 0 l)
 
-  pub head-more : kind w ≡ 1 → (left ≡ 0 → ⊥) → head-refusal left w ws ≡ question-refusal (head-code w) ws
+  pub head-more : kind w ≡ 1 → (left ≡ 0 → ⊥) → head-refusal left w ws ≡ question-refusal reliabilities (head-code w) ws
   unfolding head-refusal head-kind
   head-more h l = rw (eq-eqb (kind w) 1 h, ne-eqb left 0 l)
 
 -- a question
-module _ (c : ℕ) (ws : List ℕ) where
-  pub code-unknown : code-good c ≡ false → question-refusal c ws ≡ 1
+module _ (f : Form) (c : ℕ) (ws : List ℕ) where
+  pub code-unknown : code-good c ≡ false → question-refusal f c ws ≡ 1
   unfolding question-refusal
   code-unknown h = rw h
 
-  pub code-known : code-good c ≡ true → question-refusal c ws ≡ first (row-refusal (width c) ws) (symbol-refusal (width c) (drop (row-words (width c)) ws))
+  pub code-known : code-good c ≡ true → question-refusal f c ws ≡ first (row-refusal f (width c) ws) (symbol-refusal (width c) (drop (row-words f (width c)) ws))
   unfolding question-refusal after-row
   code-known h = rw h
 
@@ -188,20 +189,24 @@ pub long-le : (m : ℕ) → width-good m ≡ true → long m ≤ 15
 unfolding long
 long-le = widths (λ m. long m ≤ 15) (lit≤ tt) (lit≤ tt)
 
-pub row-words-le : (m : ℕ) → width-good m ≡ true → row-words m ≤ 20
-unfolding row-words count reliabilities row-long long
-row-words-le = widths (λ m. row-words m ≤ 20) (lit≤ tt) (lit≤ tt)
+pub row-words-le : (f : Form) → Fine f → (m : ℕ) → width-good m ≡ true → row-words f m ≤ 60
+unfolding row-words
+row-words-le f z m w = omega (arith, count-le f z (row-long m), row-long-le m w)
 
 pub symbol-words-le : (m : ℕ) → width-good m ≡ true → symbol-words m ≤ 3
-unfolding symbol-words count symbols long
+unfolding symbol-words count long
 symbol-words-le = widths (λ m. symbol-words m ≤ 3) (lit≤ tt) (lit≤ tt)
 
+pub question-long-le : (c : ℕ) → question-long reliabilities (width c) ≤ 23
+unfolding question-long row-words symbol-words count row-long long
+question-long-le c = widths (λ m. question-long reliabilities m ≤ 23) (lit≤ tt) (lit≤ tt) (width c) (width-fine c)
+
 -- one turn of the loop over questions, at a place
-pub past : (m at : ℕ) (ws : List ℕ) → after m (drop at ws) ≡ drop (at + (row-words m + symbol-words m)) ws
-unfolding after after-row
-past m at ws =
-    ap (drop (symbol-words m)) (drop-drop (row-words m) at ws) ∙ drop-drop (symbol-words m) (at + row-words m) ws
-    ∙ ap (λ (x : ℕ). drop x ws) (add-assoc at (row-words m) (symbol-words m))
+pub past : (f : Form) (m at : ℕ) (ws : List ℕ) → after f m (drop at ws) ≡ drop (at + question-long f m) ws
+unfolding after after-row question-long
+past f m at ws =
+    ap (drop (symbol-words m)) (drop-drop (row-words f m) at ws) ∙ drop-drop (symbol-words m) (at + row-words f m) ws
+    ∙ ap (λ (x : ℕ). drop x ws) (add-assoc at (row-words f m) (symbol-words m))
 
 module _ (bs : List ℕ) (left at : ℕ) (h : at < length bs / 4) where
   abbrev word-here : ℕ
@@ -222,16 +227,14 @@ module _ (bs : List ℕ) (left at : ℕ) (h : at < length bs / 4) where
   turn-refused n r = ap (tail left) here ∙ tail-refused word-here (drop (at + 1) (as-words bs)) left n r
 
   pub turn-more : (kind word-here ≡ 15 → ⊥) → head-refusal left word-here (drop (at + 1) (as-words bs)) ≡ 0 → left ≤ 200 →
-      (0 < left)
-      × (tail left (drop at (as-words bs))
-      ≡ tail (left - 1) (drop (at + (1 + (row-words (width (head-code word-here)) + symbol-words (width (head-code word-here))))) (as-words bs)))
+      (0 < left) × (tail left (drop at (as-words bs)) ≡ tail (left - 1) (drop (at + (1 + question-long reliabilities (width (head-code word-here)))) (as-words bs)))
   unfolding end-kind most
   turn-more n r l =
       let m = width (head-code word-here) in
       let t = tail-more word-here (drop (at + 1) (as-words bs)) left n r l in (
         t .0,
         ap (tail left) here ∙ t .1
-            ∙ ap (tail (left - 1)) (past m (at + 1) (as-words bs) ∙ ap (λ (x : ℕ). drop x (as-words bs)) (add-assoc at 1 (row-words m + symbol-words m))),
+            ∙ ap (tail (left - 1)) (past reliabilities m (at + 1) (as-words bs) ∙ ap (λ (x : ℕ). drop x (as-words bs)) (add-assoc at 1 (question-long reliabilities m))),
       )
 
 pub judged-whole : (bs : List ℕ) → length bs % 4 ≡ 0 → judged bs ≡ tail 200 (as-words bs)

@@ -10,30 +10,22 @@ use lib.IntN.{pos}
 use Rattle.code.specs.Code.{code-good, width, long, symbols-good}
 use Rattle.code.specs.Bits.{row-long}
 use Rattle.metric.specs.Row.{bound, reliability-good, row-good}
-use Rattle.sheet.specs.Sheet.{Question, reliabilities, symbols, end-kind, most, numbers, worded, count, row-words, symbol-words, question-words, all-words, written, questions, question-good, all-good}
+use Rattle.sheet.specs.Sheet.{Question, reliabilities, end-kind, most, numbers, worded, count, row-words, symbol-words, question-long, question-words, all-words, written, questions, question-good, all-good}
 use Rattle.sheet.specs.Promise.{sheet-most, Longest-sheet, Read-written, Written-read}
 use Rattle.sheet.proofs.Items.{items-words-length}
 use Rattle.sheet.proofs.Bytes.{bytes-length, bytes, as-bytes-below}
-use Rattle.sheet.proofs.Judging.{width-fine, row-words-le, symbol-words-le}
+use Rattle.sheet.proofs.Judging.{question-long-le}
 use Rattle.sheet.proofs.Trips.{written-read, read-written}
 
-question-length : (q : Question) → length (question-words q) ≡ suc (row-words (width (q .code))) + symbol-words (width (q .code))
-unfolding question-words
-question-length q = simp (length-append, items-words-length)
+question-length : (q : Question) → length (question-words reliabilities q) ≡ suc (question-long reliabilities (width (q .code)))
+unfolding question-words question-long
+question-length q = simp (length-append, items-words-length) (omega arith)
 
 words-le : (qs : List Question) → length (all-words qs) ≤ 24 * length qs
 unfolding all-words
 words-le [] = omega arith
 words-le (q ∷ qs) =
-    let m = width (q .code) in
-    omega (
-      arith,
-      length-append (question-words q) (all-words qs),
-      question-length q,
-      row-words-le m (width-fine (q .code)),
-      symbol-words-le m (width-fine (q .code)),
-      words-le qs,
-    )
+    omega (arith, length-append (question-words reliabilities q) (all-words qs), question-length q, question-long-le (q .code), words-le qs)
 
 written-length : (qs : List Question) → length (written qs) ≡ 4 * (length (all-words qs) + 1)
 unfolding written
@@ -51,10 +43,10 @@ longest-good zero = refl
 longest-good (suc n) = longest-good n
 
 longest-words : (n : ℕ) → length (all-words (replicate n longest)) ≡ 24 * n
-unfolding all-words longest width row-words symbol-words count reliabilities symbols row-long long
+unfolding all-words longest width question-long row-words symbol-words count row-long long
 longest-words zero = refl
 longest-words (suc n) =
-    omega (arith, length-append (question-words longest) (all-words (replicate n longest)), question-length longest, longest-words n)
+    omega (arith, length-append (question-words reliabilities longest) (all-words (replicate n longest)), question-length longest, longest-words n)
 
 pub longest-sheet : Longest-sheet
 unfolding sheet-most Read-written Written-read written most

@@ -14,7 +14,7 @@ use lib.ListN.{length, getD, drop, drop-of-length-le}
 use lib.Seq.{drop-cons}
 use Rattle.sheet.specs.declared.Form.{Form}
 use Rattle.sheet.specs.Sheet.{digits, kind, unused, items, count, first, word-refusal, items-refusal}
-use Rattle.sheet.specs.Steps.{outside}
+use Rattle.sheet.specs.Within.{outside}
 use Rattle.sheet.proofs.Items.{le-or-lt}
 
 pub above-step : (v b l : ℕ) → 0 < l → v / b ^ l ≡ v / b / b ^ (l - 1)

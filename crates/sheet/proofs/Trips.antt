@@ -57,7 +57,9 @@ use Rattle.sheet.specs.Sheet.{
 }
 use Rattle.sheet.specs.Promise.{Written-read, Read-written}
 use Rattle.sheet.proofs.Items.{Held, passed, held, first-none, both, below-join, items-words-below, kind-worded, body-worded, items-words-length, items-in-length, written-accepted, written-back, accepted-back}
-use Rattle.sheet.proofs.Forms.{row-tested, symbol-tested, items-below, row-back, items-back, row-items-length, row-of-length, symbols-below, row-room, symbol-room}
+use Rattle.sheet.specs.Within.{Fine}
+use Rattle.sheet.specs.declared.Form.{Form}
+use Rattle.sheet.proofs.Forms.{reliabilities-fine, reliabilities-wide, row-tested, symbol-tested, items-below, row-back, items-back, row-items-length, row-of-length, symbols-below, row-room, symbol-room}
 use Rattle.sheet.proofs.Bytes.{bytes-length, as-words-bytes, as-bytes-words}
 
 -- what a question that a sheet can hold has
@@ -118,66 +120,77 @@ module _ (k c n : ℕ) (hc : c < 16) (hn : n < 2 ^ 24) where
   unfolding low numbers
   head-low-is = rw (body-worded k (c * 2 ^ 24 + n) low-body) (omega arith)
 
+worded-lt : (k v : ℕ) → k < 16 → v < 2 ^ 28 → worded k v < 2 ^ 32
+unfolding worded
+worded-lt k v h l = omega arith
+
 -- A QUESTION THAT WAS WRITTEN, with anything after it
-abbrev row-part : Question → List ℕ
-row-part q = items-words reliabilities (row-words (width (q .code))) (row-items (q .row))
+abbrev row-part : Form → Question → List ℕ
+row-part f q = items-words f (row-words f (width (q .code))) (row-items f (q .row))
 
 abbrev word-part : Question → List ℕ
 word-part q = items-words symbols (symbol-words (width (q .code))) (q .word)
 
-module _ (q : Question) (g : Good q) (rest : List ℕ) where
-  past-row : after-row (width (q .code)) (row-part q ++ (word-part q ++ rest)) ≡ word-part q ++ rest
+module _ (f : Form) (z : Fine f) (wide : 256 ≤ f .base) (q : Question) (g : Good q) (rest : List ℕ) where
+  abbrev m : ℕ
+  m = width (q .code)
+
+  abbrev whole : List ℕ
+  whole = row-part f q ++ (word-part q ++ rest)
+
+  past-row : after-row f m whole ≡ word-part q ++ rest
   unfolding after-row
-  past-row = drop-at (row-part q) (word-part q ++ rest) (row-words (width (q .code))) (items-words-length reliabilities (row-words (width (q .code))) (row-items (q .row)))
+  past-row = drop-at (row-part f q) (word-part q ++ rest) (row-words f m) (items-words-length f (row-words f m) (row-items f (q .row)))
 
-  past-question : after (width (q .code)) (row-part q ++ (word-part q ++ rest)) ≡ rest
+  past-question : after f m whole ≡ rest
   unfolding after
-  past-question =
-      rw past-row (drop-at (word-part q) rest (symbol-words (width (q .code))) (items-words-length symbols (symbol-words (width (q .code))) (q .word)))
+  past-question = rw past-row (drop-at (word-part q) rest (symbol-words m) (items-words-length symbols (symbol-words m) (q .word)))
 
-  row-below : Below (reliabilities .base) (row-items (q .row))
-  row-below = items-below (q .row) (g .row-fine)
+  row-below : Below (f .base) (row-items f (q .row))
+  row-below = items-below f (q .row) (omega arith) (g .row-fine)
 
   word-below : Below (symbols .base) (q .word)
-  word-below = symbols-below (width (q .code)) (q .word) (width-le (q .code) (g .known)) (g .word-fine)
+  word-below = symbols-below m (q .word) (width-le (q .code) (g .known)) (g .word-fine)
 
-  row-accepted : row-refusal (width (q .code)) (row-part q ++ (word-part q ++ rest)) ≡ 0
+  row-accepted : row-refusal f m whole ≡ 0
   unfolding row-refusal
   row-accepted =
-      rw (← g .row-length, ← row-items-length (q .row))
-      (written-accepted reliabilities (λ ds. row-good (row-of ds)) row-tested 5 (row-words (width (q .code))) (row-items (q .row)) (word-part q ++ rest)
-      row-below (ap row-good (row-back (q .row) (g .row-fine)) ∙ g .row-fine))
+      rw (← g .row-length, ← row-items-length f (q .row))
+      (written-accepted f _ (row-tested f z) 5 (row-words f m) (row-items f (q .row)) (word-part q ++ rest) row-below (ap row-good (row-back f (q .row) wide (g .row-fine)) ∙ g .row-fine))
 
-  word-accepted : symbol-refusal (width (q .code)) (word-part q ++ rest) ≡ 0
+  word-accepted : symbol-refusal m (word-part q ++ rest) ≡ 0
   unfolding symbol-refusal
-  word-accepted =
-      rw (← g .word-length)
-      (written-accepted symbols (symbols-good (width (q .code))) (symbol-tested (width (q .code))) 6 (symbol-words (width (q .code))) (q .word) rest
-      word-below (g .word-fine))
+  word-accepted = rw (← g .word-length) (written-accepted symbols (symbols-good m) (symbol-tested m) 6 (symbol-words m) (q .word) rest word-below (g .word-fine))
 
-  question-accepted : question-refusal (q .code) (row-part q ++ (word-part q ++ rest)) ≡ 0
+  question-accepted : question-refusal f (q .code) whole ≡ 0
   unfolding question-refusal first
   question-accepted = rw (g .known, row-accepted, past-row) word-accepted
 
-  row-read : row-of (items-in reliabilities (row-words (width (q .code))) (row-long (width (q .code))) (row-part q ++ (word-part q ++ rest))) ≡ q .row
+  row-read : row-of f (items-in f (row-words f m) (row-long m) whole) ≡ q .row
   row-read =
-      let room : length (row-items (q .row)) ≤ reliabilities .each * row-words (width (q .code)) =
-      omega (arith, row-items-length (q .row), g .row-length, row-room (width (q .code))) in
-      rw (← g .row-length, ← row-items-length (q .row))
-      (ap row-of (written-back reliabilities (λ ds. row-good (row-of ds)) row-tested (row-words (width (q .code))) (row-items (q .row)) (word-part q ++ rest) row-below room)
-      ∙ row-back (q .row) (g .row-fine))
+      let room : length (row-items f (q .row)) ≤ f .each * row-words f m = omega (arith, row-items-length f (q .row), g .row-length, row-room f z m) in
+      rw (← g .row-length, ← row-items-length f (q .row))
+      (ap (row-of f) (written-back f _ (row-tested f z) (row-words f m) (row-items f (q .row)) (word-part q ++ rest) row-below room) ∙ row-back f (q .row) wide (g .row-fine))
 
-  word-read : items-in symbols (symbol-words (width (q .code))) (long (width (q .code))) (word-part q ++ rest) ≡ q .word
+  word-read : items-in symbols (symbol-words m) (long m) (word-part q ++ rest) ≡ q .word
   word-read =
-      let room : length (q .word) ≤ symbols .each * symbol-words (width (q .code)) = omega (arith, g .word-length, symbol-room (width (q .code))) in
-      rw (← g .word-length)
-      (written-back symbols (symbols-good (width (q .code))) (symbol-tested (width (q .code))) (symbol-words (width (q .code))) (q .word) rest word-below room)
+      let room : length (q .word) ≤ symbols .each * symbol-words m = omega (arith, g .word-length, symbol-room m) in
+      rw (← g .word-length) (written-back symbols (symbols-good m) (symbol-tested m) (symbol-words m) (q .word) rest word-below room)
 
-  question-read : question-in (worded head-kind (q .code * numbers + q .number)) (row-part q ++ (word-part q ++ rest)) ≡ q
+  question-read : question-in f (worded head-kind (q .code * numbers + q .number)) whole ≡ q
   unfolding question-in
   question-read =
       let hc = code-lt (q .code) (g .known) in
       rw (head-code-is head-kind (q .code) (q .number) hc (g .small), head-low-is head-kind (q .code) (q .number) hc (g .small), row-read, past-row, word-read)
+
+  -- every written word has 32 bits
+  question-below : Below (2 ^ 32) (question-words f q)
+  unfolding question-words head-kind numbers
+  question-below = (
+    worded-lt 1 (q .code * 2 ^ 24 + q .number) (lit< tt) (omega (arith, code-lt (q .code) (g .known), g .small)),
+    below-join (2 ^ 32) (row-part f q) (word-part q) (items-words-below f _ (row-tested f z) (row-words f m) (row-items f (q .row)) row-below)
+        (items-words-below symbols (symbols-good m) (symbol-tested m) (symbol-words m) (q .word) word-below),
+  )
 
 -- a rest of a sheet that is accepted and holds these questions
 record Read (left : ℕ) (ws : List ℕ) (qs : List Question) : Type 0 where
@@ -209,27 +222,27 @@ end-read (suc k) n h e = record {
   same = rw (plain-kind 15 n (omega arith));
 }
 
-head-accepted : (k w : ℕ) (ws : List ℕ) → kind w ≡ head-kind → question-refusal (head-code w) ws ≡ 0 → rest-refusal (suc k) (w ∷ ws) ≡ rest-refusal k (after (width (head-code w)) ws)
+head-accepted : (k w : ℕ) (ws : List ℕ) → kind w ≡ head-kind → question-refusal reliabilities (head-code w) ws ≡ 0 → rest-refusal (suc k) (w ∷ ws) ≡ rest-refusal k (after reliabilities (width (head-code w)) ws)
 unfolding rest-refusal next-refusal first head-kind end-kind
 head-accepted k w ws e r = rw (e, r)
 
-head-read : (k w : ℕ) (ws : List ℕ) → kind w ≡ head-kind → questions-from (suc k) (w ∷ ws) ≡ question-in w ws ∷ questions-from k (after (width (head-code w)) ws)
+head-read : (k w : ℕ) (ws : List ℕ) → kind w ≡ head-kind → questions-from (suc k) (w ∷ ws) ≡ question-in reliabilities w ws ∷ questions-from k (after reliabilities (width (head-code w)) ws)
 unfolding questions-from head-kind
 head-read k w ws e = rw e
 
 -- one question more in front
-question-front : (q : Question) (k : ℕ) (rest : List ℕ) (qs : List Question) → Good q → Read k rest qs → Read (suc k) (question-words q ++ rest) (q ∷ qs)
+question-front : (q : Question) (k : ℕ) (rest : List ℕ) (qs : List Question) → Good q → Read k rest qs → Read (suc k) (question-words reliabilities q ++ rest) (q ∷ qs)
 unfolding question-words
 question-front q k rest qs g r =
     let w : ℕ = worded head-kind (q .code * numbers + q .number) in
-    let ws : List ℕ = row-part q ++ (word-part q ++ rest) in
+    let ws : List ℕ = row-part reliabilities q ++ (word-part q ++ rest) in
     let hk : kind w ≡ head-kind = head-kind-is head-kind (q .code) (q .number) (code-lt (q .code) (g .known)) (g .small) in
     let hc : head-code w ≡ q .code = head-code-is head-kind (q .code) (q .number) (code-lt (q .code) (g .known)) (g .small) in
-    let past : after (width (head-code w)) ws ≡ rest = rw hc (past-question q g rest) in
-    rw (append-assoc (row-part q) (word-part q) rest)
+    let past : after reliabilities (width (head-code w)) ws ≡ rest = rw hc (past-question reliabilities reliabilities-fine reliabilities-wide q g rest) in
+    rw (append-assoc (row-part reliabilities q) (word-part q) rest)
     (record {
-      accepted = head-accepted k w ws hk (rw hc (question-accepted q g rest)) ∙ ap (rest-refusal k) past ∙ r .accepted;
-      same = head-read k w ws hk ∙ ap₂ _∷_ (question-read q g rest) (ap (questions-from k) past ∙ r .same);
+      accepted = head-accepted k w ws hk (rw hc (question-accepted reliabilities reliabilities-fine reliabilities-wide q g rest)) ∙ ap (rest-refusal k) past ∙ r .accepted;
+      same = head-read k w ws hk ∙ ap₂ _∷_ (question-read reliabilities reliabilities-fine reliabilities-wide q g rest) (ap (questions-from k) past ∙ r .same);
     })
 
 written-from : (qs : List Question) (left n : ℕ) → all-good qs ≡ true → left ≤ most → length qs ≤ left → n ≡ most - left + length qs →
@@ -239,30 +252,15 @@ written-from [] left n g h l e = end-read left n h (omega arith)
 written-from (q ∷ qs) zero n g h l e = absurd (omega arith)
 written-from (q ∷ qs) (suc k) n g h l e =
     let p = both (question-good q) (all-good qs) g in
-    rw (append-assoc (question-words q) (all-words qs) (worded end-kind n ∷ []))
+    rw (append-assoc (question-words reliabilities q) (all-words qs) (worded end-kind n ∷ []))
     (question-front q k (all-words qs ++ worded end-kind n ∷ []) qs (good-parts q (p .0)) (written-from qs k n (p .1) (omega arith) (omega arith) (omega arith)))
-
--- every written word has 32 bits
-worded-lt : (k v : ℕ) → k < 16 → v < 2 ^ 28 → worded k v < 2 ^ 32
-unfolding worded
-worded-lt k v h l = omega arith
-
-question-below : (q : Question) → Good q → Below (2 ^ 32) (question-words q)
-unfolding question-words head-kind numbers reliabilities symbols
-question-below q g =
-    let hc = code-lt (q .code) (g .known) in (
-      worded-lt 1 (q .code * 2 ^ 24 + q .number) (lit< tt) (omega (arith, hc, g .small)),
-      below-join (2 ^ 32) (row-part q) (word-part q)
-          (items-words-below reliabilities (λ ds. row-good (row-of ds)) row-tested (lit< tt) (row-words (width (q .code))) (row-items (q .row)) (row-below q g []))
-          (items-words-below symbols (symbols-good (width (q .code))) (symbol-tested (width (q .code))) (lit< tt) (symbol-words (width (q .code))) (q .word) (word-below q g [])),
-    )
 
 all-below : (qs : List Question) → all-good qs ≡ true → Below (2 ^ 32) (all-words qs)
 unfolding all-good all-words
 all-below [] g = tt
 all-below (q ∷ qs) g =
     let p = both (question-good q) (all-good qs) g in
-    below-join (2 ^ 32) (question-words q) (all-words qs) (question-below q (good-parts q (p .0))) (all-below qs (p .1))
+    below-join (2 ^ 32) (question-words reliabilities q) (all-words qs) (question-below reliabilities reliabilities-fine reliabilities-wide q (good-parts q (p .0)) []) (all-below qs (p .1))
 
 pub written-read : Written-read
 unfolding Written-read written sheet-refusal questions most end-kind
@@ -299,50 +297,48 @@ unfolding head-code low numbers kind body worded
 head-back w k = omega arith
 
 -- what an accepted question has
-record Asked (w : ℕ) (ws : List ℕ) : Type 0 where
+record Asked (f : Form) (w : ℕ) (ws : List ℕ) : Type 0 where
   known : code-good (head-code w) ≡ true
-  row-held : Held reliabilities (λ ds. row-good (row-of ds)) (row-words (width (head-code w))) (row-long (width (head-code w))) ws
-  word-held : Held symbols (symbols-good (width (head-code w))) (symbol-words (width (head-code w))) (long (width (head-code w))) (after-row (width (head-code w)) ws)
+  row-held : Held f (λ ds. row-good (row-of f ds)) (row-words f (width (head-code w))) (row-long (width (head-code w))) ws
+  word-held : Held symbols (symbols-good (width (head-code w))) (symbol-words (width (head-code w))) (long (width (head-code w))) (after-row f (width (head-code w)) ws)
 
-asked : (w : ℕ) (ws : List ℕ) → question-refusal (head-code w) ws ≡ 0 → Asked w ws
-unfolding question-refusal row-refusal symbol-refusal
-asked w ws e =
-    let m = width (head-code w) in
-    let a = passed (not (code-good (head-code w))) 0 _ e in
-    let b = first-none _ _ (a .1) in
-    record {
-      known = not-false _ (a .0);
-      row-held = accepted-back reliabilities (λ ds. row-good (row-of ds)) row-tested 4 (row-words m) (row-long m) ws (b .0);
-      word-held = accepted-back symbols (symbols-good m) (symbol-tested m) 5 (symbol-words m) (long m) (after-row m ws) (b .1);
-    }
+module _ (f : Form) (z : Fine f) (w : ℕ) (ws : List ℕ) where
+  abbrev head-width : ℕ
+  head-width = width (head-code w)
 
-asked-good : (w : ℕ) (ws : List ℕ) → Asked w ws → Good (question-in w ws)
-unfolding question-in low numbers
-asked-good w ws a =
-    let m = width (head-code w) in
-    record {
-      known = a .known;
-      small = mod-lt (body w) (lit< tt);
-      row-length =
-          row-of-length (items-in reliabilities (row-words m) (row-long m) ws)
-          ∙ items-in-length reliabilities (row-words m) (row-long m) ws (row-room m);
-      row-fine = a .row-held .fine;
-      word-length = items-in-length symbols (symbol-words m) (long m) (after-row m ws) (symbol-room m);
-      word-fine = a .word-held .fine;
-    }
+  asked : question-refusal f (head-code w) ws ≡ 0 → Asked f w ws
+  unfolding question-refusal row-refusal symbol-refusal
+  asked e =
+      let a = passed (not (code-good (head-code w))) 0 _ e in
+      let b = first-none _ _ (a .1) in
+      record {
+        known = not-false _ (a .0);
+        row-held = accepted-back f _ (row-tested f z) 4 (row-words f head-width) (row-long head-width) ws (b .0);
+        word-held = accepted-back symbols (symbols-good head-width) (symbol-tested head-width) 5 (symbol-words head-width) (long head-width) (after-row f head-width ws) (b .1);
+      }
 
-asked-again : (w : ℕ) (ws : List ℕ) → kind w ≡ head-kind → Asked w ws → question-words (question-in w ws) ++ after (width (head-code w)) ws ≡ w ∷ ws
-unfolding question-in question-words after after-row
-asked-again w ws k a =
-    let m = width (head-code w) in
-    let vs : List ℕ = drop (row-words m) ws in
-    let r : items-words reliabilities (row-words m) (row-items (row-of (items-in reliabilities (row-words m) (row-long m) ws))) ≡ take (row-words m) ws =
-    ap (items-words reliabilities (row-words m)) (items-back _ (a .row-held .inside)) ∙ a .row-held .again in
-    ap₂ _∷_ (head-back w k)
-    (ap (λ (x : List ℕ). x ++ drop (symbol-words m) vs) (ap₂ _++_ r (a .word-held .again))
-    ∙ append-assoc (take (row-words m) ws) (take (symbol-words m) vs) (drop (symbol-words m) vs)
-    ∙ ap (λ (x : List ℕ). take (row-words m) ws ++ x) (take-append-drop (symbol-words m) vs)
-    ∙ take-append-drop (row-words m) ws)
+  asked-good : Asked f w ws → Good (question-in f w ws)
+  unfolding question-in low numbers
+  asked-good a = record {
+    known = a .known;
+    small = mod-lt (body w) (lit< tt);
+    row-length = row-of-length f (items-in f (row-words f head-width) (row-long head-width) ws) ∙ items-in-length f (row-words f head-width) (row-long head-width) ws (row-room f z head-width);
+    row-fine = a .row-held .fine;
+    word-length = items-in-length symbols (symbol-words head-width) (long head-width) (after-row f head-width ws) (symbol-room head-width);
+    word-fine = a .word-held .fine;
+  }
+
+  asked-again : kind w ≡ head-kind → Asked f w ws → question-words f (question-in f w ws) ++ after f head-width ws ≡ w ∷ ws
+  unfolding question-in question-words after after-row
+  asked-again k a =
+      let vs : List ℕ = drop (row-words f head-width) ws in
+      let r : items-words f (row-words f head-width) (row-items f (row-of f (items-in f (row-words f head-width) (row-long head-width) ws))) ≡ take (row-words f head-width) ws =
+      ap (items-words f (row-words f head-width)) (items-back f _ (a .row-held .inside)) ∙ a .row-held .again in
+      ap₂ _∷_ (head-back w k)
+      (ap (λ (x : List ℕ). x ++ drop (symbol-words head-width) vs) (ap₂ _++_ r (a .word-held .again))
+      ∙ append-assoc (take (row-words f head-width) ws) (take (symbol-words head-width) vs) (drop (symbol-words head-width) vs)
+      ∙ ap (λ (x : List ℕ). take (row-words f head-width) ws ++ x) (take-append-drop (symbol-words head-width) vs)
+      ∙ take-append-drop (row-words f head-width) ws)
 
 end-only : (left w : ℕ) (ws : List ℕ) → kind w ≡ end-kind → questions-from left (w ∷ ws) ≡ []
 unfolding questions-from end-kind head-kind
@@ -359,21 +355,21 @@ ended left w ws h k e =
       again = rw (q, add-zero) (end-back (most - left) w ws k e);
     }
 
-headed : (k w : ℕ) (ws : List ℕ) → suc k ≤ most → kind w ≡ head-kind → Asked w ws → Back k (after (width (head-code w)) ws) → Back (suc k) (w ∷ ws)
+headed : (k w : ℕ) (ws : List ℕ) → suc k ≤ most → kind w ≡ head-kind → Asked reliabilities w ws → Back k (after reliabilities (width (head-code w)) ws) → Back (suc k) (w ∷ ws)
 unfolding all-good all-words
 headed k w ws h e a r =
-    let rest : List ℕ = after (width (head-code w)) ws in
+    let rest : List ℕ = after reliabilities (width (head-code w)) ws in
     let qs : List Question = questions-from k rest in
-    let q : questions-from (suc k) (w ∷ ws) ≡ question-in w ws ∷ qs = head-read k w ws e in
+    let q : questions-from (suc k) (w ∷ ws) ≡ question-in reliabilities w ws ∷ qs = head-read k w ws e in
     record {
-      fine = ap all-good q ∙ ap₂ _&&_ (parts-good (question-in w ws) (asked-good w ws a)) (r .fine);
+      fine = ap all-good q ∙ ap₂ _&&_ (parts-good (question-in reliabilities w ws) (asked-good reliabilities reliabilities-fine w ws a)) (r .fine);
       few = subst (λ (x : List Question). length x ≤ suc k) (sym q) (omega (arith, r .few));
       again =
           ap (λ (x : List Question). all-words x ++ worded end-kind (most - suc k + length x) ∷ []) q
-          ∙ append-assoc (question-words (question-in w ws)) (all-words qs) (worded end-kind (most - suc k + suc (length qs)) ∷ [])
-          ∙ ap (λ (x : ℕ). question-words (question-in w ws) ++ (all-words qs ++ worded end-kind x ∷ [])) (omega arith)
-          ∙ ap (λ (x : List ℕ). question-words (question-in w ws) ++ x) (r .again)
-          ∙ asked-again w ws e a;
+          ∙ append-assoc (question-words reliabilities (question-in reliabilities w ws)) (all-words qs) (worded end-kind (most - suc k + suc (length qs)) ∷ [])
+          ∙ ap (λ (x : ℕ). question-words reliabilities (question-in reliabilities w ws) ++ (all-words qs ++ worded end-kind x ∷ [])) (omega arith)
+          ∙ ap (λ (x : List ℕ). question-words reliabilities (question-in reliabilities w ws) ++ x) (r .again)
+          ∙ asked-again reliabilities reliabilities-fine w ws e a;
     }
 
 read-from : (left : ℕ) (ws : List ℕ) → left ≤ most → rest-refusal left ws ≡ 0 → Back left ws
@@ -385,19 +381,19 @@ read-from zero (w ∷ ws) h e = by (eqb (kind w) end-kind) refl e
     by : (t : Bool) → eqb (kind w) end-kind ≡ t → cond t (end-refusal most w (length ws)) (cond (eqb (kind w) head-kind) 12 10) ≡ 0 → Back 0 (w ∷ ws)
     by true t e = ended 0 w ws h (eqb-true (kind w) end-kind t) (rw sub-zero e)
     by false t e = absurd (omega (arith, held (eqb (kind w) head-kind) 9 12 e .1))
-read-from (suc k) (w ∷ ws) h e = by (read-from k (after (width (head-code w)) ws) (omega arith)) (eqb (kind w) end-kind) refl e
+read-from (suc k) (w ∷ ws) h e = by (read-from k (after reliabilities (width (head-code w)) ws) (omega arith)) (eqb (kind w) end-kind) refl e
   where
     rest : List ℕ
-    rest = after (width (head-code w)) ws
+    rest = after reliabilities (width (head-code w)) ws
 
     by : (rest-refusal k rest ≡ 0 → Back k rest) → (t : Bool) → eqb (kind w) end-kind ≡ t →
-        cond t (end-refusal (most - suc k) w (length ws)) (cond (eqb (kind w) head-kind) (first (question-refusal (head-code w) ws) (rest-refusal k rest)) 10) ≡ 0 →
+        cond t (end-refusal (most - suc k) w (length ws)) (cond (eqb (kind w) head-kind) (first (question-refusal reliabilities (head-code w) ws) (rest-refusal k rest)) 10) ≡ 0 →
         Back (suc k) (w ∷ ws)
     by more true t e = ended (suc k) w ws h (eqb-true (kind w) end-kind t) e
     by more false t e =
         let p = held (eqb (kind w) head-kind) 9 _ e in
-        let f = first-none (question-refusal (head-code w) ws) (rest-refusal k rest) (p .1) in
-        headed k w ws h (eqb-true (kind w) head-kind (p .0)) (asked w ws (f .0)) (more (f .1))
+        let f = first-none (question-refusal reliabilities (head-code w) ws) (rest-refusal k rest) (p .1) in
+        headed k w ws h (eqb-true (kind w) head-kind (p .0)) (asked reliabilities reliabilities-fine w ws (f .0)) (more (f .1))
 
 pub read-written : Read-written
 unfolding Read-written written sheet-refusal questions most

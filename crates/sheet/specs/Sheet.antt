@@ -19,11 +19,11 @@ unfoldable pub end-kind : ℕ
 end-kind = 15
 
 -- a kind of word that holds items: how many, and below what each is. Kind 2: three reliabilities of 8 bits
-unfoldable pub reliabilities : Form
+abbrev pub reliabilities : Form
 reliabilities = record { kind = 2; each = 3; base = 2 ^ 8 }
 
 -- kind 3: six 4-bit symbols
-unfoldable pub symbols : Form
+abbrev pub symbols : Form
 symbols = record { kind = 3; each = 6; base = 2 ^ 4 }
 
 -- at most 200 questions; a question number and a count have 24 bits
@@ -38,6 +38,9 @@ pub record Question : Type 0 where
   pub number : ℕ
   pub row : List ℤ
   pub word : List ℕ
+
+unfoldable pub question : (code number : ℕ) → (row : List ℤ) → (word : List ℕ) → Question
+question c n rs ws = record { code = c; number = n; row = rs; word = ws }
 
 -- n digits to a base, the first lowest; and the number that has these digits
 unfoldable pub digits : (base n : ℕ) → ℕ → List ℕ
@@ -57,11 +60,11 @@ unfoldable pub signed-of : (base : ℕ) → ℕ → ℤ
 signed-of b d = cond (ltb d (b / 2)) (pos d) (negsuc (b - 1 - d))
 
 -- a row as the items of its words, and back
-unfoldable pub row-items : (row : List ℤ) → List ℕ
-row-items rs = map (unsigned-of (reliabilities .base)) rs
+unfoldable pub row-items : Form → (row : List ℤ) → List ℕ
+row-items f rs = map (unsigned-of (f .base)) rs
 
-unfoldable pub row-of : (items : List ℕ) → List ℤ
-row-of ds = map (signed-of (reliabilities .base)) ds
+unfoldable pub row-of : Form → (items : List ℕ) → List ℤ
+row-of f ds = map (signed-of (f .base)) ds
 
 -- a word is 32 bits, the top four the kind
 unfoldable pub worded : (kind body : ℕ) → ℕ
@@ -84,27 +87,31 @@ low w = body w % numbers
 unfoldable pub count : Form → (items : ℕ) → ℕ
 count f n = (n + (f .each - 1)) / f .each
 
-unfoldable pub row-words : (m : ℕ) → ℕ
-row-words m = count reliabilities (row-long m)
+unfoldable pub row-words : Form → (m : ℕ) → ℕ
+row-words f m = count f (row-long m)
 
 unfoldable pub symbol-words : (m : ℕ) → ℕ
 symbol-words m = count symbols (long m)
+
+-- how many words a question has after its head
+unfoldable pub question-long : Form → (m : ℕ) → ℕ
+question-long f m = row-words f m + symbol-words m
 
 -- WRITING
 unfoldable pub items-words : Form → (words : ℕ) → (items : List ℕ) → List ℕ
 items-words f zero ds = []
 items-words f (suc k) ds = worded (f .kind) (packed (f .base) (take (f .each) ds)) ∷ items-words f k (drop (f .each) ds)
 
--- a question is a head, its n·m reliabilities, then the n symbols handed in
-unfoldable pub question-words : Question → List ℕ
-question-words q =
+-- a question is a head, its n·m reliabilities in a form, then the n symbols handed in
+unfoldable pub question-words : Form → Question → List ℕ
+question-words f q =
     let m = width (q .code) in
     worded head-kind (q .code * numbers + q .number)
-    ∷ items-words reliabilities (row-words m) (row-items (q .row)) ++ items-words symbols (symbol-words m) (q .word)
+    ∷ items-words f (row-words f m) (row-items f (q .row)) ++ items-words symbols (symbol-words m) (q .word)
 
 unfoldable pub all-words : List Question → List ℕ
 all-words [] = []
-all-words (q ∷ qs) = question-words q ++ all-words qs
+all-words (q ∷ qs) = question-words reliabilities q ++ all-words qs
 
 -- low byte first
 unfoldable pub as-bytes : (words : List ℕ) → List ℕ
@@ -154,21 +161,21 @@ unfoldable pub items-in : Form → (words left : ℕ) → List ℕ → List ℕ
 items-in f zero n ws = []
 items-in f (suc k) n ws = items f n (getD ws 0 0) ++ items-in f k (n - f .each) (drop 1 ws)
 
-unfoldable pub row-refusal : (m : ℕ) → List ℕ → ℕ
-row-refusal m ws = items-refusal reliabilities 5 (λ ds. row-good (row-of ds)) (row-words m) (row-long m) ws
+unfoldable pub row-refusal : Form → (m : ℕ) → List ℕ → ℕ
+row-refusal f m ws = items-refusal f 5 (λ ds. row-good (row-of f ds)) (row-words f m) (row-long m) ws
 
 unfoldable pub symbol-refusal : (m : ℕ) → List ℕ → ℕ
 symbol-refusal m ws = items-refusal symbols 6 (symbols-good m) (symbol-words m) (long m) ws
 
 -- what follows a head of width m: the row, the word, then the rest
-unfoldable pub after-row : (m : ℕ) → List ℕ → List ℕ
-after-row m ws = drop (row-words m) ws
+unfoldable pub after-row : Form → (m : ℕ) → List ℕ → List ℕ
+after-row f m ws = drop (row-words f m) ws
 
-unfoldable pub after : (m : ℕ) → List ℕ → List ℕ
-after m ws = drop (symbol-words m) (after-row m ws)
+unfoldable pub after : Form → (m : ℕ) → List ℕ → List ℕ
+after f m ws = drop (symbol-words m) (after-row f m ws)
 
-unfoldable pub question-refusal : (code : ℕ) → List ℕ → ℕ
-question-refusal c ws = cond (not (code-good c)) 1 (first (row-refusal (width c) ws) (symbol-refusal (width c) (after-row (width c) ws)))
+unfoldable pub question-refusal : Form → (code : ℕ) → List ℕ → ℕ
+question-refusal f c ws = cond (not (code-good c)) 1 (first (row-refusal f (width c) ws) (symbol-refusal (width c) (after-row f (width c) ws)))
 
 -- an end word after so many questions, with so many words after it
 unfoldable pub end-refusal : (seen word after : ℕ) → ℕ
@@ -183,28 +190,28 @@ next-refusal n asked (w ∷ ws) =
 -- the rest of a sheet in which so many heads are still allowed; one more is 12
 unfoldable pub rest-refusal : (left : ℕ) → List ℕ → ℕ
 rest-refusal zero ws = next-refusal most (λ c vs. 12) ws
-rest-refusal (suc k) ws = next-refusal (most - suc k) (λ c vs. first (question-refusal c vs) (rest-refusal k (after (width c) vs))) ws
+rest-refusal (suc k) ws = next-refusal (most - suc k) (λ c vs. first (question-refusal reliabilities c vs) (rest-refusal k (after reliabilities (width c) vs))) ws
 
 -- 0, or the refusal of a sheet: the byte count first, then the first offending word
 unfoldable pub sheet-refusal : (sheet : List ℕ) → ℕ
 sheet-refusal bs = cond (eqb (length bs % 4) 0) (rest-refusal most (as-words bs)) 9
 
 -- the question of a head and of what follows it
-unfoldable pub question-in : (head : ℕ) → (follows : List ℕ) → Question
-question-in w ws =
+unfoldable pub question-in : Form → (head : ℕ) → (follows : List ℕ) → Question
+question-in f w ws =
     let m = width (head-code w) in
     record {
       code = head-code w;
       number = low w;
-      row = row-of (items-in reliabilities (row-words m) (row-long m) ws);
-      word = items-in symbols (symbol-words m) (long m) (after-row m ws);
+      row = row-of f (items-in f (row-words f m) (row-long m) ws);
+      word = items-in symbols (symbol-words m) (long m) (after-row f m ws);
     }
 
 unfoldable pub questions-from : (left : ℕ) → List ℕ → List Question
 questions-from zero ws = []
 questions-from (suc k) [] = []
 questions-from (suc k) (w ∷ ws) =
-    cond (eqb (kind w) head-kind) (question-in w ws ∷ questions-from k (after (width (head-code w)) ws)) []
+    cond (eqb (kind w) head-kind) (question-in reliabilities w ws ∷ questions-from k (after reliabilities (width (head-code w)) ws)) []
 
 -- the questions of an accepted sheet
 unfoldable pub questions : (sheet : List ℕ) → List Question

@@ -33,7 +33,7 @@ pub fn judge_sheet(sheet: &[u8]) -> u32
         if e != 0 {
             return e;
         }
-        at += 1 + refusal::question_words_of(words::head_code_of(w));
+        at += 1 + words::question_words_of(words::RELIABILITIES, words::head_code_of(w));
         left -= 1;
     }
     9

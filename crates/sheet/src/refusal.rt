@@ -3,13 +3,12 @@ use crate::Form;
 use crate::words;
 ghost use mathlib.Core.Path.{_≡_};
 ghost use mathlib.Core.Bool.{true, _||_};
-ghost use Prim.Native.Nat.{_/_, _^_, _+_, _<_, _≤_};
+ghost use Prim.Native.Nat.{_/_, _^_, _<_, _≤_};
 ghost use lib.Dec.{ltb, leb};
 ghost use lib.ListN.{length, drop};
 ghost use Rattle.field.specs.Field.{width-good};
-ghost use Rattle.code.specs.Code.{width};
-ghost use Rattle.sheet.specs.Sheet.{as-words, digits, count, word-refusal, items-refusal, row-refusal, symbol-refusal, question-refusal, end-refusal, row-words, symbol-words};
-ghost use Rattle.sheet.specs.Steps.{outside, head-refusal};
+ghost use Rattle.sheet.specs.Sheet.{as-words, digits, count, word-refusal, items-refusal, row-refusal, symbol-refusal, question-refusal, end-refusal};
+ghost use Rattle.sheet.specs.Within.{Fine, outside, head-refusal};
 ghost use Rattle.sheet.specs.Calls.{judgement};
 
 // What stands above n digits.
@@ -54,7 +53,7 @@ fn all_outside(v: u32, base: u32, n: usize, low: u32, high: u32) -> bool
 
 // A word of which n items are left.
 fn refused_word(w: u32, f: Form, low: u32, high: u32, bad: u32, n: usize) -> u32
-    requires { ⌜ 0 < f .base ⌝ }
+    requires { ⌜ Fine f ⌝ }
     ensures { λ r. ⌜ r ≡ word-refusal f bad (outside low high) n w ⌝ }
 {
     let kind = f.kind;
@@ -75,8 +74,7 @@ fn refused_word(w: u32, f: Form, low: u32, high: u32, bad: u32, n: usize) -> u32
 
 // n items from a word on.
 fn refused_items(sheet: &[u8], at: usize, f: Form, low: u32, high: u32, bad: u32, n: usize) -> u32
-    requires { ⌜ 0 < f .base ⌝ }
-    requires { ⌜ 0 < f .each ⌝ }
+    requires { ⌜ Fine f ⌝ }
     ensures { λ r. ⌜ r ≡ items-refusal f bad (outside low high) (count f n) n (drop at (as-words (now (sheet .entry)))) ⌝ }
 {
     let each = f.each;
@@ -97,37 +95,39 @@ fn refused_items(sheet: &[u8], at: usize, f: Form, low: u32, high: u32, bad: u32
 }
 
 // The row of a question of width m, from a word on. The one item that is no reliability is 128, which is -128.
-fn refused_row(sheet: &[u8], at: usize, m: u32) -> u32
+fn refused_row(sheet: &[u8], at: usize, f: Form, m: u32) -> u32
+    requires { ⌜ Fine f ⌝ }
+    requires { ⌜ f .base ≡ 256 ⌝ }
     requires { ⌜ width-good m ≡ true ⌝ }
-    ensures { λ r. ⌜ r ≡ row-refusal m (drop at (as-words (now (sheet .entry)))) ⌝ }
+    ensures { λ r. ⌜ r ≡ row-refusal f m (drop at (as-words (now (sheet .entry)))) ⌝ }
 {
-    let n = code::row_long_of(m);
-    refused_items(sheet, at, words::reliability_form(), 128, 129, 5, n)
+    refused_items(sheet, at, f, 128, 129, 5, code::row_long_of(m))
 }
 
 fn refused_symbols(sheet: &[u8], at: usize, m: u32) -> u32
     requires { ⌜ width-good m ≡ true ⌝ }
     ensures { λ r. ⌜ r ≡ symbol-refusal m (drop at (as-words (now (sheet .entry)))) ⌝ }
 {
-    let n = code::long_of(m);
     let size = field::size(m) as u32;
-    refused_items(sheet, at, words::symbol_form(), size, 16, 6, n)
+    refused_items(sheet, at, words::SYMBOLS, size, 16, 6, code::long_of(m))
 }
 
 // A question of a code, from the word after its head on.
-fn refused_question(sheet: &[u8], at: usize, code: u32) -> u32
+fn refused_question(sheet: &[u8], at: usize, f: Form, code: u32) -> u32
+    requires { ⌜ Fine f ⌝ }
+    requires { ⌜ f .base ≡ 256 ⌝ }
     requires { ⌜ at ≤ length (now sheet) / 4 ⌝ }
-    ensures { λ r. ⌜ r ≡ question-refusal code (drop at (as-words (now (sheet .entry)))) ⌝ }
+    ensures { λ r. ⌜ r ≡ question-refusal f code (drop at (as-words (now (sheet .entry)))) ⌝ }
 {
     if !code::is_code(code) {
         return 1;
     }
     let m = code::width_of(code);
-    let e = refused_row(sheet, at, m);
+    let e = refused_row(sheet, at, f, m);
     if e != 0 {
         return e;
     }
-    refused_symbols(sheet, at + words::row_words_of(m), m)
+    refused_symbols(sheet, at + words::row_words_of(f, m), m)
 }
 
 // A word that is no end, with what follows it from a word on, where so many heads are still allowed.
@@ -141,7 +141,7 @@ pub fn refused_head(sheet: &[u8], at: usize, w: u32, left: usize) -> u32
     if left == 0 {
         return 12;
     }
-    refused_question(sheet, at, words::head_code_of(w))
+    refused_question(sheet, at, words::RELIABILITIES, words::head_code_of(w))
 }
 
 // An end word after so many questions, with so many words after it.
@@ -159,12 +159,4 @@ pub fn judged_end(seen: usize, w: u32, after: usize) -> u32
         return 13;
     }
     100 + seen as u32
-}
-
-// How many words a question of a code has after its head.
-pub fn question_words_of(code: u32) -> usize
-    ensures { λ r. ⌜ r ≡ row-words (width code) + symbol-words (width code) ⌝ }
-{
-    let m = code::width_of(code);
-    words::row_words_of(m) + words::symbol_words_of(m)
 }

@@ -5,7 +5,9 @@ ghost use mathlib.Core.Bool.{true};
 ghost use Prim.Native.Nat.{_+_, _*_, _^_, _<_, min};
 ghost use lib.ListN.{getD};
 ghost use Rattle.field.specs.Field.{width-good};
-ghost use Rattle.sheet.specs.Sheet.{as-words, kind, body, head-code, low, reliabilities, symbols, count, row-words, symbol-words};
+ghost use Rattle.code.specs.Code.{width};
+ghost use Rattle.sheet.specs.Sheet.{as-words, kind, body, head-code, low, count, row-words, question-long};
+ghost use Rattle.sheet.specs.Within.{Fine};
 
 pub const HEAD: u32 = 1;
 
@@ -19,25 +21,18 @@ pub const NUMBERS: u32 = 16777216;
 
 const KINDS: u32 = 268435456;
 
-pub fn reliability_form() -> Form
-    ensures { λ r. ⌜ r ≡ reliabilities ⌝ }
-{
-    Form {
-        kind: 2,
-        each: 3,
-        base: 256,
-    }
-}
+// The two forms of items: three reliabilities of 8 bits, and six symbols of 4.
+pub const RELIABILITIES: Form = Form {
+    kind: 2,
+    each: 3,
+    base: 256,
+};
 
-pub fn symbol_form() -> Form
-    ensures { λ r. ⌜ r ≡ symbols ⌝ }
-{
-    Form {
-        kind: 3,
-        each: 6,
-        base: 16,
-    }
-}
+pub const SYMBOLS: Form = Form {
+    kind: 3,
+    each: 6,
+    base: 16,
+};
 
 // Four bytes as one number, the first lowest.
 fn joined(a: u8, b: u8, c: u8, d: u8) -> u32
@@ -89,26 +84,28 @@ pub fn least(a: usize, b: usize) -> usize
 
 // How many words so many items take.
 pub fn count_of(f: Form, n: usize) -> usize
-    requires { ⌜ 0 < f .each ⌝ }
+    requires { ⌜ Fine f ⌝ }
     requires { ⌜ n < 2 ^ 16 ⌝ }
-    requires { ⌜ f .each < 2 ^ 16 ⌝ }
     ensures { λ r. ⌜ r ≡ count f n ⌝ }
 {
     let each = f.each;
     (n + (each - 1)) / each
 }
 
-// How many words the row of a question takes, and its word.
-pub fn row_words_of(m: u32) -> usize
+// How many words the row of a question takes.
+pub fn row_words_of(f: Form, m: u32) -> usize
+    requires { ⌜ Fine f ⌝ }
     requires { ⌜ width-good m ≡ true ⌝ }
-    ensures { λ r. ⌜ r ≡ row-words m ⌝ }
+    ensures { λ r. ⌜ r ≡ row-words f m ⌝ }
 {
-    count_of(reliability_form(), code::row_long_of(m))
+    count_of(f, code::row_long_of(m))
 }
 
-pub fn symbol_words_of(m: u32) -> usize
-    requires { ⌜ width-good m ≡ true ⌝ }
-    ensures { λ r. ⌜ r ≡ symbol-words m ⌝ }
+// How many words a question of a code has after its head.
+pub fn question_words_of(f: Form, code: u32) -> usize
+    requires { ⌜ Fine f ⌝ }
+    ensures { λ r. ⌜ r ≡ question-long f (width code) ⌝ }
 {
-    count_of(symbol_form(), code::long_of(m))
+    let m = code::width_of(code);
+    row_words_of(f, m) + count_of(SYMBOLS, code::long_of(m))
 }

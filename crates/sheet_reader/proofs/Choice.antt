@@ -12,7 +12,6 @@ use lib.IntN.{ℤ}
 use Rattle.sheet.specs.Sheet.{Question, kind, head-code, head-kind, as-words, sheet-refusal, question-in, questions}
 use Rattle.sheet.specs.Calls.{judgement, judged}
 use Rattle.sheet_reader.specs.declared.Step.{Step}
-use Rattle.sheet_reader.specs.declared.Yield.{Yield}
 use Rattle.sheet_reader.specs.declared.Yield.the-variants.{NoneLeft, Refused}
 use Rattle.sheet_reader.specs.Calls.{filled, chosen, row-first, word-first, Choice-says}
 use Rattle.sheet_reader.specs.Within.{Stands, answered, behind, yielded, question-here, Place-says, skipped}

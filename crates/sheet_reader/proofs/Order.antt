@@ -13,7 +13,7 @@ use lib.Dec.{eqb}
 use lib.ListN.{length, getD, drop}
 use lib.Seq.{drop-drop, getD-drop}
 use Rattle.code.specs.Code.{width}
-use Rattle.sheet.specs.Sheet.{Question, kind, head-code, head-kind, end-kind, most, row-words, symbol-words, as-words, first, after, question-refusal, end-refusal, next-refusal, rest-refusal, sheet-refusal, question-in, questions-from, questions}
+use Rattle.sheet.specs.Sheet.{Question, kind, head-code, head-kind, end-kind, most, reliabilities, question-long, as-words, first, after, question-refusal, end-refusal, next-refusal, rest-refusal, sheet-refusal, question-in, questions-from, questions}
 use Rattle.sheet.proofs.Items.{held, first-none}
 use Rattle.sheet.proofs.Judging.{past}
 use Rattle.sheet_reader.specs.Within.{Stands, behind, question-here}
@@ -26,15 +26,15 @@ record Ended (left : ℕ) (ws : List ℕ) : Type 0 where
 record Headed (left : ℕ) (ws : List ℕ) : Type 0 where
   k : ℕ
   head : kind (getD ws 0 0) ≡ head-kind
-  rest : rest-refusal k (after (width (head-code (getD ws 0 0))) (drop 1 ws)) ≡ 0
-  holds : questions-from left ws ≡ question-in (getD ws 0 0) (drop 1 ws) ∷ questions-from k (after (width (head-code (getD ws 0 0))) (drop 1 ws))
+  rest : rest-refusal k (after reliabilities (width (head-code (getD ws 0 0))) (drop 1 ws)) ≡ 0
+  holds : questions-from left ws ≡ question-in reliabilities (getD ws 0 0) (drop 1 ws) ∷ questions-from k (after reliabilities (width (head-code (getD ws 0 0))) (drop 1 ws))
 
 ended : (left w : ℕ) (ws : List ℕ) → kind w ≡ end-kind → Ended left (w ∷ ws)
 unfolding questions-from end-kind head-kind
 ended zero w ws e = record { no-head = λ h. absurd (omega (arith, e, h)); holds = refl }
 ended (suc k) w ws e = record { no-head = λ h. absurd (omega (arith, e, h)); holds = rw e }
 
-headed : (k w : ℕ) (ws : List ℕ) → kind w ≡ head-kind → rest-refusal k (after (width (head-code w)) ws) ≡ 0 → Headed (suc k) (w ∷ ws)
+headed : (k w : ℕ) (ws : List ℕ) → kind w ≡ head-kind → rest-refusal k (after reliabilities (width (head-code w)) ws) ≡ 0 → Headed (suc k) (w ∷ ws)
 unfolding questions-from head-kind
 headed k w ws e r = record { k = k; head = e; rest = r; holds = rw e }
 
@@ -50,15 +50,15 @@ parts zero (w ∷ ws) h = by (eqb (kind w) end-kind) refl h
 parts (suc k) (w ∷ ws) h = by (eqb (kind w) end-kind) refl h
   where
     rest : List ℕ
-    rest = after (width (head-code w)) ws
+    rest = after reliabilities (width (head-code w)) ws
 
     by : (t : Bool) → eqb (kind w) end-kind ≡ t →
-        cond t (end-refusal (most - suc k) w (length ws)) (cond (eqb (kind w) head-kind) (first (question-refusal (head-code w) ws) (rest-refusal k rest)) 10) ≡ 0 →
+        cond t (end-refusal (most - suc k) w (length ws)) (cond (eqb (kind w) head-kind) (first (question-refusal reliabilities (head-code w) ws) (rest-refusal k rest)) 10) ≡ 0 →
         Ended (suc k) (w ∷ ws) ⊎ Headed (suc k) (w ∷ ws)
     by true t e = inl (ended (suc k) w ws (eqb-true (kind w) end-kind t))
     by false t e =
         let p = held (eqb (kind w) head-kind) 9 _ e in
-        inr (headed k w ws (eqb-true (kind w) head-kind (p .0)) (first-none (question-refusal (head-code w) ws) (rest-refusal k rest) (p .1) .1))
+        inr (headed k w ws (eqb-true (kind w) head-kind (p .0)) (first-none (question-refusal reliabilities (head-code w) ws) (rest-refusal k rest) (p .1) .1))
 
 pub stands-first : (bs : List ℕ) → sheet-refusal bs ≡ 0 → Stands bs 0 0
 unfolding questions sheet-refusal
@@ -100,13 +100,13 @@ module _ {bs : List ℕ} {i at : ℕ} (t : Stands bs i at) where
   more h =
       let w : ℕ = getD (as-words bs) at 0 in
       let m : ℕ = width (head-code w) in
-      let q : Question = question-in w (drop (at + 1) (as-words bs)) in
-      let on : List ℕ = drop (at + (1 + (row-words m + symbol-words m))) (as-words bs) in
-      let e : after (width (head-code (getD (drop at (as-words bs)) 0 0))) (drop 1 (drop at (as-words bs))) ≡ on =
-      ap₂ (λ (x : ℕ) (l : List ℕ). after (width (head-code x)) l) word-is after-is ∙ past m (at + 1) (as-words bs)
-      ∙ ap (λ (x : ℕ). drop x (as-words bs)) (add-assoc at 1 (row-words m + symbol-words m)) in
+      let q : Question = question-in reliabilities w (drop (at + 1) (as-words bs)) in
+      let on : List ℕ = drop (at + (1 + question-long reliabilities m)) (as-words bs) in
+      let e : after reliabilities (width (head-code (getD (drop at (as-words bs)) 0 0))) (drop 1 (drop at (as-words bs))) ≡ on =
+      ap₂ (λ (x : ℕ) (l : List ℕ). after reliabilities (width (head-code x)) l) word-is after-is ∙ past reliabilities m (at + 1) (as-words bs)
+      ∙ ap (λ (x : ℕ). drop x (as-words bs)) (add-assoc at 1 (question-long reliabilities m)) in
       let l : drop i (questions bs) ≡ q ∷ questions-from (h .k) on =
-      sym (t .holds) ∙ h .holds ∙ ap₂ _∷_ (ap₂ question-in word-is after-is) (ap (questions-from (h .k)) e) in
+      sym (t .holds) ∙ h .holds ∙ ap₂ _∷_ (ap₂ (question-in reliabilities) word-is after-is) (ap (questions-from (h .k)) e) in
       let n : drop (suc i) (questions bs) ≡ questions-from (h .k) on = drop-next ∙ ap (drop 1) l in
       record {
         head = ap kind (sym word-is) ∙ h .head;

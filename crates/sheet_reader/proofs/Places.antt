@@ -64,13 +64,13 @@ items-le f e good h (suc k) n (w ∷ ws) =
     (cond-le (not (eqb (unused f n w) 0)) 11 _ 13 (lit≤ tt) (cond-le (good (items f n w)) 0 e 13 (lit≤ tt) h)))
     (items-le f e good h k (n - f .each) ws)
 
-question-le : (c : ℕ) (ws : List ℕ) → question-refusal c ws ≤ 13
+question-le : (c : ℕ) (ws : List ℕ) → question-refusal reliabilities c ws ≤ 13
 unfolding question-refusal row-refusal symbol-refusal
 question-le c ws =
     cond-le (not (code-good c)) 1 _ 13 (lit≤ tt)
-    (first-le (row-refusal (width c) ws) (symbol-refusal (width c) (after-row (width c) ws)) 13
-    (items-le reliabilities 5 (λ ds. row-good (row-of ds)) (lit≤ tt) (row-words (width c)) (row-long (width c)) ws)
-    (items-le symbols 6 (symbols-good (width c)) (lit≤ tt) (symbol-words (width c)) (long (width c)) (after-row (width c) ws)))
+    (first-le (row-refusal reliabilities (width c) ws) (symbol-refusal (width c) (after-row reliabilities (width c) ws)) 13
+    (items-le reliabilities 5 (λ ds. row-good (row-of reliabilities ds)) (lit≤ tt) (row-words reliabilities (width c)) (row-long (width c)) ws)
+    (items-le symbols 6 (symbols-good (width c)) (lit≤ tt) (symbol-words (width c)) (long (width c)) (after-row reliabilities (width c) ws)))
 
 end-le : (n w k : ℕ) → end-refusal n w k ≤ 13
 unfolding end-refusal
@@ -87,8 +87,8 @@ rest-le : (left : ℕ) (ws : List ℕ) → rest-refusal left ws ≤ 13
 unfolding rest-refusal
 rest-le zero ws = next-le most (λ c vs. 12) (λ c vs. lit≤ tt) ws
 rest-le (suc k) ws =
-    next-le (most - suc k) (λ c vs. first (question-refusal c vs) (rest-refusal k (after (width c) vs)))
-    (λ c vs. first-le (question-refusal c vs) (rest-refusal k (after (width c) vs)) 13 (question-le c vs) (rest-le k (after (width c) vs))) ws
+    next-le (most - suc k) (λ c vs. first (question-refusal reliabilities c vs) (rest-refusal k (after reliabilities (width c) vs)))
+    (λ c vs. first-le (question-refusal reliabilities c vs) (rest-refusal k (after reliabilities (width c) vs)) 13 (question-le c vs) (rest-le k (after reliabilities (width c) vs))) ws
 
 sheet-le : (bs : List ℕ) → sheet-refusal bs ≤ 13
 unfolding sheet-refusal

@@ -4,7 +4,7 @@ use mathlib.Core.Path.{_≡_, refl, sym, ap, _∙_}
 use mathlib.Core.Logic.{_⊎_, inl, inr}
 use mathlib.Core.Bool.{Bool, true, false, _&&_, not, cond}
 use mathlib.Core.List.{List}
-use Prim.Native.Nat.{ℕ, zero, suc, _+_, _/_, _<_, _≤_}
+use Prim.Native.Nat.{ℕ, _+_, _/_, _<_, _≤_}
 use native.Mathlib.Omega.{arith}
 use borrow.Author.Tests.{eqb-true}
 use lib.Dec.{eqb}
@@ -15,7 +15,6 @@ use Rattle.code.specs.Bits.{row-long}
 use Rattle.sheet.specs.Sheet.{kind, head-code, low, head-kind, row-words, symbol-words, as-words, question-in, reliabilities, symbols, items-in, row-of, after-row}
 use Rattle.sheet.proofs.Bytes.{no-word}
 use Rattle.sheet.proofs.Items.{both, le-or-lt}
-use Rattle.sheet_reader.specs.declared.Step.{Step}
 use Rattle.sheet_reader.specs.declared.Yield.{Yield}
 use Rattle.sheet_reader.specs.declared.Yield.the-variants.{Found, NoneLeft, Refused}
 use Rattle.sheet_reader.specs.Calls.{filled}
@@ -64,15 +63,15 @@ module _ (bs : List ℕ) (at : ℕ) (row : List ℤ) (word : List ℕ) where
   answer = answered (getD (as-words bs) at 0) (length row) (length word)
 
   pub says-found : (row-now : List ℤ) (word-now : List ℕ) (c k next : ℕ) → answer ≡ Found c k →
-      next ≡ behind c at → Read-says (width c) (drop (at + 1) (as-words bs)) row-now word-now →
+      next ≡ behind c at → Read-says reliabilities (width c) (drop (at + 1) (as-words bs)) row-now word-now →
       Place-says bs at (record { answer = Found c k; next = next }) row row-now word word-now
   unfolding yielded moved filled question-here question-in
   says-found row-now word-now c k next e n s =
       let t = standing (getD (as-words bs) at 0) (length row) (length word) c k e in
       record {
         step = rw (e, n);
-        row-is = s .row-is ∙ ap (λ (x : ℕ). row-of (items-in reliabilities (row-words (width x)) (row-long (width x)) (drop (at + 1) (as-words bs)))) (t .code-is);
-        word-is = s .word-is ∙ ap (λ (x : ℕ). items-in symbols (symbol-words (width x)) (long (width x)) (after-row (width x) (drop (at + 1) (as-words bs)))) (t .code-is);
+        row-is = s .row-is ∙ ap (λ (x : ℕ). row-of reliabilities (items-in reliabilities (row-words reliabilities (width x)) (row-long (width x)) (drop (at + 1) (as-words bs)))) (t .code-is);
+        word-is = s .word-is ∙ ap (λ (x : ℕ). items-in symbols (symbol-words (width x)) (long (width x)) (after-row reliabilities (width x) (drop (at + 1) (as-words bs)))) (t .code-is);
       }
 
   pub says-none : (a : Yield) → a ≡ answer → a ≡ NoneLeft → Place-says bs at (record { answer = a; next = at }) row row word word

@@ -1,7 +1,7 @@
--- Two's complement of 8 bits as the code computes it.
+-- Two's complement as the code computes it.
 -- Assumes nothing.
 use mathlib.Core.Path.{_≡_, ap, _∙_}
-use Prim.Native.Nat.{ℕ, _-_, _<_, _≤_}
+use Prim.Native.Nat.{ℕ, zero, suc, _-_, _/_, _^_, _<_, _≤_}
 use native.Mathlib.Omega.{arith}
 use borrow.Author.Tests.{lt-ltb, le-ltb}
 use lib.IntN.{pos, negsuc, _-ℤ_}
@@ -10,16 +10,21 @@ use mir.Val.{SFits, toZ, ofZ}
 use mir.Facts.{toZ-pos, toZ-ofZ}
 use Rattle.sheet.specs.Sheet.{signed-of}
 
-pub low-half : (d : ℕ) → d < 128 → toZ w16 d ≡ signed-of 256 d
-unfolding signed-of
-low-half d h = toZ-pos w16 {n = d} (omega arith) ∙ rw (lt-ltb d 128 h)
+minus : (b d : ℕ) → d < b → pos d -ℤ pos b ≡ negsuc (b - 1 - d)
+minus zero d h = absurd (omega arith)
+minus (suc k) d h = rw (lt-ltb d (suc k) h) (ap negsuc (omega arith))
 
-high-half : (d : ℕ) → d < 256 → 128 ≤ d → toZ w16 d -ℤ pos 256 ≡ negsuc (255 - d)
-high-half d h l = rw (toZ-pos w16 {n = d} (omega arith), lt-ltb d 256 h) (ap negsuc (omega arith))
+module _ (b d : ℕ) (small : b < 2 ^ 15) (h : d < b) where
+  pub low-half : d < b / 2 → toZ w16 d ≡ signed-of b d
+  unfolding signed-of
+  low-half l = toZ-pos w16 {n = d} (omega arith) ∙ rw (lt-ltb d (b / 2) l)
 
-pub high-fits : (d : ℕ) → d < 256 → 128 ≤ d → SFits w16 (toZ w16 d -ℤ pos 256)
-high-fits d h l = rw (high-half d h l) (record { sfits = omega arith })
+  high-half : toZ w16 d -ℤ toZ w16 b ≡ negsuc (b - 1 - d)
+  high-half = rw (toZ-pos w16 {n = d} (omega arith), toZ-pos w16 {n = b} (omega arith)) (minus b d h)
 
-pub high-is : (d : ℕ) → d < 256 → 128 ≤ d → toZ w16 (ofZ w16 (toZ w16 d -ℤ pos 256)) ≡ signed-of 256 d
-unfolding signed-of
-high-is d h l = toZ-ofZ (high-fits d h l) ∙ high-half d h l ∙ rw (le-ltb d 128 l)
+  pub high-fits : SFits w16 (toZ w16 d -ℤ toZ w16 b)
+  high-fits = rw high-half (record { sfits = omega arith })
+
+  pub high-is : b / 2 ≤ d → toZ w16 (ofZ w16 (toZ w16 d -ℤ toZ w16 b)) ≡ signed-of b d
+  unfolding signed-of
+  high-is l = toZ-ofZ high-fits ∙ high-half ∙ rw (le-ltb d (b / 2) l)

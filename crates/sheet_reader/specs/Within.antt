@@ -3,13 +3,14 @@
 use mathlib.Core.Path.{_≡_}
 use mathlib.Core.Bool.{_&&_, not, cond}
 use mathlib.Core.List.{List}
-use Prim.Native.Nat.{ℕ, zero, suc, _+_}
+use Prim.Native.Nat.{ℕ, zero, suc, _+_, _<_}
 use lib.Dec.{eqb}
 use lib.ListN.{length, getD, drop}
 use lib.IntN.{ℤ}
 use Rattle.code.specs.Code.{width, long}
 use Rattle.code.specs.Bits.{row-long}
-use Rattle.sheet.specs.Sheet.{Question, head-kind, kind, head-code, low, reliabilities, symbols, items-in, row-of, row-words, symbol-words, after-row, as-words, rest-refusal, sheet-refusal, question-in, questions-from, questions}
+use Rattle.sheet.specs.declared.Form.{Form}
+use Rattle.sheet.specs.Sheet.{Question, head-kind, kind, head-code, low, reliabilities, symbols, count, items-in, row-of, row-words, symbol-words, question-long, after-row, as-words, rest-refusal, sheet-refusal, question-in, questions-from, questions}
 use Rattle.sheet_reader.specs.declared.Step.{Step}
 use Rattle.sheet_reader.specs.declared.Yield.{Yield}
 use Rattle.sheet_reader.specs.declared.Yield.the-variants.{Found, NoneLeft, Refused}
@@ -31,7 +32,7 @@ answered w r n =
 
 -- the word behind a question of a code that begins at a word
 unfoldable pub behind : (code at : ℕ) → ℕ
-behind c at = at + (1 + (row-words (width c) + symbol-words (width c)))
+behind c at = at + (1 + question-long reliabilities (width c))
 
 -- a question is passed; any other answer leaves the reader where it stands
 unfoldable pub moved : Yield → (at : ℕ) → ℕ
@@ -46,12 +47,21 @@ yielded bs at r n =
 
 -- the question at a place
 unfoldable pub question-here : (sheet : List ℕ) → (at : ℕ) → Question
-question-here bs at = question-in (getD (as-words bs) at 0) (drop (at + 1) (as-words bs))
+question-here bs at = question-in reliabilities (getD (as-words bs) at 0) (drop (at + 1) (as-words bs))
+
+-- n items that begin at the first of these words
+unfoldable pub items-from : Form → (n : ℕ) → (words : List ℕ) → List ℕ
+items-from f n ws = items-in f (count f n) n ws
+
+-- one of them, however many there are
+pub record Item-says (f : Form) (ws : List ℕ) (i item : ℕ) : Type 0 where
+  pub is : (n : ℕ) → i < n → item ≡ getD (items-from f n ws) i 0
+  pub small : item < f .base
 
 -- the row and the word that follow a head of width m
-pub record Read-says (m : ℕ) (ws : List ℕ) (row : List ℤ) (word : List ℕ) : Type 0 where
-  pub row-is : row ≡ row-of (items-in reliabilities (row-words m) (row-long m) ws)
-  pub word-is : word ≡ items-in symbols (symbol-words m) (long m) (after-row m ws)
+pub record Read-says (f : Form) (m : ℕ) (ws : List ℕ) (row : List ℤ) (word : List ℕ) : Type 0 where
+  pub row-is : row ≡ row-of f (items-in f (row-words f m) (row-long m) ws)
+  pub word-is : word ≡ items-in symbols (symbol-words m) (long m) (after-row f m ws)
 
 pub record Place-says (bs : List ℕ) (at : ℕ) (s : Step) (row row-now : List ℤ) (word word-now : List ℕ) : Type 0 where
   pub step : s ≡ yielded bs at (length row) (length word)

@@ -1,5 +1,6 @@
 // The questions of a sheet into lent outputs. `question_of` is offered to callers: it takes any input and promises what specs/Calls.antt
 // says. `question_at` is for the crates above, which read an accepted sheet from its first question on.
+use sheet::Form;
 ghost use mathlib.Core.Path.{_≡_};
 ghost use mathlib.Core.Bool.{true};
 ghost use Prim.Native.Nat.{ℕ, _+_, _/_, _<_};
@@ -8,6 +9,7 @@ ghost use Rattle.field.specs.Field.{width-good};
 ghost use Rattle.code.specs.Code.{long};
 ghost use Rattle.code.specs.Bits.{row-long};
 ghost use Rattle.sheet.specs.Sheet.{as-words};
+ghost use Rattle.sheet.specs.Within.{Fine};
 ghost use Rattle.sheet_reader.specs.Calls.{Choice-says};
 ghost use Rattle.sheet_reader.specs.Within.{Stands, answered, Read-says, Place-says, skipped};
 
@@ -49,15 +51,16 @@ fn answer_at(sheet: &[u8], at: usize, row: usize, word: usize) -> Yield
 }
 
 // Fills both outputs with the question whose head stands at a place.
-fn read_question(sheet: &[u8], at: usize, m: u32, row: &mut [i16], word: &mut [u8])
+fn read_question(sheet: &[u8], at: usize, f: Form, m: u32, row: &mut [i16], word: &mut [u8])
+    requires { ⌜ Fine f ⌝ }
     requires { ⌜ width-good m ≡ true ⌝ }
     requires { ⌜ at < length (now sheet) / 4 ⌝ }
     requires { ⌜ length (now row) ≡ row-long m ⌝ }
     requires { ⌜ length (now word) ≡ long m ⌝ }
-    ensures { λ _. ⌜ Read-says m (drop (at + 1) (as-words (now (sheet .entry)))) (now (row .exit)) (now (word .exit)) ⌝ }
+    ensures { λ _. ⌜ Read-says f m (drop (at + 1) (as-words (now (sheet .entry)))) (now (row .exit)) (now (word .exit)) ⌝ }
 {
-    items::read_row(sheet, at + 1, row);
-    items::read_symbols(sheet, at + 1 + sheet::words::row_words_of(m), word);
+    items::read_row(sheet, at + 1, f, row);
+    items::read_symbols(sheet, at + 1 + sheet::words::row_words_of(f, m), word);
 }
 
 // The question that begins at a place of an accepted sheet, with the place behind it; none left and a refusal keep the place and the
@@ -70,8 +73,15 @@ pub fn question_at(sheet: &[u8], at: usize, row: &mut [i16], word: &mut [u8]) ->
     let mut next = at;
     match answer {
         Yield::Found { code, number: _ } => {
-            read_question(sheet, at, code::width_of(code), row, word);
-            next = at + (1 + sheet::refusal::question_words_of(code));
+            read_question(
+                sheet,
+                at,
+                sheet::words::RELIABILITIES,
+                code::width_of(code),
+                row,
+                word,
+            );
+            next = at + (1 + sheet::words::question_words_of(sheet::words::RELIABILITIES, code));
         }
         Yield::NoneLeft => {}
         Yield::Refused(_) => {}
@@ -90,7 +100,8 @@ fn place_of(sheet: &[u8], index: usize) -> usize
         if sheet::words::kind_of(w) != sheet::words::HEAD {
             return at;
         }
-        at += 1 + sheet::refusal::question_words_of(sheet::words::head_code_of(w));
+        let code = sheet::words::head_code_of(w);
+        at += 1 + sheet::words::question_words_of(sheet::words::RELIABILITIES, code);
         left -= 1;
     }
     at

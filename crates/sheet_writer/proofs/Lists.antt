@@ -14,10 +14,10 @@ use lib.IntN.{ℤ}
 use Rattle.code.specs.Code.{code-good, width, long, symbols-good}
 use Rattle.code.specs.Bits.{row-long}
 use Rattle.metric.specs.Row.{row-good}
-use Rattle.sheet.specs.Sheet.{first, row-words, symbol-words}
-use Rattle.sheet.proofs.Judging.{width-fine, row-words-le, symbol-words-le}
+use Rattle.sheet.specs.Sheet.{first, reliabilities, question-long}
+use Rattle.sheet.proofs.Judging.{question-long-le}
 use Rattle.sheet_writer.specs.Calls.{fits, parts-refusal, asked-refusal, list-refusal}
-use Rattle.sheet_writer.specs.Steps.{words-needed}
+use Rattle.sheet_writer.specs.Within.{words-needed}
 
 pub fits-last : (k l n : ℕ) → k ≡ 0 → fits k l n ≡ eqb l n
 unfolding fits
@@ -29,7 +29,7 @@ fits-more zero l n h = absurd (h refl)
 fits-more (suc k) l n h = refl
 
 pub needed-step : (cs : List ℕ) (i : ℕ) → i < length cs →
-    words-needed (drop i cs) ≡ 1 + (row-words (width (getD cs i 0)) + symbol-words (width (getD cs i 0))) + words-needed (drop (i + 1) cs)
+    words-needed (drop i cs) ≡ 1 + question-long reliabilities (width (getD cs i 0)) + words-needed (drop (i + 1) cs)
 unfolding words-needed
 needed-step cs i h = rw (add-one, drop-cons cs i 0 h)
 
@@ -37,7 +37,7 @@ pub needed-le : (cs : List ℕ) → words-needed cs ≤ 24 * length cs
 unfolding words-needed
 needed-le [] = omega arith
 needed-le (c ∷ cs) =
-    omega (arith, needed-le cs, row-words-le (width c) (width-fine c), symbol-words-le (width c) (width-fine c))
+    omega (arith, needed-le cs, question-long-le c)
 
 -- the row and the word, test by test
 module _ (m k : ℕ) (rs : List ℤ) (ws : List ℕ) where

@@ -8,65 +8,64 @@ use native.Mathlib.Nat.{lt-of-lt-of-le, pow-le-pow-right}
 use native.Mathlib.Numerals.{add-one}
 use native.Mathlib.Omega.{arith}
 use borrow.Author.Tests.{ltb-true, leb-true, le-ltb}
-use lib.Dec.{T, lit<}
+use lib.Dec.{T}
 use lib.ListN.{length, getD, take, drop, set, length-take, length-drop, length-append, drop-of-length-le, List·getD-map}
 use lib.Seq.{drop-cons, sets-eq, getD-take, take-suc, take-at, drop-at, drop-drop, length-take-le}
 use lib.IntN.{ℤ, pos, negsuc, natAbs, _+ℤ_}
 use lib.Signed.{ltZ, nonNeg}
 use mir.Syntax.{w16, w32}
 use mir.Val.{SFits, Fits, toZ, ofZ}
-use mir.Facts.{toZ-ofZ}
-use Rattle.code.specs.Code.{symbols-good}
-use Rattle.code.proofs.Words.{Below, below, good, widen}
-use Rattle.field.proofs.Tests.{to-T}
+use mir.Facts.{toZ-pos, toZ-ofZ}
+use Rattle.code.proofs.Words.{Below}
 use Rattle.metric.specs.Row.{bound, reliability-good, row-good}
-use Rattle.sheet.specs.Sheet.{digits, packed, unsigned-of, row-items, reliabilities, as-bytes}
+use Rattle.sheet.specs.declared.Form.{Form}
+use Rattle.sheet.specs.Sheet.{digits, packed, unsigned-of, row-items, as-bytes}
 use Rattle.sheet.proofs.Digits.{packed-lt}
 use Rattle.sheet.proofs.Items.{both, below-parts}
-use Rattle.sheet.proofs.Forms.{unsigned-lt, items-below}
+use Rattle.sheet.proofs.Forms.{unsigned-lt}
 use Rattle.sheet.proofs.Bytes.{bytes-length}
-use Rattle.sheet_writer.specs.Steps.{begun}
+use Rattle.sheet_writer.specs.Within.{begun}
 
 -- two's complement, as the code computes it
-module _ (r : ℤ) (f : SFits w16 r) (g : reliability-good r ≡ true) where
+module _ (b : ℕ) (wide : 128 ≤ b) (small : b < 2 ^ 15) (r : ℤ) (f : SFits w16 r) (g : reliability-good r ≡ true) where
   plain : toZ w16 (ofZ w16 r) ≡ r
   plain = toZ-ofZ f
 
-  shifted : (r : ℤ) → reliability-good r ≡ true → ltZ r (pos 0) ≡ true → r +ℤ pos 256 ≡ pos (unsigned-of 256 r)
+  shifted : (r : ℤ) → reliability-good r ≡ true → ltZ r (pos 0) ≡ true → r +ℤ pos b ≡ pos (unsigned-of b r)
   unfolding unsigned-of reliability-good bound
   shifted (pos n) g e = absurd (omega (arith, ltb-true n 0 e))
   shifted (negsuc n) g e =
       let h : suc n ≤ 127 = leb-true (suc n) 127 g in
-      rw (le-ltb 256 (suc n) (omega arith)) (ap pos (omega arith))
+      rw (le-ltb b (suc n) (omega arith)) (ap pos (omega arith))
 
-  below-sum : ltZ (toZ w16 (ofZ w16 r)) (pos 0) ≡ true → toZ w16 (ofZ w16 r) +ℤ pos 256 ≡ pos (unsigned-of 256 r)
-  below-sum e = rw plain (shifted r g (rw plain at e))
+  below-sum : ltZ (toZ w16 (ofZ w16 r)) (pos 0) ≡ true → toZ w16 (ofZ w16 r) +ℤ toZ w16 b ≡ pos (unsigned-of b r)
+  below-sum e = rw (plain, toZ-pos w16 {n = b} (omega arith)) (shifted r g (rw plain at e))
 
-  pub below-fits : ltZ (toZ w16 (ofZ w16 r)) (pos 0) ≡ true → SFits w16 (toZ w16 (ofZ w16 r) +ℤ pos 256)
-  below-fits e = rw (below-sum e) (record { sfits = omega (arith, unsigned-lt r g) })
+  pub below-fits : ltZ (toZ w16 (ofZ w16 r)) (pos 0) ≡ true → SFits w16 (toZ w16 (ofZ w16 r) +ℤ toZ w16 b)
+  below-fits e = rw (below-sum e) (record { sfits = omega (arith, unsigned-lt r wide g) })
 
-  below-is : ltZ (toZ w16 (ofZ w16 r)) (pos 0) ≡ true → toZ w16 (ofZ w16 (toZ w16 (ofZ w16 r) +ℤ pos 256)) ≡ pos (unsigned-of 256 r)
+  below-is : ltZ (toZ w16 (ofZ w16 r)) (pos 0) ≡ true → toZ w16 (ofZ w16 (toZ w16 (ofZ w16 r) +ℤ toZ w16 b)) ≡ pos (unsigned-of b r)
   below-is e = toZ-ofZ (below-fits e) ∙ below-sum e
 
   pub below-cast : ltZ (toZ w16 (ofZ w16 r)) (pos 0) ≡ true →
-      T (nonNeg (toZ w16 (ofZ w16 (toZ w16 (ofZ w16 r) +ℤ pos 256)))) × Fits w32 (natAbs (toZ w16 (ofZ w16 (toZ w16 (ofZ w16 r) +ℤ pos 256))))
-  below-cast e = rw (below-is e) (tt, record { fits = omega (arith, unsigned-lt r g) })
+      T (nonNeg (toZ w16 (ofZ w16 (toZ w16 (ofZ w16 r) +ℤ toZ w16 b)))) × Fits w32 (natAbs (toZ w16 (ofZ w16 (toZ w16 (ofZ w16 r) +ℤ toZ w16 b))))
+  below-cast e = rw (below-is e) (tt, record { fits = omega (arith, unsigned-lt r wide g) })
 
-  pub below-value : ltZ (toZ w16 (ofZ w16 r)) (pos 0) ≡ true → natAbs (toZ w16 (ofZ w16 (toZ w16 (ofZ w16 r) +ℤ pos 256))) ≡ unsigned-of 256 r
+  pub below-value : ltZ (toZ w16 (ofZ w16 r)) (pos 0) ≡ true → natAbs (toZ w16 (ofZ w16 (toZ w16 (ofZ w16 r) +ℤ toZ w16 b))) ≡ unsigned-of b r
   below-value e = rw (below-is e)
 
-  as-is : (r : ℤ) → ltZ r (pos 0) ≡ false → r ≡ pos (unsigned-of 256 r)
+  as-is : (r : ℤ) → ltZ r (pos 0) ≡ false → r ≡ pos (unsigned-of b r)
   unfolding unsigned-of
   as-is (pos n) e = refl
   as-is (negsuc n) e = absurd (subst T e tt)
 
-  above-is : ltZ (toZ w16 (ofZ w16 r)) (pos 0) ≡ false → toZ w16 (ofZ w16 r) ≡ pos (unsigned-of 256 r)
+  above-is : ltZ (toZ w16 (ofZ w16 r)) (pos 0) ≡ false → toZ w16 (ofZ w16 r) ≡ pos (unsigned-of b r)
   above-is e = plain ∙ as-is r (rw plain at e)
 
   pub above-cast : ltZ (toZ w16 (ofZ w16 r)) (pos 0) ≡ false → T (nonNeg (toZ w16 (ofZ w16 r))) × Fits w32 (natAbs (toZ w16 (ofZ w16 r)))
-  above-cast e = rw (above-is e) (tt, record { fits = omega (arith, unsigned-lt r g) })
+  above-cast e = rw (above-is e) (tt, record { fits = omega (arith, unsigned-lt r wide g) })
 
-  pub above-value : ltZ (toZ w16 (ofZ w16 r)) (pos 0) ≡ false → natAbs (toZ w16 (ofZ w16 r)) ≡ unsigned-of 256 r
+  pub above-value : ltZ (toZ w16 (ofZ w16 r)) (pos 0) ≡ false → natAbs (toZ w16 (ofZ w16 r)) ≡ unsigned-of b r
   above-value e = rw (above-is e)
 
 -- one digit more
@@ -93,29 +92,10 @@ digit-turn b k ds i some h =
 pub digit-bound : (b k : ℕ) (ds : List ℕ) (i : ℕ) → 0 < b → Below b ds → packed b (drop i (take k ds)) < b ^ k
 digit-bound b k ds i some g = packed-le b (take k ds) i k some (below-parts b k ds g .0) (omega (arith, length-take k ds))
 
-pub row-below : (rs : List ℤ) → row-good rs ≡ true → Below 256 (row-items rs)
-unfolding reliabilities
-row-below rs g = items-below rs g
-
-pub symbol-below : (ws : List ℕ) → symbols-good 4 ws ≡ true → Below 16 ws
-symbol-below ws g = below 4 ws (to-T g)
-
 -- a row's items
-pub row-items-at : (rs : List ℤ) (i : ℕ) → getD (row-items rs) i 0 ≡ unsigned-of 256 (getD rs i (pos 0))
-unfolding row-items reliabilities unsigned-of
-row-items-at rs i = List·getD-map (unsigned-of 256) rs i (pos 0)
-
-pub row-items-drop : (n : ℕ) (rs : List ℤ) → row-items (drop n rs) ≡ drop n (row-items rs)
-unfolding row-items
-row-items-drop zero rs = refl
-row-items-drop (suc n) [] = refl
-row-items-drop (suc n) (r ∷ rs) = row-items-drop n rs
-
-pub row-good-drop : (n : ℕ) (rs : List ℤ) → row-good rs ≡ true → row-good (drop n rs) ≡ true
-unfolding row-good
-row-good-drop zero rs g = g
-row-good-drop (suc n) [] g = refl
-row-good-drop (suc n) (r ∷ rs) g = row-good-drop n rs (both (reliability-good r) (row-good rs) g .1)
+pub row-items-at : (f : Form) (rs : List ℤ) (i : ℕ) → getD (row-items f rs) i 0 ≡ unsigned-of (f .base) (getD rs i (pos 0))
+unfolding row-items unsigned-of
+row-items-at f rs i = List·getD-map (unsigned-of (f .base)) rs i (pos 0)
 
 pub row-good-at : (rs : List ℤ) (i : ℕ) → row-good rs ≡ true → i < length rs → reliability-good (getD rs i (pos 0)) ≡ true
 unfolding row-good
@@ -123,12 +103,15 @@ row-good-at [] i g h = absurd (omega arith)
 row-good-at (r ∷ rs) zero g h = both (reliability-good r) (row-good rs) g .0
 row-good-at (r ∷ rs) (suc i) g h = row-good-at rs i (both (reliability-good r) (row-good rs) g .1) (omega arith)
 
--- symbols
-pub symbols-four : (m : ℕ) (ws : List ℕ) → m ≤ 4 → symbols-good m ws ≡ true → symbols-good 4 ws ≡ true
-symbols-four m ws h g = good 4 ws (widen (pow-le-pow-right (lit< tt) h) ws (below m ws (to-T g)))
+-- items below a base, one by one
+pub below-at : (b : ℕ) (ds : List ℕ) → 0 < b → Below b ds → (i : ℕ) → getD ds i 0 < b
+below-at b [] some g i = some
+below-at b (d ∷ ds) some g zero = g .0
+below-at b (d ∷ ds) some g (suc i) = below-at b ds some (g .1) i
 
-pub symbols-drop : (n : ℕ) (ws : List ℕ) → symbols-good 4 ws ≡ true → symbols-good 4 (drop n ws) ≡ true
-symbols-drop n ws g = good 4 (drop n ws) (below-parts 16 n ws (below 4 ws (to-T g)) .1)
+pub all-below : (b : ℕ) (ds : List ℕ) → ((i : ℕ) → getD ds i 0 < b) → Below b ds
+all-below b [] h = tt
+all-below b (d ∷ ds) h = (h 0, all-below b ds (λ i. h (suc i)))
 
 -- four stores are a word
 pub four-stores : (l : List ℕ) (n w : ℕ) → n + 4 ≤ length l →

@@ -13,12 +13,11 @@ use lib.IntN.{ℤ}
 use Rattle.code.specs.Code.{width, long}
 use Rattle.code.specs.Bits.{row-long}
 use Rattle.refusal.specs.Refusal.{Outcome}
-use Rattle.sheet.specs.Sheet.{Question, most, numbers, all-good, question-good, first, questions}
+use Rattle.sheet.specs.Sheet.{Question, question, most, numbers, all-good, question-good, first, questions}
 use Rattle.sheet.proofs.Items.{passed, both, first-none}
 use Rattle.sheet.proofs.Trips.{good-parts, written-read, read-written}
 use Rattle.sheet.specs.Promise.{Written-read, Read-written}
 use Rattle.sheet_writer.specs.Calls.{listed, fits, parts-refusal, asked-refusal, list-refusal, write-refusal, Write-says}
-use Rattle.sheet_writer.specs.Steps.{question}
 use Rattle.sheet_writer.specs.Promise.{Lists-return, Lent-says, Sheets-return}
 use Rattle.sheet_writer.proofs.Writing.{asked-good, listed-length}
 

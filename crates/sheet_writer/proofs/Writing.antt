@@ -15,13 +15,13 @@ use Rattle.code.specs.Code.{code-good, width, long, symbols-good}
 use Rattle.code.specs.Bits.{row-long}
 use Rattle.refusal.specs.Refusal.{Outcome}
 use Rattle.metric.specs.Row.{row-good}
-use Rattle.sheet.specs.Sheet.{Question, end-kind, most, numbers, worded, digits, first, question-words, all-words, written, question-good}
+use Rattle.sheet.specs.Sheet.{Question, question, reliabilities, end-kind, most, numbers, worded, digits, first, question-words, all-words, written, question-good}
 use Rattle.sheet.proofs.Items.{passed, held, first-none}
 use Rattle.sheet.proofs.Bytes.{bytes-length}
 use Rattle.sheet.proofs.Scan.{first-some, first-next}
 use Rattle.sheet.proofs.Trips.{good-parts, parts-good}
 use Rattle.sheet_writer.specs.Calls.{listed, fits, parts-refusal, asked-refusal, list-refusal, write-refusal, Write-says}
-use Rattle.sheet_writer.specs.Steps.{words-needed, begun, question}
+use Rattle.sheet_writer.specs.Within.{words-needed, begun}
 use Rattle.sheet_writer.proofs.Lists.{enough, list-step}
 use Rattle.sheet_writer.proofs.Packing.{begun-none, begun-length, begun-join, begun-word, begun-all}
 use Rattle.sheet_writer.proofs.Questions.{words-length}
@@ -29,7 +29,7 @@ use Rattle.sheet_writer.proofs.Questions.{words-length}
 all-words-append : (a b : List Question) → all-words (a ++ b) ≡ all-words a ++ all-words b
 unfolding all-words
 all-words-append [] b = refl
-all-words-append (q ∷ qs) b = ap (λ (x : List ℕ). question-words q ++ x) (all-words-append qs b) ∙ sym (append-assoc (question-words q) (all-words qs) (all-words b))
+all-words-append (q ∷ qs) b = ap (λ (x : List ℕ). question-words reliabilities q ++ x) (all-words-append qs b) ∙ sym (append-assoc (question-words reliabilities q) (all-words qs) (all-words b))
 
 -- the question that stands first in what is left
 abbrev pub first-of : (c n : ℕ) → List ℤ → List ℕ → Question
@@ -72,8 +72,8 @@ needed-is (c ∷ cs) [] rs ws e = absurd (omega arith)
 needed-is (c ∷ cs) (n ∷ ns) rs ws e =
     let q : Question = first-of c n rs ws in
     let more : List Question = listed cs ns (drop (row-long (width c)) rs) (drop (long (width c)) ws) in
-    length-append (question-words q) (all-words more)
-    ∙ ap₂ (λ (a b : ℕ). a + b) (words-length c n (take (row-long (width c)) rs) (take (long (width c)) ws))
+    length-append (question-words reliabilities q) (all-words more)
+    ∙ ap₂ (λ (a b : ℕ). a + b) (words-length reliabilities c n (take (row-long (width c)) rs) (take (long (width c)) ws))
     (needed-is cs ns (drop (row-long (width c)) rs) (drop (long (width c)) ws) (omega arith))
 
 pub written-length : (qs : List Question) → length (written qs) ≡ 4 * (length (all-words qs) + 1)
@@ -143,18 +143,18 @@ module _ {cs ns : List ℕ} {rs : List ℤ} {ws o : List ℕ} {i row word at : �
     unfolding listed question after
     split = b .left ∙ rw (drop-cons cs i 0 h, drop-cons ns i 0 other, add-one)
 
-    pub fits-in : at + 4 * length (question-words next) ≤ length out
+    pub fits-in : at + 4 * length (question-words reliabilities next) ≤ length out
     unfolding all-words
-    fits-in = omega (arith, size, b .place, parts, ap (λ (l : List Question). length (all-words l)) split, length-append (question-words next) (all-words after))
+    fits-in = omega (arith, size, b .place, parts, ap (λ (l : List Question). length (all-words l)) split, length-append (question-words reliabilities next) (all-words after))
 
-    grown : all-words (take (i + 1) list) ≡ all-words (take i list) ++ question-words next
+    grown : all-words (take (i + 1) list) ≡ all-words (take i list) ++ question-words reliabilities next
     unfolding all-words
     grown =
         ap all-words (take-add i 1 list ∙ ap (λ (l : List Question). take i list ++ take 1 l) split) ∙ all-words-append (take i list) (next ∷ [])
-        ∙ ap (λ (l : List ℕ). all-words (take i list) ++ l) (append-nil (question-words next))
+        ∙ ap (λ (l : List ℕ). all-words (take i list) ++ l) (append-nil (question-words reliabilities next))
 
-    pub more : (out-now : List ℕ) → out-now ≡ take at out ++ begun (question-words next) (drop at out) →
-        Begun cs ns rs ws o (i + 1) (row + row-long (width next-code)) (word + long (width next-code)) (at + 4 * length (question-words next)) out-now
+    pub more : (out-now : List ℕ) → out-now ≡ take at out ++ begun (question-words reliabilities next) (drop at out) →
+        Begun cs ns rs ws o (i + 1) (row + row-long (width next-code)) (word + long (width next-code)) (at + 4 * length (question-words reliabilities next)) out-now
     unfolding after
     more out-now e =
         let er : drop (row-long (width next-code)) (drop row rs) ≡ drop (row + row-long (width next-code)) rs = drop-drop (row-long (width next-code)) row rs in
@@ -164,10 +164,10 @@ module _ {cs ns : List ℕ} {rs : List ℤ} {ws o : List ℕ} {i row word at : �
           whole = b .whole;
           refused = ap₂ (list-refusal (drop (i + 1) cs) (drop (i + 1) ns)) (sym er) (sym ew) ∙ asked .1;
           left = sym (drop-drop 1 i list) ∙ ap (drop 1) split ∙ ap₂ (listed (drop (i + 1) cs) (drop (i + 1) ns)) er ew;
-          place = omega (arith, b .place, ap length grown, length-append (all-words (take i list)) (question-words next));
+          place = omega (arith, b .place, ap length grown, length-append (all-words (take i list)) (question-words reliabilities next));
           holds =
-              e ∙ ap₂ (λ (n : ℕ) (l : List ℕ). take n l ++ begun (question-words next) (drop n l)) (b .place) (b .holds)
-              ∙ begun-join (all-words (take i list)) (question-words next) o ∙ ap (λ (l : List ℕ). begun l o) (sym grown);
+              e ∙ ap₂ (λ (n : ℕ) (l : List ℕ). take n l ++ begun (question-words reliabilities next) (drop n l)) (b .place) (b .holds)
+              ∙ begun-join (all-words (take i list)) (question-words reliabilities next) o ∙ ap (λ (l : List ℕ). begun l o) (sym grown);
           row-in = rows-left;
           word-in = words-left;
         }

@@ -4,9 +4,9 @@ ghost use mathlib.Core.Path.{_≡_};
 ghost use mathlib.Core.Bool.{true};
 ghost use Prim.Native.Nat.{_+_, _*_, _≤_};
 ghost use lib.ListN.{length};
-ghost use Rattle.sheet.specs.Sheet.{question-words, question-good, all-words, written};
+ghost use Rattle.sheet.specs.Sheet.{reliabilities, question, question-words, question-good, all-words, written};
 ghost use Rattle.sheet_writer.specs.Calls.{listed, list-refusal, Write-says};
-ghost use Rattle.sheet_writer.specs.Steps.{question, begun};
+ghost use Rattle.sheet_writer.specs.Within.{begun};
 
 mod list;
 mod pack;
@@ -14,13 +14,13 @@ mod pack;
 // Stores the words of a question at the start of an output.
 fn write_question(code: u32, number: u32, row: &[i16], word: &[u8], output: &mut [u8])
     requires { ⌜ question-good (question code number (now row) (now word)) ≡ true ⌝ }
-    requires { ⌜ 4 * length (question-words (question code number (now row) (now word))) ≤ length (now output) ⌝ }
-    ensures { λ _. ⌜ now (output .exit) ≡ begun (question-words (question code number (now (row .entry)) (now (word .entry)))) (now (output .entry)) ⌝ }
+    requires { ⌜ 4 * length (question-words reliabilities (question code number (now row) (now word))) ≤ length (now output) ⌝ }
+    ensures { λ _. ⌜ now (output .exit) ≡ begun (question-words reliabilities (question code number (now (row .entry)) (now (word .entry)))) (now (output .entry)) ⌝ }
 {
-    let n = 1 + sheet::refusal::question_words_of(code);
+    let n = 1 + sheet::words::question_words_of(sheet::words::RELIABILITIES, code);
     let mut j = 0;
     while j < n {
-        let w = pack::question_word(code, number, row, word, j);
+        let w = pack::question_word(sheet::words::RELIABILITIES, code, number, row, word, j);
         pack::put_word(output, j, w);
         j += 1;
     }
@@ -50,7 +50,7 @@ fn write_list(codes: &[u32], numbers: &[u32], rows: &[i16], words: &[u8], output
             &words[word..word_end],
             &mut output[at..],
         );
-        at += 4 * (1 + sheet::refusal::question_words_of(code));
+        at += 4 * (1 + sheet::words::question_words_of(sheet::words::RELIABILITIES, code));
         row = row_end;
         word = word_end;
         i += 1;

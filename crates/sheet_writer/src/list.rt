@@ -5,7 +5,7 @@ ghost use Prim.Native.Nat.{_+_, _*_, _<_, _≤_};
 ghost use lib.ListN.{length};
 ghost use Rattle.field.specs.Field.{width-good};
 ghost use Rattle.sheet_writer.specs.Calls.{fits, parts-refusal, asked-refusal, list-refusal};
-ghost use Rattle.sheet_writer.specs.Steps.{words-needed};
+ghost use Rattle.sheet_writer.specs.Within.{words-needed};
 
 fn is_enough(after: usize, left: usize, needed: usize) -> bool
     ensures { λ r. ⌜ r ≡ fits after left needed ⌝ }
@@ -93,7 +93,7 @@ pub fn needed(codes: &[u32]) -> usize
     let mut i = codes.len();
     while 0 < i {
         i -= 1;
-        total += 1 + sheet::refusal::question_words_of(codes[i]);
+        total += 1 + sheet::words::question_words_of(sheet::words::RELIABILITIES, codes[i]);
     }
     total
 }

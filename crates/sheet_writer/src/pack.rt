@@ -1,88 +1,76 @@
 // The words of a question, and their bytes.
+use sheet::Form;
 ghost use mathlib.Core.Path.{_≡_};
 ghost use mathlib.Core.Bool.{true};
 ghost use mathlib.Core.List.{_++_};
-ghost use Prim.Native.Nat.{_+_, _*_, _<_, _≤_};
+ghost use Prim.Native.Nat.{_+_, _*_, _^_, _<_, _≤_};
 ghost use lib.ListN.{length, getD, take, drop};
-ghost use Rattle.code.specs.Code.{symbols-good};
-ghost use Rattle.metric.specs.Row.{reliability-good, row-good};
-ghost use Rattle.sheet.specs.Sheet.{reliabilities, symbols, digits, packed, unsigned-of, row-items, items-words, question-words, question-good, worded, end-kind};
-ghost use Rattle.sheet_writer.specs.Steps.{question, begun};
+ghost use Rattle.metric.specs.Row.{reliability-good};
+ghost use Rattle.sheet.specs.Sheet.{digits, packed, unsigned-of, question, question-words, question-good, worded, end-kind};
+ghost use Rattle.sheet_writer.specs.Within.{items-of, Packs, Row-form};
 
 const KINDS: u32 = 268435456;
 
-// Two's complement of 8 bits.
-fn unsigned(r: i16) -> u32
+// Two's complement.
+fn unsigned(r: i16, base: u32) -> u32
     requires { ⌜ reliability-good r ≡ true ⌝ }
-    ensures { λ x. ⌜ x ≡ unsigned-of 256 r ⌝ }
+    requires { ⌜ 128 ≤ base ⌝ }
+    requires { ⌜ base < 2 ^ 15 ⌝ }
+    ensures { λ x. ⌜ x ≡ unsigned-of base r ⌝ }
 {
     if r < 0 {
-        return (r + 256) as u32;
+        return (r + base as i16) as u32;
     }
     r as u32
 }
 
-// The first three reliabilities as one number, the first lowest.
-fn packed_row(row: &[i16]) -> u32
-    requires { ⌜ row-good (now row) ≡ true ⌝ }
-    ensures { λ r. ⌜ r ≡ packed 256 (take 3 (row-items (now (row .entry)))) ⌝ }
+// Item i of a row or of a word, whichever the form says.
+fn item_of(row: &[i16], word: &[u8], f: Form, i: usize) -> u32
+    requires { ⌜ Packs f (now row) (now word) ⌝ }
+    requires { ⌜ i < length (items-of f (now row) (now word)) ⌝ }
+    ensures { λ r. ⌜ r ≡ getD (items-of f (now (row .entry)) (now (word .entry))) i 0 ⌝ }
 {
+    if f.kind == sheet::words::SYMBOLS.kind {
+        return word[i] as u32;
+    }
+    unsigned(row[i], f.base)
+}
+
+// Word k of those that hold n items, the first lowest.
+fn items_word(row: &[i16], word: &[u8], f: Form, n: usize, k: usize) -> u32
+    requires { ⌜ Packs f (now row) (now word) ⌝ }
+    requires { ⌜ length (items-of f (now row) (now word)) ≡ n ⌝ }
+    requires { ⌜ f .each * k ≤ n ⌝ }
+    ensures { λ r. ⌜ r ≡ worded (f .kind) (packed (f .base) (take (f .each) (drop (f .each * k) (items-of f (now (row .entry)) (now (word .entry)))))) ⌝ }
+{
+    let kind = f.kind;
+    let each = f.each;
+    let base = f.base;
+    let from = each * k;
     let mut v: u32 = 0;
-    let mut i = sheet::words::least(3, row.len());
+    let mut i = sheet::words::least(each, n - from);
     while 0 < i {
         i -= 1;
-        v = v * 256 + unsigned(row[i]);
+        v = v * base + item_of(row, word, f, from + i);
     }
-    v
-}
-
-// The first six symbols as one number, the first lowest.
-fn packed_symbols(word: &[u8]) -> u32
-    requires { ⌜ symbols-good 4 (now word) ≡ true ⌝ }
-    ensures { λ r. ⌜ r ≡ packed 16 (take 6 (now (word .entry))) ⌝ }
-{
-    let mut v: u32 = 0;
-    let mut i = sheet::words::least(6, word.len());
-    while 0 < i {
-        i -= 1;
-        v = v * 16 + word[i] as u32;
-    }
-    v
-}
-
-// Word k of a row, and of the symbols of a word.
-fn row_word(row: &[i16], k: usize) -> u32
-    requires { ⌜ row-good (now row) ≡ true ⌝ }
-    requires { ⌜ 3 * k ≤ length (now row) ⌝ }
-    ensures { λ r. ⌜ r ≡ 2 * 268435456 + packed 256 (take 3 (drop (3 * k) (row-items (now (row .entry))))) ⌝ }
-{
-    let from = 3 * k;
-    2 * KINDS + packed_row(&row[from..])
-}
-
-fn symbol_word(word: &[u8], k: usize) -> u32
-    requires { ⌜ symbols-good 4 (now word) ≡ true ⌝ }
-    requires { ⌜ 6 * k ≤ length (now word) ⌝ }
-    ensures { λ r. ⌜ r ≡ 3 * 268435456 + packed 16 (take 6 (drop (6 * k) (now (word .entry)))) ⌝ }
-{
-    let from = 6 * k;
-    3 * KINDS + packed_symbols(&word[from..])
+    kind * KINDS + v
 }
 
 // Word j of a question.
-pub fn question_word(code: u32, number: u32, row: &[i16], word: &[u8], j: usize) -> u32
+pub fn question_word(f: Form, code: u32, number: u32, row: &[i16], word: &[u8], j: usize) -> u32
+    requires { ⌜ Row-form f ⌝ }
     requires { ⌜ question-good (question code number (now row) (now word)) ≡ true ⌝ }
-    requires { ⌜ j < length (question-words (question code number (now row) (now word))) ⌝ }
-    ensures { λ r. ⌜ r ≡ getD (question-words (question code number (now (row .entry)) (now (word .entry)))) j 0 ⌝ }
+    requires { ⌜ j < length (question-words f (question code number (now row) (now word))) ⌝ }
+    ensures { λ r. ⌜ r ≡ getD (question-words f (question code number (now (row .entry)) (now (word .entry)))) j 0 ⌝ }
 {
     if j == 0 {
         return sheet::words::HEAD * KINDS + (code * sheet::words::NUMBERS + number);
     }
-    let k = sheet::words::row_words_of(code::width_of(code));
+    let k = sheet::words::row_words_of(f, code::width_of(code));
     if j <= k {
-        return row_word(row, j - 1);
+        return items_word(row, word, f, row.len(), j - 1);
     }
-    symbol_word(word, j - 1 - k)
+    items_word(row, word, sheet::words::SYMBOLS, word.len(), j - 1 - k)
 }
 
 // Stores a word, low byte first.

@@ -7,11 +7,11 @@ use lib.Dec.{lit≤}
 use lib.ListN.{length, getD, drop, drop-of-length-le}
 use denote.Ref.{now}
 use Rattle.code.specs.Code.{width}
-use Rattle.sheet.specs.Sheet.{as-words, kind, head-code, end-refusal, row-words, symbol-words}
-use Rattle.sheet.specs.Steps.{head-refusal}
+use Rattle.sheet.specs.Sheet.{as-words, kind, head-code, end-refusal, reliabilities, question-long}
+use Rattle.sheet.specs.Within.{head-refusal}
 use Rattle.sheet.specs.Calls.{judgement, judged}
 use Rattle.sheet.proofs.Bytes.{as-words-length}
-use Rattle.sheet.proofs.Judging.{tail, tail-none, turn-end, turn-refused, turn-more, judged-whole, judged-odd, width-fine, row-words-le, symbol-words-le}
+use Rattle.sheet.proofs.Judging.{tail, tail-none, turn-end, turn-refused, turn-more, judged-whole, judged-odd, question-long-le}
 use borrow.Author.Needs.{needs}
 use native.Mathlib.Omega.{arith}
 use Rattle.sheet.proofs.judge_sheet.Statement.{statement}
@@ -39,40 +39,20 @@ refused c =
 more : (c : tie.Else3 Inv-loop μ-loop) → let a = c .before .before .before .before .before .before in
     let bs : List ℕ = now (a .before .before .before .args .sheet) in
     let m : ℕ = width (head-code (getD (as-words bs) (a .loop .at) 0)) in
-    (0 < a .loop .left) × (judged bs ≡ tail (a .loop .left - 1) (drop (a .loop .at + (1 + (row-words m + symbol-words m))) (as-words bs)))
+    (0 < a .loop .left) × (judged bs ≡ tail (a .loop .left - 1) (drop (a .loop .at + (1 + question-long reliabilities m)) (as-words bs)))
 more c =
     let r = c .before in let a = r .before .before .before .before .before in
     let t = turn-more (now (a .before .before .before .args .sheet)) (a .loop .left) (a .loop .at) (r .before .before .before .before .loop-test .taken) (no-end (r .before)) (sym (refused r) ∙ c .if3 .left) (a .loop .inv .0) in
     (t .0, a .loop .inv .1 ∙ t .1)
 
 few : (c : tie.After-question-words-of Inv-loop μ-loop) → c .question-words-of .result ≤ 23
-few c =
-    let k : ℕ = c .before .head-code-of .result in
-    omega (arith, c .question-words-of .ensures, row-words-le (width k) (width-fine k), symbol-words-le (width k) (width-fine k))
+few c = omega (arith, c .question-words-of .ensures, question-long-le (c .before .head-code-of .result))
 
 returns : tie.Need-returns Inv-loop μ-loop
 returns c = sym (judged-odd (now (c .before .before .args .sheet)) (c .if1 .taken))
 
 loop-holds : tie.Need-loop-holds Inv-loop μ-loop
 loop-holds c = (lit≤ tt, judged-whole (now (c .before .before .args .sheet)) (c .if1 .left))
-
-word-at-requires : tie.Need-word-at-requires Inv-loop μ-loop
-word-at-requires c κs = search needs
-
-kind-of-requires : tie.Need-kind-of-requires Inv-loop μ-loop
-kind-of-requires c κs = search needs
-
-sub-judged-end : tie.Need-sub-judged-end Inv-loop μ-loop
-sub-judged-end c = search needs
-
-add-judged-end : tie.Need-add-judged-end Inv-loop μ-loop
-add-judged-end c = search needs
-
-sub-judged-end-2 : tie.Need-sub-judged-end-2 Inv-loop μ-loop
-sub-judged-end-2 c = search needs
-
-judged-end-requires : tie.Need-judged-end-requires Inv-loop μ-loop
-judged-end-requires c κs = search needs
 
 returns-2 : tie.Need-returns-2 Inv-loop μ-loop
 returns-2 c = let w = c .before .before .before in let a = w .before .before in
@@ -83,24 +63,12 @@ returns-2 c = let w = c .before .before .before in let a = w .before .before in
     ∙ turn-end bs (a .loop .left) (a .loop .at) (w .before .loop-test .taken)
     (ap kind (sym (w .word-at .ensures)) ∙ sym (c .before .before .kind-of .ensures) ∙ c .before .if2 .taken))
 
-add-refused-head : tie.Need-add-refused-head Inv-loop μ-loop
-add-refused-head c = search needs
-
-refused-head-requires : tie.Need-refused-head-requires Inv-loop μ-loop
-refused-head-requires c κs = search needs
-
 returns-3 : tie.Need-returns-3 Inv-loop μ-loop
 returns-3 c = let r = c .before in let a = r .before .before .before .before .before in
     sym (a .loop .inv .1
     ∙ turn-refused (now (a .before .before .before .args .sheet)) (a .loop .left) (a .loop .at) (r .before .before .before .before .loop-test .taken) (no-end (r .before))
     (λ e. c .if3 .taken (refused r ∙ e))
     ∙ sym (refused r))
-
-head-code-of-requires : tie.Need-head-code-of-requires Inv-loop μ-loop
-head-code-of-requires c κs = search needs
-
-question-words-of-requires : tie.Need-question-words-of-requires Inv-loop μ-loop
-question-words-of-requires c κs = search needs
 
 add-at : tie.Need-add-at Inv-loop μ-loop
 add-at c = omega (arith, few c)
@@ -120,7 +88,7 @@ loop-again c = let r = c .before .before .before in let a = r .before .before .b
       omega (arith, a .loop .inv .0),
       more (c .before .before) .1
           ∙ ap (λ (x : ℕ). tail (a .loop .left - 1) (drop (a .loop .at + (1 + x)) (as-words bs)))
-          (sym (c .question-words-of .ensures ∙ ap (λ (x : ℕ). row-words (width x) + symbol-words (width x)) (c .before .head-code-of .ensures ∙ ap head-code (r .before .before .before .word-at .ensures)))),
+          (sym (c .question-words-of .ensures ∙ ap (λ (x : ℕ). question-long reliabilities (width x)) (c .before .head-code-of .ensures ∙ ap head-code (r .before .before .before .word-at .ensures)))),
     )
 
 returns-4 : tie.Need-returns-4 Inv-loop μ-loop
@@ -136,18 +104,18 @@ judge-sheet-spec =
     μ-loop
     returns
     loop-holds
-    word-at-requires
-    kind-of-requires
-    sub-judged-end
-    add-judged-end
-    sub-judged-end-2
-    judged-end-requires
+    (λ c κs. search needs)
+    (λ c κs. search needs)
+    (λ c. search needs)
+    (λ c. search needs)
+    (λ c. search needs)
+    (λ c κs. search needs)
     returns-2
-    add-refused-head
-    refused-head-requires
+    (λ c. search needs)
+    (λ c κs. search needs)
     returns-3
-    head-code-of-requires
-    question-words-of-requires
+    (λ c κs. search needs)
+    (λ c κs. search needs)
     add-at
     add-at-2
     sub-left

@@ -8,7 +8,7 @@ use denote.Ref.{now}
 use Rattle.field.specs.Field.{width-good}
 use Rattle.code.specs.Code.{width, long}
 use Rattle.code.specs.Bits.{row-long}
-use Rattle.sheet.specs.Sheet.{as-words, kind, head-code, low, head-kind}
+use Rattle.sheet.specs.Sheet.{as-words, kind, head-code, head-kind}
 use Rattle.sheet.proofs.Judging.{width-fine}
 use Rattle.sheet_reader.specs.declared.Yield.the-variants.{Found}
 use Rattle.sheet_reader.specs.Within.{answered}
@@ -38,22 +38,10 @@ row-is c = c .row-long-of .ensures ∙ ap row-long (width-is (c .before))
 word-is : (c : tie.After-long-of) → c .long-of .result ≡ long (width (head-code (c .before .before .before .before .before .before .before .word-at .result)))
 word-is c = c .long-of .ensures ∙ ap long (width-is (c .before .before .before))
 
-word-at-requires : tie.Need-word-at-requires
-word-at-requires c κs = search needs
-
-kind-of-requires : tie.Need-kind-of-requires
-kind-of-requires c κs = search needs
-
 returns : tie.Need-returns
 unfolding head-kind
 returns c = let w = c .before .before in let s = w .before .before .args in
     sym (at-word w ∙ answered-none (w .word-at .result) (s .row) (s .word) (λ e. c .if1 .taken (c .before .kind-of .ensures ∙ e)))
-
-head-code-of-requires : tie.Need-head-code-of-requires
-head-code-of-requires c κs = search needs
-
-width-of-requires : tie.Need-width-of-requires
-width-of-requires c κs = search needs
 
 row-long-of-requires : tie.Need-row-long-of-requires
 row-long-of-requires c κs = fine c
@@ -70,9 +58,6 @@ returns-3 c = let h = c .before .before .before .before .before .before in let w
     sym (at-word w
     ∙ answered-word (w .word-at .result) (s .row) (s .word) (head h) (c .before .before .if2 .left ∙ row-is (c .before .before .before)) (λ e. c .if3 .taken (e ∙ sym (word-is (c .before)))))
 
-low-of-requires : tie.Need-low-of-requires
-low-of-requires c κs = search needs
-
 returns-4 : tie.Need-returns-4
 returns-4 c = let h = c .before .before .before .before .before .before .before in let w = h .before .before in let s = w .before .before .args in
     ap₂ Found (c .before .before .before .before .before .before .head-code-of .ensures) (c .low-of .ensures)
@@ -83,14 +68,14 @@ pub answer-at-spec : {M : Type 1} → statement M
 answer-at-spec =
     tie.close
     (tie.spec
-    word-at-requires
-    kind-of-requires
+    (λ c κs. search needs)
+    (λ c κs. search needs)
     returns
-    head-code-of-requires
-    width-of-requires
+    (λ c κs. search needs)
+    (λ c κs. search needs)
     row-long-of-requires
     returns-2
     long-of-requires
     returns-3
-    low-of-requires
+    (λ c κs. search needs)
     returns-4)

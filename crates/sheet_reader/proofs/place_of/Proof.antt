@@ -6,8 +6,8 @@ use Prim.Native.Nat.{ℕ, _+_, _-_, _≤_}
 use lib.ListN.{getD}
 use denote.Ref.{now}
 use Rattle.code.specs.Code.{width}
-use Rattle.sheet.specs.Sheet.{as-words, kind, head-code, head-kind, row-words, symbol-words}
-use Rattle.sheet.proofs.Judging.{width-fine, row-words-le, symbol-words-le}
+use Rattle.sheet.specs.Sheet.{as-words, kind, head-code, head-kind, reliabilities, question-long}
+use Rattle.sheet.proofs.Judging.{question-long-le}
 use Rattle.sheet_reader.specs.Within.{behind, skipped}
 use Rattle.sheet_reader.proofs.Says.{inside}
 use Rattle.sheet_reader.proofs.Choice.{skip-none, skip-end, skip-more}
@@ -27,29 +27,15 @@ unfolding head-kind
 head c = ap kind (sym (c .before .before .word-at .ensures)) ∙ sym (c .before .kind-of .ensures) ∙ c .if1 .left
 
 few : (c : tie.After-question-words-of Inv-loop μ-loop) → c .question-words-of .result ≤ 23
-few c =
-    let k : ℕ = c .before .head-code-of .result in
-    omega (arith, c .question-words-of .ensures, row-words-le (width k) (width-fine k), symbol-words-le (width k) (width-fine k))
+few c = omega (arith, c .question-words-of .ensures, question-long-le (c .before .head-code-of .result))
 
 loop-holds : tie.Need-loop-holds Inv-loop μ-loop
 loop-holds c = refl
-
-word-at-requires : tie.Need-word-at-requires Inv-loop μ-loop
-word-at-requires c κs = search needs
-
-kind-of-requires : tie.Need-kind-of-requires Inv-loop μ-loop
-kind-of-requires c κs = search needs
 
 returns : tie.Need-returns Inv-loop μ-loop
 unfolding head-kind
 returns c = let w = c .before .before in let a = w .before .before in let s = a .before .before .args in
     sym (a .loop .inv ∙ skip-end (as-words (now (s .sheet))) (a .loop .at) (a .loop .left) (λ e. c .if1 .taken (c .before .kind-of .ensures ∙ ap kind (w .word-at .ensures) ∙ e)))
-
-head-code-of-requires : tie.Need-head-code-of-requires Inv-loop μ-loop
-head-code-of-requires c κs = search needs
-
-question-words-of-requires : tie.Need-question-words-of-requires Inv-loop μ-loop
-question-words-of-requires c κs = search needs
 
 add-at : tie.Need-add-at Inv-loop μ-loop
 add-at c = omega (arith, few c)
@@ -58,18 +44,12 @@ add-at-2 : tie.Need-add-at-2 Inv-loop μ-loop
 add-at-2 c = let e = c .before .before in let a = e .before .before .before .before in
     omega (arith, few c, inside (now (a .before .before .args .sheet)) (a .loop .at) (head e))
 
-sub-left : tie.Need-sub-left Inv-loop μ-loop
-sub-left c = search needs
-
-loop-less : tie.Need-loop-less Inv-loop μ-loop
-loop-less c = search needs
-
 loop-again : tie.Need-loop-again Inv-loop μ-loop
 unfolding behind
 loop-again c = let e = c .before .before in let w = e .before .before in let a = w .before .before in let ws : List ℕ = as-words (now (a .before .before .args .sheet)) in
     a .loop .inv ∙ skip-more ws (a .loop .at) (a .loop .left) (w .before .loop-test .taken) (head e)
     ∙ ap (λ (x : ℕ). skipped (a .loop .left - 1) ws (a .loop .at + (1 + x)))
-    (sym (c .question-words-of .ensures ∙ ap (λ (x : ℕ). row-words (width x) + symbol-words (width x)) (c .before .head-code-of .ensures ∙ ap head-code (w .word-at .ensures))))
+    (sym (c .question-words-of .ensures ∙ ap (λ (x : ℕ). question-long reliabilities (width x)) (c .before .head-code-of .ensures ∙ ap head-code (w .word-at .ensures))))
 
 returns-2 : tie.Need-returns-2 Inv-loop μ-loop
 returns-2 c = let a = c .before in sym (a .loop .inv ∙ skip-none (as-words (now (a .before .before .args .sheet))) (a .loop .at) (a .loop .left) (c .loop-test .left))
@@ -81,14 +61,14 @@ place-of-spec =
     Inv-loop
     μ-loop
     loop-holds
-    word-at-requires
-    kind-of-requires
+    (λ c κs. search needs)
+    (λ c κs. search needs)
     returns
-    head-code-of-requires
-    question-words-of-requires
+    (λ c κs. search needs)
+    (λ c κs. search needs)
     add-at
     add-at-2
-    sub-left
-    loop-less
+    (λ c. search needs)
+    (λ c. search needs)
     loop-again
     returns-2)

@@ -8,8 +8,9 @@ use denote.Ref.{now}
 use Rattle.field.specs.Field.{width-good}
 use Rattle.code.specs.Code.{width, long}
 use Rattle.code.specs.Bits.{row-long}
-use Rattle.sheet.specs.Sheet.{as-words}
-use Rattle.sheet.proofs.Judging.{width-fine, row-words-le, symbol-words-le}
+use Rattle.sheet.specs.Sheet.{reliabilities, as-words}
+use Rattle.sheet.proofs.Forms.{reliabilities-fine}
+use Rattle.sheet.proofs.Judging.{width-fine, question-long-le}
 use Rattle.sheet_reader.specs.Within.{behind, Read-says}
 use Rattle.sheet_reader.proofs.Says.{Standing, standing, inside, says-found, says-none, says-refused}
 use native.Mathlib.Omega.{arith}
@@ -29,32 +30,21 @@ width-is : (c : tie.After-width-of) → c .width-of .result ≡ width (c .before
 width-is c = c .width-of .ensures
 
 few : (c : tie.After-question-words-of) → c .question-words-of .result ≤ 23
-few c =
-    let k : ℕ = c .before .before .before .before .before .before .before .before .before .answer .given .0 .0 in
-    omega (arith, c .question-words-of .ensures, row-words-le (width k) (width-fine k), symbol-words-le (width k) (width-fine k))
-
-answer-at-requires : tie.Need-answer-at-requires
-answer-at-requires c κs = search needs
-
-enum-known-answer : tie.Need-enum-known-answer
-enum-known-answer c = search needs
-
-width-of-requires : tie.Need-width-of-requires
-width-of-requires c κs = search needs
+few c = omega (arith, c .question-words-of .ensures, question-long-le (c .before .before .before .before .before .before .before .before .before .answer .given .0 .0))
 
 read-question-requires : tie.Need-read-question-requires
 read-question-requires c κs = let w = c .before .before in let a = w .before .before in let t = found a in
     let k : ℕ = a .answer .given .0 .0 in
     let s = a .before .before .before .before .before .args in (
-      ap width-good (width-is w) ∙ width-fine k,
+      reliabilities-fine,
       (
-        inside (now (s .sheet)) (s .at) (t .head),
-        (t .row-long-is ∙ ap row-long (sym (width-is w ∙ ap width (t .code-is))), t .long-is ∙ ap long (sym (width-is w ∙ ap width (t .code-is)))),
+        ap width-good (width-is w) ∙ width-fine k,
+        (
+          inside (now (s .sheet)) (s .at) (t .head),
+          (t .row-long-is ∙ ap row-long (sym (width-is w ∙ ap width (t .code-is))), t .long-is ∙ ap long (sym (width-is w ∙ ap width (t .code-is)))),
+        ),
       ),
     )
-
-question-words-of-requires : tie.Need-question-words-of-requires
-question-words-of-requires c κs = search needs
 
 add-next : tie.Need-add-next
 add-next c = omega (arith, few c)
@@ -63,18 +53,6 @@ add-next-2 : tie.Need-add-next-2
 add-next-2 c = let a = c .before .before .before .before .before .before .before .before .before in
     let s = a .before .before .before .before .before .args in
     omega (arith, few c, inside (now (s .sheet)) (s .at) (found a .head))
-
-enum-told : tie.Need-enum-told
-enum-told c = search needs
-
-enum-told-2 : tie.Need-enum-told-2
-enum-told-2 c = search needs
-
-same-length : tie.Need-same-length
-same-length c = search needs
-
-same-length-2 : tie.Need-same-length-2
-same-length-2 c = search needs
 
 returns : tie.Need-returns
 unfolding behind
@@ -86,7 +64,7 @@ returns c = let q = c .before .before .before .before in
     says-found (now (s .sheet)) (s .at) (now (s .row)) (now (s .word)) _ _ (a .answer .given .0 .0) (a .answer .given .0 .1 .0) _
     (sym (a .before .before .answer-at .ensures) ∙ a .answer .given .1)
     (ap (λ (x : ℕ). s .at + (1 + x)) (c .question-words-of .ensures))
-    (subst (λ (m : ℕ). Read-says m (drop (s .at + 1) ws) (q .read-question .last .1 .1 .1 .0) (q .read-question .last .1 .1 .1 .1 .0)) (width-is w) (q .read-question .ensures))
+    (subst (λ (m : ℕ). Read-says reliabilities m (drop (s .at + 1) ws) (q .read-question .last .1 .1 .1 .1 .0) (q .read-question .last .1 .1 .1 .1 .1 .0)) (width-is w) (q .read-question .ensures))
 
 returns-2 : tie.Need-returns-2
 returns-2 c = let s = c .before .before .before .before .before .args in says-none (now (s .sheet)) (s .at) (now (s .row)) (now (s .word)) (c .before .before .answer-at .result) (c .before .before .answer-at .ensures) (c .enum-told .given .1)
@@ -98,17 +76,17 @@ pub question-at-spec : {M : Type 1} → statement M
 question-at-spec =
     tie.close
     (tie.spec
-    answer-at-requires
-    enum-known-answer
-    width-of-requires
+    (λ c κs. search needs)
+    (λ c. search needs)
+    (λ c κs. search needs)
     read-question-requires
-    question-words-of-requires
+    (λ c κs. search needs)
     add-next
     add-next-2
-    enum-told
-    enum-told-2
-    same-length
-    same-length-2
+    (λ c. search needs)
+    (λ c. search needs)
+    (λ c. search needs)
+    (λ c. search needs)
     returns
     returns-2
     returns-3)

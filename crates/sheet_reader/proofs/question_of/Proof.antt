@@ -14,23 +14,11 @@ there c =
     let s = c .before .before .before .before .before .args in
     rw (c .place-of .ensures) (place-there (now (s .sheet)) (s .index) (judged-large (now (s .sheet)) (rw (c .before .before .judge-sheet .ensures) at (c .before .if1 .left))))
 
-judge-sheet-requires : tie.Need-judge-sheet-requires
-judge-sheet-requires c κs = search needs
-
 returns : tie.Need-returns
 returns c = let s = c .before .before .before .before .args in refused (now (s .sheet)) (s .index) _ _ _ (c .before .judge-sheet .ensures) (c .if1 .taken)
 
-place-of-requires : tie.Need-place-of-requires
-place-of-requires c κs = search needs
-
 question-at-requires : tie.Need-question-at-requires
 question-at-requires c κs = (_, there (c .before .before))
-
-same-length : tie.Need-same-length
-same-length c = search needs
-
-same-length-2 : tie.Need-same-length-2
-same-length-2 c = search needs
 
 returns-2 : tie.Need-returns-2
 returns-2 c = let q = c .before .before .before in choice (there (q .before .before .before)) (q .question-at .ensures)
@@ -39,10 +27,10 @@ pub question-of-spec : {M : Type 1} → statement M
 question-of-spec =
     tie.close
     (tie.spec
-    judge-sheet-requires
+    (λ c κs. search needs)
     returns
-    place-of-requires
+    (λ c κs. search needs)
     question-at-requires
-    same-length
-    same-length-2
+    (λ c. search needs)
+    (λ c. search needs)
     returns-2)

@@ -7,61 +7,44 @@ use lib.ListN.{drop}
 use lib.Seq.{drop-drop}
 use Rattle.code.specs.Code.{long}
 use denote.Ref.{now}
-use Rattle.sheet.specs.Sheet.{reliabilities, symbols, as-words, count, items-in, row-of, row-words, symbol-words, after-row}
+use Rattle.sheet.specs.Sheet.{symbols, as-words, row-of, row-words, symbol-words, after-row}
+use Rattle.sheet_reader.specs.Within.{items-from}
 use Rattle.sheet.proofs.Judging.{row-words-le, long-le}
 use native.Mathlib.Omega.{arith}
 use borrow.Author.Needs.{needs}
 use Rattle.sheet_reader.proofs.read_question.Statement.{statement}
 use Rattle.sheet_reader.proofs.read_question.Tie as tie
 
-add-read-row : tie.Need-add-read-row
-add-read-row c = search needs
-
-read-row-requires : tie.Need-read-row-requires
-read-row-requires c κs = search needs
-
-add-read-symbols : tie.Need-add-read-symbols
-add-read-symbols c = search needs
-
-row-words-of-requires : tie.Need-row-words-of-requires
-row-words-of-requires c κs = search needs
-
 add-read-symbols-2 : tie.Need-add-read-symbols-2
-add-read-symbols-2 c = let s = c .before .before .before .before .before .before in omega (arith, c .row-words-of .ensures, row-words-le (s .args .m) (s .pre .0))
+add-read-symbols-2 c = let s = c .before .before .before .before .before .before in omega (arith, c .row-words-of .ensures, row-words-le (s .args .f) (s .pre .0) (s .args .m) (s .pre .1 .0))
 
 read-symbols-requires : tie.Need-read-symbols-requires
 read-symbols-requires c κs = let s = c .before .before .before .before .before .before .before in
-    omega (arith, c .before .row-words-of .ensures, row-words-le (s .args .m) (s .pre .0), long-le (s .args .m) (s .pre .0), s .pre .1 .1 .1)
-
-same-length : tie.Need-same-length
-same-length c = search needs
-
-same-length-2 : tie.Need-same-length-2
-same-length-2 c = search needs
+    omega (arith, c .before .row-words-of .ensures, row-words-le (s .args .f) (s .pre .0) (s .args .m) (s .pre .1 .0), long-le (s .args .m) (s .pre .1 .0), s .pre .1 .1 .1 .1)
 
 returns : tie.Need-returns
-unfolding row-words symbol-words after-row
+unfolding items-from row-words symbol-words after-row
 returns c = let s = c .before .before .before .before .before .before .before .before .before .before in
     let ws : List ℕ = as-words (now (s .args .sheet)) in
-    let at : ℕ = s .args .at + 1 in
+    let at : ℕ = s .args .at + 1 in let f = s .args .f in
     record {
       row-is = c .before .before .before .before .before .before .read-row .ensures
-          ∙ ap (λ (n : ℕ). row-of (items-in reliabilities (count reliabilities n) n (drop at ws))) (s .pre .1 .1 .0);
+          ∙ ap (λ (n : ℕ). row-of f (items-from f n (drop at ws))) (s .pre .1 .1 .1 .0);
       word-is = c .before .before .read-symbols .ensures
-          ∙ ap₂ (λ (n k : ℕ). items-in symbols (count symbols n) n (drop (at + k) ws)) (s .pre .1 .1 .1) (c .before .before .before .before .row-words-of .ensures)
-          ∙ ap (items-in symbols (symbol-words (s .args .m)) (long (s .args .m))) (sym (drop-drop (row-words (s .args .m)) at ws));
+          ∙ ap₂ (λ (n k : ℕ). items-from symbols n (drop (at + k) ws)) (s .pre .1 .1 .1 .1) (c .before .before .before .before .row-words-of .ensures)
+          ∙ ap (items-from symbols (long (s .args .m))) (sym (drop-drop (row-words f (s .args .m)) at ws));
     }
 
 pub read-question-spec : {M : Type 1} → statement M
 read-question-spec =
     tie.close
     (tie.spec
-    add-read-row
-    read-row-requires
-    add-read-symbols
-    row-words-of-requires
+    (λ c. search needs)
+    (λ c κs. search needs)
+    (λ c. search needs)
+    (λ c κs. search needs)
     add-read-symbols-2
     read-symbols-requires
-    same-length
-    same-length-2
+    (λ c. search needs)
+    (λ c. search needs)
     returns)

@@ -10,9 +10,9 @@ use denote.Ref.{now}
 use Rattle.field.specs.Field.{width-good}
 use Rattle.code.specs.Code.{width, long}
 use Rattle.code.specs.Bits.{row-long}
-use Rattle.sheet.specs.Sheet.{Question, digits, question-words, question-good}
-use Rattle.sheet.proofs.Judging.{width-fine, row-words-le, symbol-words-le}
-use Rattle.sheet_writer.specs.Steps.{question, begun}
+use Rattle.sheet.specs.Sheet.{Question, reliabilities, question, digits, question-words, question-good}
+use Rattle.sheet.proofs.Judging.{width-fine, question-long-le}
+use Rattle.sheet_writer.specs.Within.{begun}
 use Rattle.sheet_writer.proofs.Questions.{words-length}
 use Rattle.sheet_writer.proofs.Writing.{Begun, begin, size, next-code, next, next-good, rows-left, words-left, fits-in, more, end-fits, done}
 use borrow.Author.Needs.{needs}
@@ -41,7 +41,7 @@ rows-in c = let i = c .before .before .before in omega (arith, row-is c, rows-le
 words-in : (c : tie.After-long-of Inv-loop μ-loop) → let i = c .before .before .before .before in i .before .loop .word + c .long-of .result ≤ length (now (i .before .before .before .before .before .before .args .words))
 words-in c = let i = c .before .before .before .before in omega (arith, word-is c, words-left (i .before .loop .inv) (i .loop-test .taken))
 
-output-in : (c : tie.In-loop Inv-loop μ-loop) → let a = c .before in a .loop .at + 4 * length (question-words (next (a .loop .inv))) ≤ length (a .loop .output)
+output-in : (c : tie.In-loop Inv-loop μ-loop) → let a = c .before in a .loop .at + 4 * length (question-words reliabilities (next (a .loop .inv))) ≤ length (a .loop .output)
 output-in c = fits-in (c .before .loop .inv) (c .loop-test .taken)
 
 part-is : (a : tie.At-loop Inv-loop μ-loop) → take (length (a .loop .output) - a .loop .at) (drop (a .loop .at) (a .loop .output)) ≡ drop (a .loop .at) (a .loop .output)
@@ -60,13 +60,11 @@ same-question c =
     rw (n, m)
 
 words-here : (c : tie.After-question-words-of Inv-loop μ-loop) →
-    1 + c .question-words-of .result ≡ length (question-words (next (c .before .before .before .before .before .before .before .before .before .before .before .before .before .loop .inv)))
+    1 + c .question-words-of .result ≡ length (question-words reliabilities (next (c .before .before .before .before .before .before .before .before .before .before .before .before .before .loop .inv)))
 words-here c = rw words-length (omega (arith, c .question-words-of .ensures))
 
 few : (c : tie.After-question-words-of Inv-loop μ-loop) → c .question-words-of .result ≤ 23
-few c =
-    let m : ℕ = width (next-code (c .before .before .before .before .before .before .before .before .before .before .before .before .before .loop .inv)) in
-    omega (arith, c .question-words-of .ensures, row-words-le m (width-fine _), symbol-words-le m (width-fine _))
+few c = omega (arith, c .question-words-of .ensures, question-long-le (next-code (c .before .before .before .before .before .before .before .before .before .before .before .before .before .loop .inv)))
 
 loop-holds : tie.Need-loop-holds Inv-loop μ-loop
 loop-holds c =
@@ -93,7 +91,7 @@ write-question-requires c κs =
     let l = c .before .before .before .before in let i = l .before .before .before .before in let a = i .before in
     let e = same-question l in (
       ap question-good e ∙ next-good (a .loop .inv) (i .loop-test .taken),
-      omega (arith, ap (λ (q : Question). length (question-words q)) e, output-in i, ap length (part-is a), length-drop (a .loop .at) (a .loop .output)),
+      omega (arith, ap (λ (q : Question). length (question-words reliabilities q)) e, output-in i, ap length (part-is a), length-drop (a .loop .at) (a .loop .output)),
     )
 
 add-at-2 : tie.Need-add-at-2 Inv-loop μ-loop
@@ -108,9 +106,9 @@ loop-again c =
     rw (row-is (l .before), word-is l, words-here c)
     (more (a .loop .inv) (i .loop-test .taken) _
     (ap₂ (λ (x y : List ℕ). take (a .loop .at) (a .loop .output) ++ (x ++ y))
-    (c .before .before .before .write-question .ensures ∙ ap₂ begun (ap question-words (same-question l)) (part-is a))
+    (c .before .before .before .write-question .ensures ∙ ap₂ begun (ap (question-words reliabilities) (same-question l)) (part-is a))
     (drop-of-length-le (drop (a .loop .at) (a .loop .output)) {i = length (a .loop .output) - a .loop .at} (omega (arith, length-drop (a .loop .at) (a .loop .output))))
-    ∙ ap (λ (x : List ℕ). take (a .loop .at) (a .loop .output) ++ x) (append-nil (begun (question-words (next (a .loop .inv))) (drop (a .loop .at) (a .loop .output))))))
+    ∙ ap (λ (x : List ℕ). take (a .loop .at) (a .loop .output) ++ x) (append-nil (begun (question-words reliabilities (next (a .loop .inv))) (drop (a .loop .at) (a .loop .output))))))
 
 cast-count : tie.Need-cast-count Inv-loop μ-loop
 cast-count c = omega (arith, c .before .before .before .before .before .before .pre .1 .0)

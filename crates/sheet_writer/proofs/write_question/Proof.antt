@@ -6,12 +6,11 @@ use Prim.Native.Nat.{ℕ, _+_, _*_, _-_, _<_, _≤_}
 use lib.ListN.{length, take, drop}
 use lib.Seq.{take-all}
 use denote.Ref.{now}
-use Rattle.code.specs.Code.{width}
-use Rattle.sheet.specs.Sheet.{digits, question-words}
-use Rattle.sheet.proofs.Judging.{width-fine, row-words-le, symbol-words-le}
-use Rattle.sheet_writer.specs.Steps.{question, begun}
+use Rattle.sheet.specs.Sheet.{digits, reliabilities, question, question-words}
+use Rattle.sheet.proofs.Judging.{question-long-le}
+use Rattle.sheet_writer.specs.Within.{begun}
 use Rattle.sheet_writer.proofs.Packing.{begun-none, begun-next}
-use Rattle.sheet_writer.proofs.Questions.{words-length}
+use Rattle.sheet_writer.proofs.Questions.{words-length, row-form}
 use borrow.Author.Needs.{needs}
 use native.Mathlib.Omega.{arith}
 use Rattle.sheet_writer.proofs.write_question.Statement.{statement}
@@ -19,28 +18,28 @@ use Rattle.sheet_writer.proofs.write_question.Tie as tie
 
 abbrev Inv-loop : tie.InvT-loop
 Inv-loop code number row word output₀ n j₀ output j =
-    (j ≤ length (question-words (question code number row word))) × (length output ≡ length output₀)
-    × (output ≡ begun (take j (question-words (question code number row word))) output₀)
+    (j ≤ length (question-words reliabilities (question code number row word))) × (length output ≡ length output₀)
+    × (output ≡ begun (take j (question-words reliabilities (question code number row word))) output₀)
 
 abbrev μ-loop : tie.MeasureT-loop
-μ-loop code number row word output₀ n j₀ output j = length (question-words (question code number row word)) - j
+μ-loop code number row word output₀ n j₀ output j = length (question-words reliabilities (question code number row word)) - j
 
 abbrev wanted : (c : tie.In-loop Inv-loop μ-loop) → List ℕ
-wanted c = let s = c .before .before .before .before .before .args in question-words (question (s .code) (s .number) (now (s .row)) (now (s .word)))
+wanted c = let s = c .before .before .before .before .before .args in question-words reliabilities (question (s .code) (s .number) (now (s .row)) (now (s .word)))
 
 inside : (c : tie.In-loop Inv-loop μ-loop) → c .before .loop .j < length (wanted c)
 inside c =
     let a = c .before in let s = a .before .before .before .before .args in
-    omega (arith, c .loop-test .taken, a .before .question-words-of .ensures, words-length (s .code) (s .number) (now (s .row)) (now (s .word)))
+    omega (arith, c .loop-test .taken, a .before .question-words-of .ensures, words-length reliabilities (s .code) (s .number) (now (s .row)) (now (s .word)))
 
 add-n : tie.Need-add-n Inv-loop μ-loop
-add-n c = let k : ℕ = c .before .before .before .args .code in omega (arith, c .question-words-of .ensures, row-words-le (width k) (width-fine k), symbol-words-le (width k) (width-fine k))
+add-n c = let k : ℕ = c .before .before .before .args .code in omega (arith, c .question-words-of .ensures, question-long-le k)
 
 loop-holds : tie.Need-loop-holds Inv-loop μ-loop
 loop-holds c = (omega arith, refl, sym (begun-none (now (c .before .before .before .args .output))))
 
 question-word-requires : tie.Need-question-word-requires Inv-loop μ-loop
-question-word-requires c κs = let s = c .before .before .before .before .before in (s .pre .0, inside c)
+question-word-requires c κs = let s = c .before .before .before .before .before in (row-form, (s .pre .0, inside c))
 
 put-word-requires : tie.Need-put-word-requires Inv-loop μ-loop
 put-word-requires c κs = let a = c .before .before .before in let s = a .before .before .before .before in omega (arith, inside (c .before .before), a .loop .inv .1, s .pre .1)
@@ -62,9 +61,9 @@ loop-again c = let p = c .before .before in let i = p .before .before .before in
 
 returns : tie.Need-returns Inv-loop μ-loop
 returns c = let a = c .before in let s = a .before .before .before .before .args in
-    let ws : List ℕ = question-words (question (s .code) (s .number) (now (s .row)) (now (s .word))) in
+    let ws : List ℕ = question-words reliabilities (question (s .code) (s .number) (now (s .row)) (now (s .word))) in
     a .loop .inv .2 ∙ ap (λ (l : List ℕ). begun l (now (s .output)))
-    (take-all (a .loop .j) ws (omega (arith, c .loop-test .left, a .before .question-words-of .ensures, words-length (s .code) (s .number) (now (s .row)) (now (s .word)))))
+    (take-all (a .loop .j) ws (omega (arith, c .loop-test .left, a .before .question-words-of .ensures, words-length reliabilities (s .code) (s .number) (now (s .row)) (now (s .word)))))
 
 pub write-question-spec : {M : Type 1} → statement M
 write-question-spec =

@@ -16,15 +16,6 @@ abbrev μ-loop : tie.MeasureT-loop
 loop-holds : tie.Need-loop-holds Inv-loop μ-loop
 loop-holds c = refl
 
-div-rest : tie.Need-div-rest Inv-loop μ-loop
-div-rest c = search needs
-
-sub-left : tie.Need-sub-left Inv-loop μ-loop
-sub-left c = search needs
-
-loop-less : tie.Need-loop-less Inv-loop μ-loop
-loop-less c = search needs
-
 loop-again : tie.Need-loop-again Inv-loop μ-loop
 loop-again c = let b = c .before in b .loop .inv ∙ above-step (b .loop .rest) (b .before .args .base) (b .loop .left) (c .loop-test .taken)
 
@@ -33,4 +24,4 @@ returns c = let b = c .before in sym (b .loop .inv ∙ above-none (b .loop .rest
 
 pub above-spec : {M : Type 1} → statement M
 above-spec =
-    tie.close (tie.spec Inv-loop μ-loop loop-holds div-rest sub-left loop-less loop-again returns)
+    tie.close (tie.spec Inv-loop μ-loop loop-holds (λ c. search needs) (λ c. search needs) (λ c. search needs) loop-again returns)

@@ -5,7 +5,7 @@ use mathlib.Core.Bool.{Bool, _&&_}
 use Prim.Native.Nat.{_-_, _/_}
 use borrow.Author.Tests.{not-true, not-false}
 use Rattle.sheet.specs.Sheet.{digits}
-use Rattle.sheet.specs.Steps.{outside}
+use Rattle.sheet.specs.Within.{outside}
 use Rattle.sheet.proofs.Scan.{outside-step, outside-none}
 use borrow.Author.Needs.{needs}
 use Rattle.sheet.proofs.refusal.all_outside.Statement.{statement}
@@ -28,23 +28,8 @@ turn c =
 loop-holds : tie.Need-loop-holds Inv-loop μ-loop
 loop-holds c = refl
 
-rem-is-outside : tie.Need-rem-is-outside Inv-loop μ-loop
-rem-is-outside c = search needs
-
-is-outside-requires : tie.Need-is-outside-requires Inv-loop μ-loop
-is-outside-requires c κs = search needs
-
 returns : tie.Need-returns Inv-loop μ-loop
 returns c = sym (turn (c .before) ∙ rw (not-true (c .before .is-outside .result) (c .if1 .taken)))
-
-div-rest : tie.Need-div-rest Inv-loop μ-loop
-div-rest c = search needs
-
-sub-left : tie.Need-sub-left Inv-loop μ-loop
-sub-left c = search needs
-
-loop-less : tie.Need-loop-less Inv-loop μ-loop
-loop-less c = search needs
 
 loop-again : tie.Need-loop-again Inv-loop μ-loop
 loop-again c = turn (c .before) ∙ rw (not-false (c .before .is-outside .result) (c .if1 .left))
@@ -59,11 +44,11 @@ all-outside-spec =
     Inv-loop
     μ-loop
     loop-holds
-    rem-is-outside
-    is-outside-requires
+    (λ c. search needs)
+    (λ c κs. search needs)
     returns
-    div-rest
-    sub-left
-    loop-less
+    (λ c. search needs)
+    (λ c. search needs)
+    (λ c. search needs)
     loop-again
     returns-2)

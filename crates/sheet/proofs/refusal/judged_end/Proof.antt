@@ -13,17 +13,8 @@ unused c = sym (c .before .head-code-of .ensures) ∙ c .if1 .left
 same : (c : tie.Else2) → let s = c .before .before .before .before .args in low (s .w) ≡ s .seen
 same c = sym (c .before .low-of .ensures) ∙ c .if2 .left
 
-head-code-of-requires : tie.Need-head-code-of-requires
-head-code-of-requires c κs = search needs
-
 returns : tie.Need-returns
 returns c = let s = c .before .before .args in sym (end-unused (s .seen) (s .w) (s .after) (λ e. c .if1 .taken (c .before .head-code-of .ensures ∙ e)))
-
-low-of-requires : tie.Need-low-of-requires
-low-of-requires c κs = search needs
-
-cast-if2 : tie.Need-cast-if2
-cast-if2 c = search needs
 
 returns-2 : tie.Need-returns-2
 returns-2 c = let s = c .before .before .before .before .args in
@@ -32,12 +23,6 @@ returns-2 c = let s = c .before .before .before .before .args in
 returns-3 : tie.Need-returns-3
 returns-3 c = let s = c .before .before .before .before .before .args in sym (end-more (s .seen) (s .w) (s .after) (unused (c .before .before .before)) (same (c .before)) (c .if3 .taken))
 
-cast-result : tie.Need-cast-result
-cast-result c = search needs
-
-add-result : tie.Need-add-result
-add-result c = search needs
-
 returns-4 : tie.Need-returns-4
 returns-4 c = let s = c .before .before .before .before .before .args in sym (end-right (s .seen) (s .w) (s .after) (unused (c .before .before .before)) (same (c .before)) (c .if3 .left))
 
@@ -45,12 +30,12 @@ pub judged-end-spec : {M : Type 1} → statement M
 judged-end-spec =
     tie.close
     (tie.spec
-    head-code-of-requires
+    (λ c κs. search needs)
     returns
-    low-of-requires
-    cast-if2
+    (λ c κs. search needs)
+    (λ c. search needs)
     returns-2
     returns-3
-    cast-result
-    add-result
+    (λ c. search needs)
+    (λ c. search needs)
     returns-4)

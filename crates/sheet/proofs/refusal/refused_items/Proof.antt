@@ -7,7 +7,7 @@ use lib.ListN.{drop}
 use denote.Ref.{now}
 use Rattle.sheet.specs.declared.Form.{Form}
 use Rattle.sheet.specs.Sheet.{as-words, count, first, items-refusal, word-refusal}
-use Rattle.sheet.specs.Steps.{outside}
+use Rattle.sheet.specs.Within.{outside}
 use Rattle.sheet.proofs.Bytes.{as-words-length}
 use Rattle.sheet.proofs.Scan.{items-none, items-out, items-step, first-some, first-next}
 use borrow.Author.Needs.{needs}
@@ -34,7 +34,7 @@ turn c =
     let a = c .before .before .before .before in let s = a .before .before .args in
     let w = c .before .word-at .ensures in
     a .loop .inv
-    ∙ items-step (s .f) (a .before .before .pre .1) (s .bad) (outside (s .low) (s .high)) (as-words (now (s .sheet))) (a .loop .left) (a .loop .i)
+    ∙ items-step (s .f) (a .before .before .pre .holds) (s .bad) (outside (s .low) (s .high)) (as-words (now (s .sheet))) (a .loop .left) (a .loop .i)
     (c .before .before .before .loop-test .taken) (omega (arith, as-words-length (now (s .sheet)), c .before .before .if1 .left))
     ∙ ap (λ (x : ℕ). first x (left-refusal (s .f) (s .bad) (s .low) (s .high) (now (s .sheet)) (a .loop .left - s .f .each) (a .loop .i + 1)))
     (sym (c .refused-word .ensures ∙ ap (word-refusal (s .f) (s .bad) (outside (s .low) (s .high)) (a .loop .left)) w))
@@ -45,29 +45,11 @@ loop-holds c = refl
 returns : tie.Need-returns Inv-loop μ-loop
 returns c = let a = c .before .before in let s = a .before .before .args in
     sym (a .loop .inv
-    ∙ items-out (s .f) (a .before .before .pre .1) (s .bad) (outside (s .low) (s .high)) (as-words (now (s .sheet))) (a .loop .left) (a .loop .i) (c .before .loop-test .taken)
+    ∙ items-out (s .f) (a .before .before .pre .holds) (s .bad) (outside (s .low) (s .high)) (as-words (now (s .sheet))) (a .loop .left) (a .loop .i) (c .before .loop-test .taken)
     (omega (arith, as-words-length (now (s .sheet)), c .if1 .taken)))
-
-word-at-requires : tie.Need-word-at-requires Inv-loop μ-loop
-word-at-requires c κs = search needs
-
-refused-word-requires : tie.Need-refused-word-requires Inv-loop μ-loop
-refused-word-requires c κs = search needs
 
 returns-2 : tie.Need-returns-2 Inv-loop μ-loop
 returns-2 c = sym (turn (c .before) ∙ first-some (c .before .refused-word .result) _ (c .if2 .taken))
-
-add-i : tie.Need-add-i Inv-loop μ-loop
-add-i c = search needs
-
-least-requires : tie.Need-least-requires Inv-loop μ-loop
-least-requires c κs = search needs
-
-sub-left : tie.Need-sub-left Inv-loop μ-loop
-sub-left c = search needs
-
-loop-less : tie.Need-loop-less Inv-loop μ-loop
-loop-less c = search needs
 
 loop-again : tie.Need-loop-again Inv-loop μ-loop
 loop-again c = let b = c .before .before in let l = b .before .before .before .before .loop in let s = b .before .before .before .before .before .before .args in
@@ -77,7 +59,7 @@ loop-again c = let b = c .before .before in let l = b .before .before .before .b
 returns-3 : tie.Need-returns-3 Inv-loop μ-loop
 returns-3 c = let a = c .before in let s = a .before .before .args in
     sym (a .loop .inv
-    ∙ items-none (s .f) (a .before .before .pre .1) (s .bad) (outside (s .low) (s .high)) (as-words (now (s .sheet))) (a .loop .left) (a .loop .i) (c .loop-test .left))
+    ∙ items-none (s .f) (a .before .before .pre .holds) (s .bad) (outside (s .low) (s .high)) (as-words (now (s .sheet))) (a .loop .left) (a .loop .i) (c .loop-test .left))
 
 pub refused-items-spec : {M : Type 1} → statement M
 refused-items-spec =
@@ -87,12 +69,12 @@ refused-items-spec =
     μ-loop
     loop-holds
     returns
-    word-at-requires
-    refused-word-requires
+    (λ c κs. search needs)
+    (λ c κs. search needs)
     returns-2
-    add-i
-    least-requires
-    sub-left
-    loop-less
+    (λ c. search needs)
+    (λ c κs. search needs)
+    (λ c. search needs)
+    (λ c. search needs)
     loop-again
     returns-3)

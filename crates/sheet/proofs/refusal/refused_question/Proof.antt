@@ -24,36 +24,30 @@ fine c = ap width-good (c .width-of .ensures) ∙ width-fine (c .before .before 
 -- the row, then the word
 parts : (c : tie.After-refused-row) → let s = c .before .before .before .before .before .args in
     let ws : List ℕ = drop (s .at) (as-words (now (s .sheet))) in
-    question-refusal (s .code) ws ≡ first (c .refused-row .result) (symbol-refusal (width (s .code)) (drop (row-words (width (s .code))) ws))
+    question-refusal (s .f) (s .code) ws ≡ first (c .refused-row .result) (symbol-refusal (width (s .code)) (drop (row-words (s .f) (width (s .code))) ws))
 parts c =
     let s = c .before .before .before .before .before .args in
     let ws : List ℕ = drop (s .at) (as-words (now (s .sheet))) in
     let a = c .before .before .before in
-    code-known (s .code) ws (sym (a .is-code .ensures) ∙ not-false (a .is-code .result) (c .before .before .if1 .left))
-    ∙ ap (λ (x : ℕ). first x (symbol-refusal (width (s .code)) (drop (row-words (width (s .code))) ws)))
-    (sym (c .refused-row .ensures ∙ ap (λ (m : ℕ). row-refusal m ws) (c .before .width-of .ensures)))
-
-is-code-requires : tie.Need-is-code-requires
-is-code-requires c κs = search needs
+    code-known (s .f) (s .code) ws (sym (a .is-code .ensures) ∙ not-false (a .is-code .result) (c .before .before .if1 .left))
+    ∙ ap (λ (x : ℕ). first x (symbol-refusal (width (s .code)) (drop (row-words (s .f) (width (s .code))) ws)))
+    (sym (c .refused-row .ensures ∙ ap (λ (m : ℕ). row-refusal (s .f) m ws) (c .before .width-of .ensures)))
 
 returns : tie.Need-returns
 returns c = let s = c .before .before .before .args in let a = c .before in
-    sym (code-unknown (s .code) (drop (s .at) (as-words (now (s .sheet)))) (sym (a .is-code .ensures) ∙ not-true (a .is-code .result) (c .if1 .taken)))
-
-width-of-requires : tie.Need-width-of-requires
-width-of-requires c κs = search needs
+    sym (code-unknown (s .f) (s .code) (drop (s .at) (as-words (now (s .sheet)))) (sym (a .is-code .ensures) ∙ not-true (a .is-code .result) (c .if1 .taken)))
 
 refused-row-requires : tie.Need-refused-row-requires
-refused-row-requires c κs = fine c
+refused-row-requires c κs = let s = c .before .before .before .before in (s .pre .0, (s .pre .1 .0, fine c))
 
 returns-2 : tie.Need-returns-2
 returns-2 c = sym (parts (c .before) ∙ first-some (c .before .refused-row .result) _ (c .if2 .taken))
 
 row-words-of-requires : tie.Need-row-words-of-requires
-row-words-of-requires c κs = fine (c .before .before)
+row-words-of-requires c κs = (c .before .before .before .before .before .before .pre .0, fine (c .before .before))
 
 add-refused-symbols : tie.Need-add-refused-symbols
-add-refused-symbols c = let w = c .before .before .before in omega (arith, c .row-words-of .ensures, row-words-le (w .width-of .result) (fine w))
+add-refused-symbols c = let w = c .before .before .before in omega (arith, c .row-words-of .ensures, row-words-le (w .before .before .before .before .args .f) (w .before .before .before .before .pre .0) (w .width-of .result) (fine w))
 
 refused-symbols-requires : tie.Need-refused-symbols-requires
 refused-symbols-requires c κs = fine (c .before .before .before)
@@ -63,17 +57,17 @@ returns-3 c = let r = c .before .before .before in let s = r .before .before .be
     let bs : List ℕ = as-words (now (s .sheet)) in
     let w = r .before .width-of .ensures in
     sym (parts r ∙ first-next (r .refused-row .result) _ (c .before .before .if2 .left)
-    ∙ ap (symbol-refusal (width (s .code))) (drop-drop (row-words (width (s .code))) (s .at) bs)
+    ∙ ap (symbol-refusal (width (s .code))) (drop-drop (row-words (s .f) (width (s .code))) (s .at) bs)
     ∙ sym (c .refused-symbols .ensures
-    ∙ ap₂ (λ (m n : ℕ). symbol-refusal m (drop (s .at + n) bs)) w (c .before .row-words-of .ensures ∙ ap row-words w)))
+    ∙ ap₂ (λ (m n : ℕ). symbol-refusal m (drop (s .at + n) bs)) w (c .before .row-words-of .ensures ∙ ap (row-words (s .f)) w)))
 
 pub refused-question-spec : {M : Type 1} → statement M
 refused-question-spec =
     tie.close
     (tie.spec
-    is-code-requires
+    (λ c κs. search needs)
     returns
-    width-of-requires
+    (λ c κs. search needs)
     refused-row-requires
     returns-2
     row-words-of-requires

@@ -3,8 +3,8 @@
 use mathlib.Core.Path.{_≡_, sym, ap, ap₂, _∙_}
 use mathlib.Core.Bool.{Bool, true, false, cond}
 use Prim.Native.Nat.{ℕ, _/_, _^_}
-use Rattle.sheet.specs.Sheet.{digits, kind, body, used, items, unused, word-refusal}
-use Rattle.sheet.specs.Steps.{outside}
+use Rattle.sheet.specs.Sheet.{digits, kind, used, items, unused, word-refusal}
+use Rattle.sheet.specs.Within.{outside}
 use Rattle.sheet.proofs.Scan.{wrong-kind, not-clear, clear-word}
 use borrow.Author.Needs.{needs}
 use Rattle.sheet.proofs.refusal.refused_word.Statement.{statement}
@@ -35,28 +35,13 @@ last c t e =
     clear-word (s .f) (s .bad) (outside (s .low) (s .high)) (s .n) (s .w) (right (c .before .before .before .before .before)) (sym (rest (c .before .before)) ∙ c .before .if2 .left)
     ∙ ap (λ (x : Bool). cond x 0 (s .bad)) (sym (tested c) ∙ e)
 
-kind-of-requires : tie.Need-kind-of-requires
-kind-of-requires c κs = search needs
-
 returns : tie.Need-returns
 returns c = let s = c .before .before .args in
     sym (wrong-kind (s .f) (s .bad) (outside (s .low) (s .high)) (s .n) (s .w) (λ e. c .if1 .taken (c .before .kind-of .ensures ∙ e)))
 
-body-of-requires : tie.Need-body-of-requires
-body-of-requires c κs = search needs
-
-least-requires : tie.Need-least-requires
-least-requires c κs = search needs
-
-above-requires : tie.Need-above-requires
-above-requires c κs = search needs
-
 returns-2 : tie.Need-returns-2
 returns-2 c = let s = c .before .before .before .before .before .before .args in
     sym (not-clear (s .f) (s .bad) (outside (s .low) (s .high)) (s .n) (s .w) (right (c .before .before .before .before)) (λ e. c .if2 .taken (rest (c .before) ∙ e)))
-
-all-outside-requires : tie.Need-all-outside-requires
-all-outside-requires c κs = search needs
 
 returns-3 : tie.Need-returns-3
 returns-3 c = sym (last (c .before) true (c .if3 .taken))
@@ -68,12 +53,12 @@ pub refused-word-spec : {M : Type 1} → statement M
 refused-word-spec =
     tie.close
     (tie.spec
-    kind-of-requires
+    (λ c κs. search needs)
     returns
-    body-of-requires
-    least-requires
-    above-requires
+    (λ c κs. search needs)
+    (λ c κs. search needs)
+    (λ c κs. search needs)
     returns-2
-    all-outside-requires
+    (λ c κs. search needs)
     returns-3
     returns-4)

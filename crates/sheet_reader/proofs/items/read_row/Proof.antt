@@ -1,63 +1,50 @@
 -- `sheet_reader::read_row` meets its contract.
 -- Assumes nothing.
-use mathlib.Core.Path.{_≡_, refl, ap, sym, _∙_}
-use mathlib.Core.List.{List, _++_, append-nil}
-use Prim.Native.Nat.{ℕ, _+_, _-_, _≤_}
+use mathlib.Core.Path.{sym, ap, _∙_}
+use mathlib.Core.List.{List}
+use Prim.Native.Nat.{ℕ, _-_}
 use native.Mathlib.Omega.{arith}
-use lib.ListN.{length, getD, take, drop, set, length-set, drop-of-length-le}
-use lib.Seq.{take-all}
-use lib.IntN.{ℤ, pos}
+use lib.ListN.{length, drop}
+use lib.IntN.{ℤ}
 use denote.Ref.{now}
-use Rattle.sheet_reader.proofs.Reading.{row-here, row-here-length, row-item, filled-more}
 use mir.Syntax.{w16}
 use mir.Val.{SFits}
 use mir.Facts.{toZ-ofZ}
+use Rattle.sheet.specs.declared.Form.{Form}
+use Rattle.sheet.specs.Sheet.{as-words, row-of, signed-of}
+use Rattle.sheet_reader.specs.Within.{items-from}
+use Rattle.sheet_reader.proofs.Reading.{row-at, row-length, Filled, filled-none, filled-more, filled-all}
 use borrow.Author.Needs.{needs}
 use Rattle.sheet_reader.proofs.items.read_row.Statement.{statement}
 use Rattle.sheet_reader.proofs.items.read_row.Tie as tie
 
+abbrev row-here : Form → (sheet : List ℕ) → (at n : ℕ) → List ℤ
+row-here f bs at n = row-of f (items-from f n (drop at (as-words bs)))
+
 abbrev Inv-loop : tie.InvT-loop
-Inv-loop sheet at row₀ i₀ row i = (i ≤ length row₀) × (length row ≡ length row₀) × (row ≡ take i (row-here sheet at (length row₀)) ++ drop i row₀)
+Inv-loop sheet at f row₀ base i₀ row i = Filled (row-here f sheet at (length row₀)) row₀ row i
 
 abbrev μ-loop : tie.MeasureT-loop
-μ-loop sheet at row₀ i₀ row i = length row₀ - i
+μ-loop sheet at f row₀ base i₀ row i = length row₀ - i
 
-loop-holds : tie.Need-loop-holds Inv-loop μ-loop
-loop-holds c = (search needs, refl, refl)
+item-at-requires : tie.Need-item-at-requires Inv-loop μ-loop
+item-at-requires c κs = (c .before .before .before .pre .0, search needs)
 
-reliability-at-requires : tie.Need-reliability-at-requires Inv-loop μ-loop
-reliability-at-requires c κs = search needs
-
-mul-t5 : tie.Need-mul-t5 Inv-loop μ-loop
-mul-t5 c = search needs
-
-slice-set-from-row : tie.Need-slice-set-from-row Inv-loop μ-loop
-slice-set-from-row c = search needs
-
-add-i : tie.Need-add-i Inv-loop μ-loop
-add-i c = search needs
-
-loop-less : tie.Need-loop-less Inv-loop μ-loop
-loop-less c = search needs
+signed-requires : tie.Need-signed-requires Inv-loop μ-loop
+signed-requires c κs = (c .item-at .ensures .small, c .before .before .before .before .pre .0 .small)
 
 loop-again : tie.Need-loop-again Inv-loop μ-loop
-loop-again c = let a = c .before .before in let s = a .before .before .args in let n : ℕ = length (now (s .row)) in
-    let f : SFits w16 (c .reliability-at .result) = record { sfits = c .reliability-at .ok } in let e = toZ-ofZ f ∙ c .reliability-at .ensures ∙ sym (row-item (now (s .sheet)) (s .at) n (a .loop .i) (search needs)) in (
-      search needs,
-      simp length-set (a .loop .inv .1),
-      ap (λ (x : ℤ). set (a .loop .row) (a .loop .i) x) e ∙ ap (λ (l : List ℤ). set l (a .loop .i) (getD (row-here (now (s .sheet)) (s .at) n) (a .loop .i) (pos 0))) (a .loop .inv .2)
-          ∙ filled-more (row-here (now (s .sheet)) (s .at) n) (now (s .row)) (a .loop .i) (pos 0) (row-here-length (now (s .sheet)) (s .at) n) (search needs),
-    )
-
-same-length : tie.Need-same-length Inv-loop μ-loop
-same-length c = c .before .loop .inv .1
+loop-again c =
+    let b = c .before in let a = b .before .before in let s = a .before .before in let f = s .args .f in let n : ℕ = length (now (s .args .row)) in
+    let ws : List ℕ = drop (s .args .at) (as-words (now (s .args .sheet))) in
+    let fits : SFits w16 (c .signed .result) = record { sfits = c .signed .ok } in
+    filled-more (signed-of (f .base) 0) _ (row-length f (s .pre .0) n ws) (search needs)
+    (toZ-ofZ fits ∙ c .signed .ensures ∙ ap (signed-of (f .base)) (b .item-at .ensures .is n (search needs)) ∙ sym (row-at f (items-from f n ws) (a .loop .i)))
+    (a .loop .inv)
 
 returns : tie.Need-returns Inv-loop μ-loop
-unfolding row-here
-returns c = let a = c .before in let s = a .before .before .args in let n : ℕ = length (now (s .row)) in
-    let full : n ≤ a .loop .i = omega (arith, a .loop .inv .1) in
-    a .loop .inv .2
-    ∙ rw (drop-of-length-le (now (s .row)) full, append-nil) (take-all (a .loop .i) (row-here (now (s .sheet)) (s .at) n) (omega (arith, row-here-length (now (s .sheet)) (s .at) n)))
+returns c = let a = c .before in let s = a .before .before in
+    filled-all (row-length (s .args .f) (s .pre .0) _ _) (omega (arith, a .loop .inv .same)) (a .loop .inv)
 
 pub read-row-spec : {M : Type 1} → statement M
 read-row-spec =
@@ -65,12 +52,13 @@ read-row-spec =
     (tie.spec
     Inv-loop
     μ-loop
-    loop-holds
-    reliability-at-requires
-    mul-t5
-    slice-set-from-row
-    add-i
-    loop-less
+    (λ c. filled-none)
+    item-at-requires
+    signed-requires
+    (λ c. search needs)
+    (λ c. search needs)
+    (λ c. search needs)
+    (λ c. search needs)
     loop-again
-    same-length
+    (λ c. c .before .loop .inv .same)
     returns)

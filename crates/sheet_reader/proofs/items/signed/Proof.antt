@@ -5,20 +5,14 @@ use borrow.Author.Needs.{needs}
 use Rattle.sheet_reader.proofs.items.signed.Statement.{statement}
 use Rattle.sheet_reader.proofs.items.signed.Tie as tie
 
-cast-result : tie.Need-cast-result
-cast-result c = search needs
-
 returns : tie.Need-returns
-returns c = low-half (c .before .args .d) (c .if1 .taken)
-
-cast-result-2 : tie.Need-cast-result-2
-cast-result-2 c = search needs
+returns c = let s = c .before in low-half (s .args .base) (s .args .d) (s .pre .1) (s .pre .0) (c .if1 .taken)
 
 sub-result : tie.Need-sub-result
-sub-result c = high-fits (c .before .args .d) (c .before .pre) (c .if1 .left)
+sub-result c = let s = c .before in high-fits (s .args .base) (s .args .d) (s .pre .1) (s .pre .0)
 
 returns-2 : tie.Need-returns-2
-returns-2 c = high-is (c .before .args .d) (c .before .pre) (c .if1 .left)
+returns-2 c = let s = c .before in high-is (s .args .base) (s .args .d) (s .pre .1) (s .pre .0) (c .if1 .left)
 
 pub signed-spec : {M : Type 1} → statement M
-signed-spec = tie.close (tie.spec cast-result returns cast-result-2 sub-result returns-2)
+signed-spec = tie.close (tie.spec (λ c. search needs) returns (λ c. search needs) (λ c. search needs) sub-result returns-2)

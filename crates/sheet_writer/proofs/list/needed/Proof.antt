@@ -6,9 +6,8 @@ use Prim.Native.Nat.{ℕ, _+_, _-_, _≤_}
 use lib.ListN.{length, getD, drop, length-drop}
 use lib.Seq.{drop-length}
 use denote.Ref.{now}
-use Rattle.code.specs.Code.{width}
-use Rattle.sheet.proofs.Judging.{width-fine, row-words-le, symbol-words-le}
-use Rattle.sheet_writer.specs.Steps.{words-needed}
+use Rattle.sheet.proofs.Judging.{question-long-le}
+use Rattle.sheet_writer.specs.Within.{words-needed}
 use Rattle.sheet_writer.proofs.Lists.{needed-step, needed-le}
 use borrow.Author.Needs.{needs}
 use native.Mathlib.Omega.{arith}
@@ -24,8 +23,7 @@ abbrev μ-loop : tie.MeasureT-loop
 few : (c : tie.After-question-words-of Inv-loop μ-loop) → c .question-words-of .result ≤ 23
 few c =
     let a = c .before .before .before in
-    let k : ℕ = width (getD (now (a .before .before .args .codes)) (a .loop .i - 1) 0) in
-    omega (arith, c .question-words-of .ensures, row-words-le k (width-fine (getD (now (a .before .before .args .codes)) (a .loop .i - 1) 0)), symbol-words-le k (width-fine (getD (now (a .before .before .args .codes)) (a .loop .i - 1) 0)))
+    omega (arith, c .question-words-of .ensures, question-long-le (getD (now (a .before .before .args .codes)) (a .loop .i - 1) 0))
 
 loop-holds : tie.Need-loop-holds Inv-loop μ-loop
 unfolding words-needed

@@ -1,0 +1,66 @@
+-- `sheet_writer::item_of` meets its contract.
+-- Assumes nothing.
+use mathlib.Core.Path.{_≡_, sym, ap, _∙_}
+use mathlib.Core.List.{List}
+use Prim.Native.Nat.{ℕ, _<_}
+use native.Mathlib.Omega.{arith}
+use lib.ListN.{length, getD}
+use lib.IntN.{ℤ, pos}
+use denote.Ref.{now}
+use mir.Syntax.{w16}
+use mir.Val.{toZ, ofZ}
+use mir.Facts.{toZ-ofZ}
+use Rattle.metric.specs.Row.{reliability-good}
+use Rattle.sheet.specs.Sheet.{unsigned-of}
+use Rattle.sheet.proofs.Forms.{row-items-length}
+use Rattle.sheet_writer.proofs.Packing.{row-items-at, row-good-at}
+use Rattle.sheet_writer.proofs.Questions.{items-symbols, items-row}
+use borrow.Author.Needs.{needs}
+use Rattle.sheet_writer.proofs.pack.item_of.Statement.{statement}
+use Rattle.sheet_writer.proofs.pack.item_of.Tie as tie
+
+shared-slice-read-result : tie.Need-shared-slice-read-result
+shared-slice-read-result c = let s = c .before .before .before .before .before in
+    omega (arith, s .pre .1, ap length (items-symbols (s .args .f) (now (s .args .row)) (now (s .args .word)) (c .before .if1 .taken)))
+
+cast-result : tie.Need-cast-result
+cast-result c = omega (arith, c .shared-slice-known2 .given (c .before .before .before .before .before .args .i))
+
+returns : tie.Need-returns
+returns c = let s = c .before .before .before .before .before in
+    sym (ap (λ (l : List ℕ). getD l (s .args .i) 0) (items-symbols (s .args .f) (now (s .args .row)) (now (s .args .word)) (c .before .if1 .taken)))
+
+inside : (c : tie.Else1) → let s = c .before .before .before .before .args in s .i < length (now (s .row))
+inside c =
+    let s = c .before .before .before .before in let f = s .args .f in
+    omega (arith, s .pre .1, ap length (items-row f (now (s .args .row)) (now (s .args .word)) (c .if1 .left)), row-items-length f (now (s .args .row)))
+
+element : (c : tie.After-unsigned-arg) → let s = c .before .before .before .before .before .args in let r : ℤ = getD (now (s .row)) (s .i) (pos 0) in toZ w16 (ofZ w16 r) ≡ r
+element c = toZ-ofZ (record { sfits = c .unsigned-arg .given })
+
+mul-unsigned : tie.Need-mul-unsigned
+mul-unsigned c = let h = inside c in search needs
+
+shared-slice-copy-out-unsigned : tie.Need-shared-slice-copy-out-unsigned
+shared-slice-copy-out-unsigned c = inside c
+
+unsigned-requires : tie.Need-unsigned-requires
+unsigned-requires c κs = let s = c .before .before .before .before .before in let p = s .pre .0 in
+    (ap reliability-good (element c) ∙ row-good-at (now (s .args .row)) (s .args .i) (p .row-fine) (inside (c .before)), (p .row-wide (c .before .if1 .left), p .form .small))
+
+returns-2 : tie.Need-returns-2
+returns-2 c = let s = c .before .before .before .before .before .before in let f = s .args .f in
+    c .unsigned .ensures ∙ ap (unsigned-of (f .base)) (element (c .before)) ∙ sym (row-items-at f (now (s .args .row)) (s .args .i))
+    ∙ sym (ap (λ (l : List ℕ). getD l (s .args .i) 0) (items-row f (now (s .args .row)) (now (s .args .word)) (c .before .before .if1 .left)))
+
+pub item-of-spec : {M : Type 1} → statement M
+item-of-spec =
+    tie.close
+    (tie.spec
+    shared-slice-read-result
+    cast-result
+    returns
+    mul-unsigned
+    shared-slice-copy-out-unsigned
+    unsigned-requires
+    returns-2)
