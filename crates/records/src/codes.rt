@@ -1,103 +1,106 @@
 // The codes: encoding, reading back, the codeword test, and the refusals in their order with outputs kept.
 use crate::tally::Tally;
+use crate::words;
 use code::Membership;
 
 pub fn agree() -> Tally {
-    words()
-        .plus(other_words())
+    messages()
+        .plus(other_messages())
         .plus(tests())
         .plus(test_refusals())
         .plus(encoder_misfits())
         .plus(encoder_refusals())
+        .plus(sixteen_refused())
         .plus(reader_misfits())
         .plus(reader_refusals())
 }
 
-fn words() -> Tally {
-    carries(1, &[1, 0, 0, 0, 0], &[3, 6, 1, 0, 0, 0, 0])
-        .plus(carries(2, &[1, 0, 0], &[3, 2, 1, 3, 1, 0, 0]))
-        .plus(carries(
-            3,
-            &[1, 0, 0, 0, 0, 0, 0, 0, 0, 0, 0, 0, 0],
-            &[8, 6, 1, 0, 0, 0, 0, 0, 0, 0, 0, 0, 0, 0, 0],
-        ))
+fn messages() -> Tally {
+    carries(1, 5, 0x10000, 7, 0x3610000)
+        .plus(carries(2, 3, 0x100, 7, 0x3213100))
+        .plus(carries(3, 13, 0x1000000000000, 15, 0x861000000000000))
 }
 
-fn other_words() -> Tally {
-    carries(1, &[5, 4, 6, 2, 2], &[1, 1, 5, 4, 6, 2, 2])
-        .plus(carries(1, &[7, 7, 7, 7, 7], &[7, 7, 7, 7, 7, 7, 7]))
-        .plus(carries(2, &[0, 0, 0], &[0, 0, 0, 0, 0, 0, 0]))
+fn other_messages() -> Tally {
+    carries(1, 5, 0x54622, 7, 0x1154622)
+        .plus(carries(1, 5, 0x77777, 7, 0x7777777))
+        .plus(carries(2, 3, 0x000, 7, 0x0000000))
 }
 
-// The message is encoded to the word, the word is read to the message, and the word is a codeword.
-fn carries(code: u32, message: &[u8], word: &[u8]) -> Tally {
+// The message of k symbols is encoded to the word of n, the word is read to the message, and the word is a codeword.
+fn carries(code: u32, k: usize, message: u64, n: usize, word: u64) -> Tally {
     Tally::none()
-        .with(encode_gives(code, message, 0, word))
-        .with(read_gives(code, word, 0, message))
-        .with(test_gives(code, word, 0))
+        .with(encode_gives(code, k, message, 0, n, word))
+        .with(read_gives(code, n, word, 0, k, message))
+        .with(test_gives(code, n, word, 0))
 }
 
 fn tests() -> Tally {
     Tally::none()
-        .with(test_gives(1, &[1, 0, 0, 0, 0, 0, 0], 8))
-        .with(test_gives(2, &[3, 6, 1, 0, 0, 0, 0], 8))
-        .with(test_gives(3, &[8, 6, 1, 0, 0, 0, 0, 0, 0, 0, 0, 0, 0, 0, 1], 8))
+        .with(test_gives(1, 7, 0x1000000, 8))
+        .with(test_gives(2, 7, 0x3610000, 8))
+        .with(test_gives(3, 15, 0x861000000000001, 8))
 }
 
 fn test_refusals() -> Tally {
     Tally::none()
-        .with(test_gives(0, &[8], 1))
-        .with(test_gives(4, &[8], 1))
-        .with(test_gives(1, &[8, 0, 0, 0, 0, 0, 0, 0], 3))
-        .with(test_gives(1, &[8, 0, 0, 0, 0, 0, 0], 6))
-        .with(test_gives(3, &[0, 0, 0, 0, 0, 0, 0, 0, 0, 0, 0, 0, 0, 0, 16], 6))
+        .with(test_gives(0, 1, 0x8, 1))
+        .with(test_gives(4, 1, 0x8, 1))
+        .with(test_gives(1, 8, 0x80000000, 3))
+        .with(test_gives(1, 7, 0x8000000, 6))
 }
 
 // Codes and lengths. Outputs hold nines, and keep them.
 fn encoder_misfits() -> Tally {
     Tally::none()
-        .with(encode_gives(4, &[8], 1, &[9]))
-        .with(encode_gives(0, &[8], 1, &[9]))
-        .with(encode_gives(1, &[8, 0, 0, 0], 3, &[9]))
-        .with(encode_gives(1, &[8, 0, 0, 0, 0], 4, &[9, 9, 9, 9, 9, 9, 9, 9]))
+        .with(encode_gives(4, 1, 0x8, 1, 1, 0x9))
+        .with(encode_gives(0, 1, 0x8, 1, 1, 0x9))
+        .with(encode_gives(1, 4, 0x8000, 3, 1, 0x9))
+        .with(encode_gives(1, 5, 0x80000, 4, 8, 0x99999999))
 }
 
 // Symbols.
 fn encoder_refusals() -> Tally {
     Tally::none()
-        .with(encode_gives(1, &[8, 0, 0, 0, 0], 6, &[9, 9, 9, 9, 9, 9, 9]))
-        .with(encode_gives(2, &[0, 0, 8], 6, &[9, 9, 9, 9, 9, 9, 9]))
-        .with(encode_gives(
-            3,
-            &[0, 0, 0, 0, 0, 0, 0, 0, 0, 0, 0, 0, 16],
-            6,
-            &[9, 9, 9, 9, 9, 9, 9, 9, 9, 9, 9, 9, 9, 9, 9],
-        ))
+        .with(encode_gives(1, 5, 0x80000, 6, 7, 0x9999999))
+        .with(encode_gives(2, 3, 0x008, 6, 7, 0x9999999))
+}
+
+// The symbol 16 of code 3, at the last place, by the codeword test and by the encoder.
+fn sixteen_refused() -> Tally {
+    let mut word = [0u8; 15];
+    word[14] = 16;
+    let mut message = [0u8; 13];
+    message[12] = 16;
+    let mut space = [9u8; 15];
+    Tally::none()
+        .with(is_answer(code::check_word(3, &word), 6))
+        .with(encode_into(3, &message, 6, &[9u8; 15], &mut space))
 }
 
 fn reader_misfits() -> Tally {
     Tally::none()
-        .with(read_gives(4, &[8], 1, &[9]))
-        .with(read_gives(1, &[8, 0, 0, 0, 0, 0], 3, &[9]))
-        .with(read_gives(1, &[8, 0, 0, 0, 0, 0, 0], 4, &[9, 9, 9, 9, 9, 9]))
+        .with(read_gives(4, 1, 0x8, 1, 1, 0x9))
+        .with(read_gives(1, 6, 0x800000, 3, 1, 0x9))
+        .with(read_gives(1, 7, 0x8000000, 4, 6, 0x999999))
 }
 
 // Symbols, and words that are no codewords.
 fn reader_refusals() -> Tally {
     Tally::none()
-        .with(read_gives(1, &[8, 0, 0, 0, 0, 0, 0], 6, &[9, 9, 9, 9, 9]))
-        .with(read_gives(1, &[1, 0, 0, 0, 0, 0, 0], 8, &[9, 9, 9, 9, 9]))
-        .with(read_gives(2, &[3, 6, 1, 0, 0, 0, 0], 8, &[9, 9, 9]))
+        .with(read_gives(1, 7, 0x8000000, 6, 5, 0x99999))
+        .with(read_gives(1, 7, 0x1000000, 8, 5, 0x99999))
+        .with(read_gives(2, 7, 0x3610000, 8, 3, 0x999))
 }
 
-// Whether encoding into nines answers a number and leaves an output.
-fn encode_gives(code: u32, message: &[u8], number: u32, output: &[u8]) -> bool {
-    let n = output.len();
+// Whether encoding k symbols into n nines answers a number and leaves an output.
+fn encode_gives(code: u32, k: usize, message: u64, number: u32, n: usize, output: u64) -> bool {
+    let from = words::symbols(k, message);
+    let to = words::symbols(n, output);
     let mut space = [9u8; 16];
-    if 16 < n {
-        return false;
-    }
-    encode_into(code, message, number, output, &mut space[..n])
+    let a = k % 17;
+    let b = n % 17;
+    encode_into(code, &from[..a], number, &to[..b], &mut space[..b])
 }
 
 fn encode_into(code: u32, message: &[u8], number: u32, output: &[u8], space: &mut [u8]) -> bool {
@@ -107,14 +110,14 @@ fn encode_into(code: u32, message: &[u8], number: u32, output: &[u8], space: &mu
     check::same(space, output)
 }
 
-// Whether reading into nines answers a number and leaves an output.
-fn read_gives(code: u32, word: &[u8], number: u32, output: &[u8]) -> bool {
-    let n = output.len();
+// Whether reading n symbols into k nines answers a number and leaves an output.
+fn read_gives(code: u32, n: usize, word: u64, number: u32, k: usize, output: u64) -> bool {
+    let from = words::symbols(n, word);
+    let to = words::symbols(k, output);
     let mut space = [9u8; 16];
-    if 16 < n {
-        return false;
-    }
-    read_into(code, word, number, output, &mut space[..n])
+    let a = n % 17;
+    let b = k % 17;
+    read_into(code, &from[..a], number, &to[..b], &mut space[..b])
 }
 
 fn read_into(code: u32, word: &[u8], number: u32, output: &[u8], space: &mut [u8]) -> bool {
@@ -124,9 +127,15 @@ fn read_into(code: u32, word: &[u8], number: u32, output: &[u8], space: &mut [u8
     check::same(space, output)
 }
 
-// Whether the codeword test answers a number: 0 a codeword, 8 none, else a refusal.
-fn test_gives(code: u32, word: &[u8], number: u32) -> bool {
-    match code::check_word(code, word) {
+// Whether the codeword test of n symbols answers a number: 0 a codeword, 8 none, else a refusal.
+fn test_gives(code: u32, n: usize, word: u64, number: u32) -> bool {
+    let symbols = words::symbols(n, word);
+    let a = n % 17;
+    is_answer(code::check_word(code, &symbols[..a]), number)
+}
+
+fn is_answer(answer: Membership, number: u32) -> bool {
+    match answer {
         Membership::Codeword => number == 0,
         Membership::NoCodeword => number == 8,
         Membership::Refused(n) => n == number,

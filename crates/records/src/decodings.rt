@@ -1,79 +1,6 @@
 // The decoder: metrics, best words and soft outputs on record, and the refusals in their order with the outputs kept.
 use crate::tally::Tally;
-
-// All 10 but bit 0 at -10.
-const ONE_AGAINST: [i16; 21] = [
-    -10,
-    10,
-    10,
-    10,
-    10,
-    10,
-    10,
-    10,
-    10,
-    10,
-    10,
-    10,
-    10,
-    10,
-    10,
-    10,
-    10,
-    10,
-    10,
-    10,
-    10,
-];
-
-// -128 at the last bit, and 128 at the first.
-const TOO_LOW: [i16; 21] = [
-    0,
-    0,
-    0,
-    0,
-    0,
-    0,
-    0,
-    0,
-    0,
-    0,
-    0,
-    0,
-    0,
-    0,
-    0,
-    0,
-    0,
-    0,
-    0,
-    0,
-    -128,
-];
-
-const TOO_HIGH: [i16; 21] = [
-    128,
-    0,
-    0,
-    0,
-    0,
-    0,
-    0,
-    0,
-    0,
-    0,
-    0,
-    0,
-    0,
-    0,
-    0,
-    0,
-    0,
-    0,
-    0,
-    0,
-    0,
-];
+use decoder::Decoding;
 
 pub fn agree() -> Tally {
     rows().plus(one_against())
@@ -86,121 +13,96 @@ pub fn agree() -> Tally {
 
 // All 10, the row of the sheet's questions; all -10; all 127.
 fn rows() -> Tally {
-    gives(&[10i16; 21], 210, &[0u8; 7], &[60i16; 21])
-        .plus(gives(&[-10i16; 21], 210, &[7u8; 7], &[-60i16; 21]))
-        .plus(gives(&[127i16; 21], 2667, &[0u8; 7], &[762i16; 21]))
+    gives(10, 210, 0, 60)
+        .plus(gives(-10, 210, 7, -60))
+        .plus(gives(127, 2667, 0, 762))
 }
 
-fn one_against() -> Tally {
-    let row = ONE_AGAINST;
-    gives_in_layer_1(&row, 190, &[0u8; 7], &[20i16; 7])
-}
-
-// Decoding code 1 into nines answers a metric and leaves a word and soft outputs.
-fn gives(row: &[i16; 21], metric: i32, word: &[u8; 7], soft: &[i16; 21]) -> Tally {
-    let mut found = [9u8; 7];
+// Decoding a row of equal reliabilities in code 1 answers a metric and leaves a word of equal symbols and equal soft outputs.
+fn gives(reliability: i16, metric: i32, symbol: u8, soft: i16) -> Tally {
+    let mut word = [9u8; 7];
     let mut softs = [9i16; 21];
-    let d = decoder::decode(1, row, &mut found, &mut softs);
-    same(
-        d.number == 0 && d.metric == metric,
-        &found,
-        word,
-        &softs,
-        soft,
-    )
+    let row = [reliability; 21];
+    answers(decoder::decode(1, &row, &mut word, &mut softs), metric)
+        .with(is_word(&word, symbol))
+        .places(&softs, &[soft; 21])
 }
 
-// The same where the soft outputs of layer 1 alone are on record: bits 0, 3, 6 and so on.
-fn gives_in_layer_1(row: &[i16; 21], metric: i32, word: &[u8; 7], soft: &[i16; 7]) -> Tally {
-    let mut found = [9u8; 7];
-    let mut s = [9i16; 21];
-    let d = decoder::decode(1, row, &mut found, &mut s);
-    let layer = layer_1(&s);
-    same(
-        d.number == 0 && d.metric == metric,
-        &found,
-        word,
-        &layer,
-        soft,
-    )
+fn answers(d: Decoding, metric: i32) -> Tally {
+    Tally::none().with(d.number == 0 && d.metric == metric)
+}
+
+fn is_word(word: &[u8; 7], symbol: u8) -> bool {
+    check::same(word, &[symbol; 7])
+}
+
+// All 10 but bit 0 at -10: the zero word, and of the soft outputs those of layer 1, bits 0, 3, 6 and so on.
+fn one_against() -> Tally {
+    let mut word = [9u8; 7];
+    let mut softs = [9i16; 21];
+    let mut row = [10i16; 21];
+    row[0] = -10;
+    answers(decoder::decode(1, &row, &mut word, &mut softs), 190)
+        .with(is_word(&word, 0))
+        .places(&layer_1(&softs), &[20i16; 7])
 }
 
 fn layer_1(s: &[i16; 21]) -> [i16; 7] {
     [s[0], s[3], s[6], s[9], s[12], s[15], s[18]]
 }
 
-fn same(answers: bool, found: &[u8], word: &[u8], softs: &[i16], soft: &[i16]) -> Tally {
-    Tally::none()
-        .with(answers)
-        .with(check::same(found, word))
-        .places(softs, soft)
-}
-
 // All zero: some codeword, with the metric 0, and every soft output is 0.
 fn ties() -> Tally {
     let mut word = [9u8; 7];
-    let mut soft = [9i16; 21];
-    let d = decoder::decode(1, &[0i16; 21], &mut word, &mut soft);
-    tied(d.number == 0 && d.metric == 0, &word, &soft)
+    let mut softs = [9i16; 21];
+    answers(decoder::decode(1, &[0i16; 21], &mut word, &mut softs), 0)
+        .with(is_codeword(&word))
+        .places(&softs, &[0i16; 21])
 }
 
-fn tied(answers: bool, word: &[u8; 7], soft: &[i16; 21]) -> Tally {
+fn is_codeword(word: &[u8; 7]) -> bool {
     let mut message = [9u8; 5];
-    Tally::none()
-        .with(answers)
-        .with(code::read_word(1, word, &mut message) == 0)
-        .places(soft, &[0i16; 21])
+    code::read_word(1, word, &mut message) == 0
 }
 
-// In the refusals outputs hold nines, and keep them.
+// -128 at the last bit, and 128 at the first.
 fn values_refused() -> Tally {
-    let low = TOO_LOW;
-    let high = TOO_HIGH;
-    refuses(1, &low, &mut [9u8; 7], &mut [9i16; 21], 5).plus(refuses(
-        1,
-        &high,
-        &mut [9u8; 7],
-        &mut [9i16; 21],
-        5,
-    ))
+    let mut low = [0i16; 21];
+    low[20] = -128;
+    refuses(1, low, 21, 7, 21, 5).plus(refuses(1, high(), 21, 7, 21, 5))
+}
+
+fn high() -> [i16; 21] {
+    let mut row = [0i16; 21];
+    row[0] = 128;
+    row
 }
 
 fn codes_refused() -> Tally {
-    let short = [128i16; 20];
-    refuses(4, &short, &mut [9u8; 6], &mut [9i16; 20], 1).plus(refuses(
-        0,
-        &short,
-        &mut [9u8; 6],
-        &mut [9i16; 20],
-        1,
-    ))
+    let row = [128i16; 21];
+    refuses(4, row, 20, 6, 20, 1).plus(refuses(0, row, 20, 6, 20, 1))
 }
 
 fn rows_refused() -> Tally {
-    let short = [128i16; 20];
-    let high = TOO_HIGH;
-    refuses(1, &short, &mut [9u8; 6], &mut [9i16; 20], 2).plus(refuses(
-        3,
-        &high,
-        &mut [9u8; 6],
-        &mut [9i16; 20],
-        2,
-    ))
+    let row = [128i16; 21];
+    refuses(1, row, 20, 6, 20, 2).plus(refuses(3, high(), 21, 6, 20, 2))
 }
 
 fn outputs_refused() -> Tally {
-    let high = TOO_HIGH;
-    refuses(1, &high, &mut [9u8; 6], &mut [9i16; 21], 4).plus(refuses(
-        1,
-        &high,
-        &mut [9u8; 7],
-        &mut [9i16; 20],
-        4,
-    ))
+    refuses(1, high(), 21, 6, 21, 4).plus(refuses(1, high(), 21, 7, 20, 4))
 }
 
-// Decoding is refused by a number, with the metric 0, and both outputs keep their nines.
-fn refuses(code: u32, row: &[i16], word: &mut [u8], soft: &mut [i16], number: u32) -> Tally {
+// Decoding the first `long` of a row into n and `softs` nines is refused by a number, with the metric 0, and both outputs keep their nines.
+fn refuses(code: u32, row: [i16; 21], long: usize, n: usize, softs: usize, number: u32) -> Tally {
+    let mut word = [9u8; 7];
+    let mut soft = [9i16; 21];
+    let a = long % 22;
+    let b = n % 8;
+    let c = softs % 22;
+    refuses_into(code, &row[..a], &mut word[..b], &mut soft[..c], number)
+}
+
+fn refuses_into(code: u32, row: &[i16], word: &mut [u8], soft: &mut [i16], number: u32) -> Tally {
     let d = decoder::decode(code, row, word, soft);
     Tally::none()
         .with(d.number == number)
@@ -209,7 +111,7 @@ fn refuses(code: u32, row: &[i16], word: &mut [u8], soft: &mut [i16], number: u3
         .with(are_soft_nines(soft))
 }
 
-fn are_nines(word: &[u8]) -> bool {
+pub fn are_nines(word: &[u8]) -> bool {
     let mut i: usize = 0;
     while i < word.len() {
         if word[i] != 9 {

@@ -8,6 +8,7 @@ mod samples;
 mod sheets;
 mod splits;
 mod tally;
+mod words;
 
 use tally::Tally;
 

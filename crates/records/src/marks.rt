@@ -1,5 +1,7 @@
 // The marker: the sheet's three questions, the verdicts of other words on record, and the refusals in their order.
 use crate::tally::Tally;
+use crate::words;
+use marker::Mark;
 
 pub fn agree() -> Tally {
     questions()
@@ -14,17 +16,17 @@ pub fn agree() -> Tally {
 fn questions() -> Tally {
     let row = [10i16; 21];
     Tally::none()
-        .with(gives(1, &row, &[0, 0, 0, 0, 0, 0, 0], 0, 2, 0))
-        .with(gives(1, &row, &[3, 6, 1, 0, 0, 0, 0], 0, 1, 100))
-        .with(gives(1, &row, &[1, 0, 0, 0, 0, 0, 0], 0, 0, 0))
+        .with(gives(row, 0x0000000, 2, 0))
+        .with(gives(row, 0x3610000, 1, 100))
+        .with(gives(row, 0x1000000, 0, 0))
 }
 
 // All -10.
 fn low() -> Tally {
     let row = [-10i16; 21];
     Tally::none()
-        .with(gives(1, &row, &[7, 7, 7, 7, 7, 7, 7], 0, 2, 0))
-        .with(gives(1, &row, &[0, 0, 0, 0, 0, 0, 0], 0, 1, 420))
+        .with(gives(row, 0x7777777, 2, 0))
+        .with(gives(row, 0x0000000, 1, 420))
 }
 
 // All 10 but bit 0 at -10.
@@ -32,39 +34,51 @@ fn one_against() -> Tally {
     let mut row = [10i16; 21];
     row[0] = -10;
     Tally::none()
-        .with(gives(1, &row, &[0, 0, 0, 0, 0, 0, 0], 0, 2, 0))
-        .with(gives(1, &row, &[1, 0, 0, 0, 0, 0, 0], 0, 0, 0))
+        .with(gives(row, 0x0000000, 2, 0))
+        .with(gives(row, 0x1000000, 0, 0))
 }
 
 // All zero, where every codeword is best.
 fn zero() -> Tally {
     let row = [0i16; 21];
     Tally::none()
-        .with(gives(1, &row, &[7, 7, 7, 7, 7, 7, 7], 0, 2, 0))
-        .with(gives(1, &row, &[1, 1, 5, 4, 6, 2, 2], 0, 2, 0))
-        .with(gives(1, &row, &[1, 0, 0, 0, 0, 0, 0], 0, 0, 0))
+        .with(gives(row, 0x7777777, 2, 0))
+        .with(gives(row, 0x1154622, 2, 0))
+        .with(gives(row, 0x1000000, 0, 0))
 }
 
 fn codes_and_rows_refused() -> Tally {
-    let low = [-128i16; 21];
-    let short = [-128i16; 20];
     Tally::none()
-        .with(gives(4, &short, &[8, 0, 0, 0, 0, 0], 1, 0, 0))
-        .with(gives(0, &short, &[8, 0, 0, 0, 0, 0], 1, 0, 0))
-        .with(gives(1, &short, &[8, 0, 0, 0, 0, 0], 2, 0, 0))
-        .with(gives(3, &low, &[8, 0, 0, 0, 0, 0], 2, 0, 0))
+        .with(refuses(4, -128, 20, 6, 0x800000, 1))
+        .with(refuses(0, -128, 20, 6, 0x800000, 1))
+        .with(refuses(1, -128, 20, 6, 0x800000, 2))
+        .with(refuses(3, -128, 21, 6, 0x800000, 2))
 }
 
 fn words_and_values_refused() -> Tally {
-    let row = [10i16; 21];
-    let low = [-128i16; 21];
     Tally::none()
-        .with(gives(1, &low, &[8, 0, 0, 0, 0, 0], 3, 0, 0))
-        .with(gives(1, &low, &[8, 0, 0, 0, 0, 0, 0], 5, 0, 0))
-        .with(gives(1, &row, &[8, 0, 0, 0, 0, 0, 0], 6, 0, 0))
+        .with(refuses(1, -128, 21, 6, 0x800000, 3))
+        .with(refuses(1, -128, 21, 7, 0x8000000, 5))
+        .with(refuses(1, 10, 21, 7, 0x8000000, 6))
 }
 
-fn gives(code: u32, row: &[i16], word: &[u8], number: u32, verdict: u32, shortfall: i32) -> bool {
-    let m = marker::judge_word(code, row, word);
+// Whether a word of code 1 has a verdict and a shortfall.
+fn gives(row: [i16; 21], word: u64, verdict: u32, shortfall: i32) -> bool {
+    is_mark(mark(1, row, 21, 7, word), 0, verdict, shortfall)
+}
+
+// Whether a row of so many equal reliabilities with a word of n symbols is refused by a number.
+fn refuses(code: u32, reliability: i16, long: usize, n: usize, word: u64, number: u32) -> bool {
+    is_mark(mark(code, [reliability; 21], long, n, word), number, 0, 0)
+}
+
+fn mark(code: u32, row: [i16; 21], long: usize, n: usize, word: u64) -> Mark {
+    let symbols = words::symbols(n, word);
+    let a = long % 22;
+    let b = n % 17;
+    marker::judge_word(code, &row[..a], &symbols[..b])
+}
+
+fn is_mark(m: Mark, number: u32, verdict: u32, shortfall: i32) -> bool {
     m.number == number && m.verdict == verdict && m.shortfall == shortfall
 }

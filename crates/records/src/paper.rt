@@ -145,25 +145,50 @@ fn rewritten(sheet: [u8; 124], first: u32) -> Tally {
     let rows: &mut [i16] = &mut row_room;
     let mut word_room = [9u8; 21];
     let words: &mut [u8] = &mut word_room;
-    let mut again = [9u8; 124];
-    let a = read_one(&sheet, 0, first, &mut rows[0..21], &mut words[0..7]);
-    let b = read_one(&sheet, 1, 2, &mut rows[21..42], &mut words[7..14]);
-    let c = read_one(&sheet, 2, 3, &mut rows[42..63], &mut words[14..21]);
-    let number = sheet_writer::write_sheet(&[1, 1, 1], &[first, 2, 3], rows, words, &mut again);
-    a.plus(b)
-        .plus(c)
-        .with(number == 0)
-        .with(is_same(&again, &sheet))
+    let a = read_one(&sheet, 0, first, rows, words);
+    let b = read_one(&sheet, 1, 2, rows, words);
+    let c = read_one(&sheet, 2, 3, rows, words);
+    a.plus(b).plus(c).plus(written(&sheet, first, rows, words))
 }
 
-fn is_same(a: &[u8; 124], b: &[u8; 124]) -> bool {
-    check::same(a, b)
+// Reads a question into its part of the rows and of the words.
+fn read_one(
+    sheet: &[u8; 124],
+    at: usize,
+    number: u32,
+    rows: &mut [i16],
+    words: &mut [u8],
+) -> Tally {
+    let i = at % 3;
+    let a = i * 21;
+    let b = i * 7;
+    if rows.len() != 63 {
+        return Tally::none();
+    }
+    if words.len() != 21 {
+        return Tally::none();
+    }
+    read_into(
+        sheet,
+        at,
+        number,
+        &mut rows[a..a + 21],
+        &mut words[b..b + 7],
+    )
 }
 
-fn read_one(sheet: &[u8], at: usize, number: u32, row: &mut [i16], word: &mut [u8]) -> Tally {
+fn read_into(sheet: &[u8], at: usize, number: u32, row: &mut [i16], word: &mut [u8]) -> Tally {
     let step = lent_reader::read_from(sheet, at, row, word);
     let answer = step.answer;
     Tally::none()
         .with(sheets::is_found(answer, 1, number))
         .with(step.next == std::num::wrapping_add_usize(at, 1))
+}
+
+fn written(sheet: &[u8; 124], first: u32, rows: &[i16], words: &[u8]) -> Tally {
+    let mut again = [9u8; 124];
+    let number = sheet_writer::write_sheet(&[1, 1, 1], &[first, 2, 3], rows, words, &mut again);
+    Tally::none()
+        .with(number == 0)
+        .with(check::same(&again, sheet))
 }

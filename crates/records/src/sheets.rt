@@ -2,6 +2,7 @@
 // by a reader over them; a reader that nobody handed out gets no other answer; and what was read is written again.
 use crate::paper;
 use crate::tally::Tally;
+use sheet_reader::Step;
 use sheet_reader::Yield;
 
 // Where the last reliability of the sheet's first question stands, where that is of code 1.
@@ -19,33 +20,43 @@ pub fn agree() -> Tally {
 // A sheet of one question of code 1, all 127, is written, judged and read back; with another last reliability it is judged again.
 fn rows() -> Tally {
     let mut sheet = [9u8; 44];
-    let number = sheet_writer::write_sheet(&[1], &[7], &[127i16; 21], &[0u8; 7], &mut sheet);
+    let number = write_one([127i16; 21], &mut sheet);
     Tally::none()
         .with(number == 0)
-        .with(sheet::judge_sheet(&sheet) == 101)
+        .with(judged(&sheet) == 101)
         .plus(reads(&sheet))
-        .with(judged_with(sheet, 127) == 101)
-        .with(judged_with(sheet, 129) == 101)
-        .with(judged_with(sheet, 128) == 5)
+        .plus(then_none(&sheet))
+        .plus(last_changed(sheet))
 }
 
-// The sheet's one question, and then none.
+// Writes question 7 of code 1, with a row and the zero word.
+fn write_one(row: [i16; 21], sheet: &mut [u8; 44]) -> u32 {
+    sheet_writer::write_sheet(&[1], &[7], &row, &[0u8; 7], sheet)
+}
+
 fn reads(sheet: &[u8; 44]) -> Tally {
     let mut row = [9i16; 21];
     let mut word = [9u8; 7];
-    let first = lent_reader::read_from(sheet, 0, &mut row, &mut word);
-    let answer = first.answer;
-    let next = first.next;
-    let second = lent_reader::read_from(sheet, next, &mut row, &mut word);
-    let then = second.answer;
-    let stays = second.next;
+    let step = lent_reader::read_from(sheet, 0, &mut row, &mut word);
+    let answer = step.answer;
     Tally::none()
         .with(is_found(answer, 1, 7))
+        .with(step.next == 1)
         .places(&row, &[127i16; 21])
         .with(check::same(&word, &[0u8; 7]))
-        .with(next == 1)
-        .with(is_none(then))
-        .with(stays == 1)
+}
+
+fn then_none(sheet: &[u8; 44]) -> Tally {
+    let mut row = [9i16; 21];
+    let mut word = [9u8; 7];
+    stays(lent_reader::read_from(sheet, 1, &mut row, &mut word), 1, 0)
+}
+
+fn last_changed(sheet: [u8; 44]) -> Tally {
+    Tally::none()
+        .with(judged_with(sheet, 127) == 101)
+        .with(judged_with(sheet, 129) == 101)
+        .with(judged_with(sheet, 128) == 5)
 }
 
 pub fn is_found(y: Yield, c: u32, n: u32) -> bool {
@@ -56,11 +67,19 @@ pub fn is_found(y: Yield, c: u32, n: u32) -> bool {
     }
 }
 
-fn is_none(y: Yield) -> bool {
+// The reader stays at a place and answers by a number: a refusal's, or 0 where none is left.
+fn stays(step: Step, at: usize, number: u32) -> Tally {
+    let answer = step.answer;
+    Tally::none()
+        .with(number_of(answer) == number)
+        .with(step.next == at)
+}
+
+fn number_of(y: Yield) -> u32 {
     match y {
-        Yield::Found { code: _, number: _ } => false,
-        Yield::NoneLeft => true,
-        Yield::Refused(_) => false,
+        Yield::Found { code: _, number: _ } => 100,
+        Yield::NoneLeft => 0,
+        Yield::Refused(e) => e,
     }
 }
 
@@ -68,7 +87,11 @@ fn is_none(y: Yield) -> bool {
 fn judged_with(sheet: [u8; 44], byte: u8) -> u32 {
     let mut s = sheet;
     s[LAST] = byte;
-    sheet::judge_sheet(&s)
+    judged(&s)
+}
+
+fn judged(sheet: &[u8; 44]) -> u32 {
+    sheet::judge_sheet(sheet)
 }
 
 // A row with -128 is not written, and the output keeps its nines.
@@ -76,10 +99,12 @@ fn writes_no_low() -> Tally {
     let mut row = [127i16; 21];
     row[20] = -128;
     let mut sheet = [9u8; 44];
-    let number = sheet_writer::write_sheet(&[1], &[7], &row, &[0u8; 7], &mut sheet);
-    Tally::none()
-        .with(number == 5)
-        .with(check::same(&sheet, &[9u8; 44]))
+    let number = write_one(row, &mut sheet);
+    Tally::none().with(number == 5).with(is_kept(&sheet))
+}
+
+fn is_kept(sheet: &[u8; 44]) -> bool {
+    check::same(sheet, &[9u8; 44])
 }
 
 // 200 questions are written and taken; the first one again behind them, with an end that counts 201, is refused.
@@ -126,50 +151,39 @@ fn with_one_more(sheet: [u8; 8004]) -> [u8; 8044] {
 fn empty() -> Tally {
     Tally::none()
         .with(sheet::judge_sheet(&[]) == 9)
-        .plus(refuses(&[], 0, 9))
+        .plus(keeps(&[], 0, 9))
 }
 
 // Readers at places that nobody handed out: a sheet of one head of code 9 is refused, whatever the place, and so are bytes behind the end;
 // past the questions of a good sheet none is left.
 fn made_up() -> Tally {
     let mut sheet = [9u8; 44];
-    let number = sheet_writer::write_sheet(&[1], &[7], &[127i16; 21], &[0u8; 7], &mut sheet);
-    refuses(&[0, 0, 0, 0x19], 0, 1)
-        .plus(refuses(&[0, 0, 0, 0x19], 1, 1))
-        .plus(refuses(&[0, 0, 0, 0xf0, 0, 0, 0, 0x11], 1, 13))
+    let number = write_one([127i16; 21], &mut sheet);
+    refused_anywhere()
         .with(number == 0)
         .plus(has_none(&sheet, 3))
         .plus(has_none(&sheet, 18446744073709551615))
 }
 
-fn refuses(sheet: &[u8], at: usize, number: u32) -> Tally {
-    let mut row = [9i16; 21];
-    let mut word = [9u8; 7];
-    let step = lent_reader::read_from(sheet, at, &mut row, &mut word);
-    let answer = step.answer;
-    Tally::none()
-        .with(is_refused(answer, number))
-        .with(step.next == at)
-        .places(&row, &[9i16; 21])
-        .with(check::same(&word, &[9u8; 7]))
-}
-
 fn has_none(sheet: &[u8; 44], at: usize) -> Tally {
-    let mut row = [9i16; 21];
-    let mut word = [9u8; 7];
-    let step = lent_reader::read_from(sheet, at, &mut row, &mut word);
-    let answer = step.answer;
-    Tally::none()
-        .with(is_none(answer))
-        .with(step.next == at)
-        .places(&row, &[9i16; 21])
-        .with(check::same(&word, &[9u8; 7]))
+    keeps(sheet, at, 0)
 }
 
-fn is_refused(y: Yield, e: u32) -> bool {
-    match y {
-        Yield::Found { code: _, number: _ } => false,
-        Yield::NoneLeft => false,
-        Yield::Refused(number) => number == e,
-    }
+fn refused_anywhere() -> Tally {
+    keeps(&[0, 0, 0, 0x19], 0, 1)
+        .plus(keeps(&[0, 0, 0, 0x19], 1, 1))
+        .plus(keeps(&[0, 0, 0, 0xf0, 0, 0, 0, 0x11], 1, 13))
+}
+
+// The reader stays, and both outputs keep their nines.
+fn keeps(sheet: &[u8], at: usize, number: u32) -> Tally {
+    let mut row = [9i16; 21];
+    let mut word = [9u8; 7];
+    stays(
+            lent_reader::read_from(sheet, at, &mut row, &mut word),
+            at,
+            number,
+        )
+        .places(&row, &[9i16; 21])
+        .with(check::same(&word, &[9u8; 7]))
 }

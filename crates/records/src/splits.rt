@@ -1,45 +1,32 @@
 // The split: coset leaders, configurations and BCH words, with source document 000's lists (5), (6) and (12), and the refusals.
 // Of its generator (10) holds what the roots decide: it lists the values at α^2, and at α the multiples of (1, α^4, α^2) take its place.
 // Of its matrix (4), which has 22 columns for 21 bits, the sum of the glue vectors is taken as (7) writes it, layer by layer.
+use crate::decodings;
 use crate::tally::Tally;
+use crate::words;
 use field::Answer;
 use field::Element;
+use split::Splitting;
 
 // (5): the positions of the leaders' ones, as bits.
 const LEADERS: [u16; 8] = [0, 1, 2, 8, 4, 64, 16, 32];
 
-// (6) and (12): three places each.
-const CONFIGURATIONS: [u16; 24] = [
-    0,
-    0,
-    0,
-    1,
-    6,
-    4,
-    2,
-    7,
-    3,
-    3,
-    1,
-    7,
-    4,
-    5,
-    6,
-    5,
-    3,
-    2,
-    6,
-    2,
-    5,
-    7,
-    4,
-    1,
+// (6) and (12): a hexadecimal digit for each place.
+const CONFIGURATIONS: [u16; 8] = [
+    0x0000,
+    0x1640,
+    0x2730,
+    0x3170,
+    0x4560,
+    0x5320,
+    0x6250,
+    0x7410,
 ];
 
 pub fn agree() -> Tally {
     counts()
         .plus(lists())
-        .plus(words())
+        .plus(codewords())
         .plus(misfits())
         .plus(refusals())
 }
@@ -62,23 +49,30 @@ fn lists() -> Tally {
 // Entry k of each list.
 fn entry(k: usize) -> Tally {
     let i = k % 8;
-    let at = 3 * i;
     let c = configurations::configuration(1, i);
-    let listed = [
-        CONFIGURATIONS[at],
-        CONFIGURATIONS[at + 1],
-        CONFIGURATIONS[at + 2],
-        0,
-    ];
     Tally::none()
         .with(split::leader(1, i as u16) == LEADERS[i])
-        .with(same_tuple(c, listed))
+        .with(is_tuple(c, CONFIGURATIONS[i]))
         .with(is_generated(i as u16, c))
         .with(is_generated_at_square(c))
 }
 
+// Whether a tuple has the hexadecimal digits of a number for its places.
+fn is_tuple(c: [u16; 4], digits: u16) -> bool {
+    same_tuple(
+        c,
+        [
+            digits / 4096,
+            digits / 256 % 16,
+            digits / 16 % 16,
+            digits % 16,
+        ],
+    )
+}
+
+// Whether two tuples differ in no bit.
 fn same_tuple(a: [u16; 4], b: [u16; 4]) -> bool {
-    a[0] == b[0] && a[1] == b[1] && a[2] == b[2] && a[3] == b[3]
+    (a[0] ^ b[0]) | (a[1] ^ b[1]) | (a[2] ^ b[2]) | (a[3] ^ b[3]) == 0
 }
 
 // Whether a tuple is k times (1, α^4, α^2).
@@ -112,13 +106,11 @@ fn value(a: Answer) -> u16 {
 }
 
 // The second word has the layers of (7).
-fn words() -> Tally {
+fn codewords() -> Tally {
     gives(
-            1,
-            &[3, 6, 1, 0, 0, 0, 0],
-            0,
-            [5, 3, 2, 0],
-            &[
+            0x3610000,
+            0x5320,
+            [
                 1,
                 0,
                 1,
@@ -143,11 +135,9 @@ fn words() -> Tally {
             ],
         )
         .plus(gives(
-            1,
-            &[1, 1, 5, 4, 6, 2, 2],
-            0,
-            [7, 4, 1, 0],
-            &[
+            0x1154622,
+            0x7410,
+            [
                 1,
                 1,
                 1,
@@ -171,47 +161,49 @@ fn words() -> Tally {
                 0,
             ],
         ))
-        .plus(gives(1, &[7, 7, 7, 7, 7, 7, 7], 0, [0, 0, 0, 0], &[1u8; 21]))
+        .plus(gives(0x7777777, 0x0000, [1u8; 21]))
 }
 
-// Codes and lengths. Outputs hold nines, and keep them.
+// Splitting a word of code 1 answers a configuration and leaves an output.
+fn gives(word: u64, tuple: u16, bch: [u8; 21]) -> Tally {
+    let mut space = [9u8; 21];
+    answers(split_into(1, 7, word, &mut space), 0, tuple).with(check::same(&space, &bch))
+}
+
+fn split_into(code: u32, n: usize, word: u64, space: &mut [u8]) -> Splitting {
+    let symbols = words::symbols(n, word);
+    let a = n % 17;
+    split::split(code, &symbols[..a], space)
+}
+
+fn answers(s: Splitting, number: u32, tuple: u16) -> Tally {
+    let found = s.configuration;
+    Tally::none()
+        .with(s.number == number)
+        .with(is_tuple(found, tuple))
+}
+
+// Codes and lengths.
 fn misfits() -> Tally {
-    let none = [0u16; 4];
-    gives(4, &[8], 1, none, &[9])
-        .plus(gives(1, &[8, 0, 0, 0, 0, 0], 3, none, &[9]))
-        .plus(gives(1, &[8, 0, 0, 0, 0, 0, 0], 4, none, &[9u8; 20]))
+    refuses(4, 1, 0x8, 1, 1)
+        .plus(refuses(1, 6, 0x800000, 3, 1))
+        .plus(refuses(1, 7, 0x8000000, 4, 20))
 }
 
 // Symbols, and words that are no codewords.
 fn refusals() -> Tally {
-    let none = [0u16; 4];
-    gives(1, &[8, 0, 0, 0, 0, 0, 0], 6, none, &[9u8; 21])
-        .plus(gives(1, &[1, 0, 0, 0, 0, 0, 0], 8, none, &[9u8; 21]))
-        .plus(gives(2, &[3, 6, 1, 0, 0, 0, 0], 8, none, &[9u8; 21]))
+    refuses(1, 7, 0x8000000, 6, 21)
+        .plus(refuses(1, 7, 0x1000000, 8, 21))
+        .plus(refuses(2, 7, 0x3610000, 8, 21))
 }
 
-// Splitting into nines answers a number and a configuration and leaves an output.
-fn gives(code: u32, word: &[u8], number: u32, tuple: [u16; 4], bch: &[u8]) -> Tally {
-    let n = bch.len();
+// Splitting n symbols into so many nines is refused by a number, with a configuration of zeros, and the output keeps its nines.
+fn refuses(code: u32, n: usize, word: u64, number: u32, long: usize) -> Tally {
     let mut space = [9u8; 21];
-    if 21 < n {
-        return Tally::none().with(false);
-    }
-    gives_in(code, word, number, tuple, bch, &mut space[..n])
+    let a = long % 22;
+    refuses_into(code, n, word, number, &mut space[..a])
 }
 
-fn gives_in(
-    code: u32,
-    word: &[u8],
-    number: u32,
-    tuple: [u16; 4],
-    bch: &[u8],
-    space: &mut [u8],
-) -> Tally {
-    let s = split::split(code, word, space);
-    let found = s.configuration;
-    Tally::none()
-        .with(s.number == number)
-        .with(same_tuple(found, tuple))
-        .with(check::same(space, bch))
+fn refuses_into(code: u32, n: usize, word: u64, number: u32, space: &mut [u8]) -> Tally {
+    answers(split_into(code, n, word, space), number, 0x0000).with(decodings::are_nines(space))
 }
