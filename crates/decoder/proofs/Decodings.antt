@@ -15,10 +15,10 @@ use Rattle.metric.specs.Cost.{weight-of, top, Least-with}
 use Rattle.metric.proofs.Costs.{codeword-bits, decoded}
 use Rattle.metric.proofs.Bounds.{weight-le, cost-le}
 use Rattle.soft.specs.Pass.{folded}
-use Rattle.row_tables.specs.Within.{Input}
+use Rattle.search.specs.Within.{Input}
 use Rattle.decoder.specs.Within.{Best, Softs, SoftRows, Softened}
-use Rattle.row_tables.proofs.Tabling.{width-ok}
-use Rattle.row_tables.proofs.Searching.{row-le}
+use Rattle.search.proofs.Tabling.{width-ok}
+use Rattle.search.proofs.Searching.{row-le}
 
 module _ (c m r q n size count : ℕ) (row : List ℤ) (cs : List ℕ) (z : Input c m r q n size count row cs) where
   l : length row ≡ row-long (width c)

@@ -27,15 +27,14 @@ use Rattle.lanes.proofs.Rows.{lanes-at}
 use Rattle.glue.specs.Walk.{total, tuple, least-total, least-with, Walked, Marginals}
 use Rattle.glue.specs.Walk as W
 use Rattle.glue.proofs.Engine.{over, marginal, marginal-ge}
-use Rattle.search.specs.Search.{Spelt}
 use Rattle.search.proofs.Bridge.{conf, table}
 use Rattle.search.proofs.Found as S
 use Rattle.search.proofs.Traced as TR
-use Rattle.row_tables.specs.Within.{top, big, cap, Input, Tabled}
+use Rattle.search.specs.Within.{top, big, cap, Spelt, Input, Tabled}
 use Rattle.decoder.specs.Within.{Best, Softs}
-use Rattle.row_tables.proofs.Tabling.{width-ok}
-use Rattle.row_tables.proofs.Searching.{conf-in, least-is}
-use Rattle.row_tables.proofs.Searching as A
+use Rattle.search.proofs.Tabling.{width-ok}
+use Rattle.search.proofs.Searching.{conf-in, least-is}
+use Rattle.search.proofs.Searching as A
 
 module _ (c m r q n size count : ℕ) (row : List ℤ) (cs hs zs os t : List ℕ) (z : Input c m r q n size count row cs) (b : Tabled c q size row hs zs os t) where
   abbrev g : code-good c ≡ true

@@ -22,7 +22,7 @@ use Rattle.metric.proofs.Integers as I
 use Rattle.lanes.specs.Lanes.{lane, lanes}
 use Rattle.soft.specs.Pass.{folded}
 use Rattle.lanes.proofs.Rows.{lanes-at}
-use Rattle.row_tables.specs.Within.{big}
+use Rattle.search.specs.Within.{big}
 use Rattle.decoder.specs.Within.{soft-of, SoftRow, Written, SoftRows, Softened}
 
 -- a difference is no larger than its parts

@@ -13,7 +13,7 @@ use Rattle.metric.specs.Cost.{cost, Least, Least-with}
 use Rattle.lanes.specs.Lanes.{lane}
 use Rattle.soft.specs.Pass.{folded}
 use Rattle.glue.specs.Walk.{Marginals}
-use Rattle.row_tables.specs.Within.{big, cap}
+use Rattle.search.specs.Within.{big, cap}
 
 -- what the walk and the trace leave: the least cost, a codeword that has it, and the least total with each syndrome in each layer
 pub record Best (code size count : ℕ) (row : List ℤ) (t cs g word : List ℕ) (least : ℕ) : Type 0 where

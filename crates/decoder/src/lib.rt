@@ -7,8 +7,7 @@ ghost use lib.IntN.{pos, _-ℤ_};
 ghost use Rattle.code.specs.Code.{width, roots, is-codeword};
 ghost use Rattle.metric.specs.Metric.{Decoded};
 ghost use Rattle.glue.specs.Walk.{Marginals};
-ghost use Rattle.search.specs.Search.{Headed};
-ghost use Rattle.row_tables.specs.Within.{cap, big, Input, Buffers, Tabled};
+ghost use Rattle.search.specs.Within.{cap, big, Headed, Input, Buffers, Tabled};
 ghost use Rattle.decoder.specs.Calls.{decode-refusal, Decode-says};
 ghost use Rattle.decoder.specs.Within.{Best, Softs, All, SoftRow, Written, SoftRows, Softened, Outputs, Accepted};
 
@@ -25,7 +24,7 @@ fn clear(g: &mut [u16])
 {
     let mut i = 0;
     while i < g.len() {
-        g[i] = row_tables::CAP;
+        g[i] = search::CAP;
         i += 1;
     }
 }
@@ -54,20 +53,9 @@ fn best_word(
     ensures { λ x. ⌜ Best code size count (now (row .entry)) (now (t .entry)) (now (cs .entry)) (now (g .exit)) (now (word .exit)) x ⌝ }
 {
     clear(g);
-    let least = glue::walk(t, size, cs, count, g, row_tables::CAP);
+    let least = glue::walk(t, size, cs, count, g, search::CAP);
     let at = least.at;
-    trellis::trace_word(
-        t,
-        q,
-        size,
-        hs,
-        zs,
-        os,
-        row_tables::TOP,
-        row_tables::BIG,
-        at,
-        word,
-    );
+    trellis::trace_word(t, q, size, hs, zs, os, search::TOP, search::BIG, at, word);
     least.total as u32
 }
 
@@ -104,9 +92,9 @@ fn soft_costs(
         hs,
         zs,
         os,
-        row_tables::TOP,
-        row_tables::BIG,
-        row_tables::CAP,
+        search::TOP,
+        search::BIG,
+        search::CAP,
         zero,
         one,
     );
@@ -183,7 +171,7 @@ fn decode_with(
     requires { ⌜ Outputs m n size (now g) (now zero) (now one) (now word) (now soft) ⌝ }
     ensures { λ x. ⌜ Decoded (width code) (is-codeword (width code) (roots code)) (now (row .entry)) (now (word .exit)) x (now (soft .exit)) ⌝ }
 {
-    row_tables::of_row(code, m, r, q, n, size, count, row, cs, hs, zs, os, t);
+    search::of_row(code, m, r, q, n, size, count, row, cs, hs, zs, os, t);
     let least = best_word(
         code,
         m,
@@ -281,7 +269,7 @@ fn decode_2(row: &[i16], word: &mut [u8], soft: &mut [i16]) -> i32
     let mut os = [0u16; 28];
     let mut zero = [0u16; 56];
     let mut one = [0u16; 56];
-    let mut t = [row_tables::BIG; 2048];
+    let mut t = [search::BIG; 2048];
     let mut g = [0u16; 256];
     decode_with(
         2,

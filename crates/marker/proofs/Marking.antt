@@ -21,15 +21,14 @@ use Rattle.metric.proofs.Marks.{marked-none, marked-short, marked-best}
 use Rattle.metric.proofs.Costs.{codeword-bits}
 use Rattle.metric.proofs.Bounds.{weight-le, cost-le}
 use Rattle.glue.specs.Walk.{least-total}
-use Rattle.search.specs.Search.{word-cost, Own}
 use Rattle.search.proofs.Sums.{own-cost}
 use Rattle.marker.specs.declared.Mark.{Mark}
 use Rattle.marker.specs.Calls.{mark-refusal, Mark-says}
 use Rattle.marker.specs.Verdict.{Verdict}
-use Rattle.row_tables.specs.Within.{top, cap, Input, Tabled}
+use Rattle.search.specs.Within.{top, cap, word-cost, Own, Input, Tabled}
 use Rattle.marker.specs.Within.{Short, Judged}
 use Rattle.marker.proofs.Refusals.{Mark-taken, mark-accepted}
-use Rattle.row_tables.proofs.Searching.{row-le, least-is, few}
+use Rattle.search.proofs.Searching.{row-le, least-is, few}
 
 module _ (c m r q n size count : ℕ) (row : List ℤ) (cs hs zs os t : List ℕ) (z : Input c m r q n size count row cs) (b : Tabled c q size row hs zs os t)
     (word : List ℕ) (cw : is-codeword (width c) (roots c) word ≡ true) where

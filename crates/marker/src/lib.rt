@@ -4,8 +4,7 @@ ghost use mathlib.Core.Path.{_≡_};
 ghost use mathlib.Core.Bool.{true};
 ghost use Prim.Native.Nat.{_^_, _<_};
 ghost use Rattle.code.specs.Code.{code-good, width, roots, is-codeword};
-ghost use Rattle.search.specs.Search.{Headed};
-ghost use Rattle.row_tables.specs.Within.{Input, Buffers};
+ghost use Rattle.search.specs.Within.{Headed, Input, Buffers};
 ghost use Rattle.marker.specs.Calls.{mark-refusal, Mark-says};
 ghost use Rattle.marker.specs.Verdict.{Verdict};
 ghost use Rattle.marker.specs.Within.{Short, Judged};
@@ -53,9 +52,9 @@ fn excess_with(
     requires { ⌜ is-codeword (width code) (roots code) (now word) ≡ true ⌝ }
     ensures { λ x. ⌜ Short code (now (row .entry)) (now (word .entry)) x ⌝ }
 {
-    row_tables::of_row(code, m, r, q, n, size, count, row, cs, hs, zs, os, t);
-    let least = glue::least_of(t, size, cs, count, row_tables::CAP);
-    let own = search::word_cost(row_tables::TOP, zs, os, word);
+    search::of_row(code, m, r, q, n, size, count, row, cs, hs, zs, os, t);
+    let least = glue::least_of(t, size, cs, count, search::CAP);
+    let own = search::word_cost(search::TOP, zs, os, word);
     own - (least as u32)
 }
 
@@ -95,7 +94,7 @@ fn excess_2(row: &[i16], word: &[u8]) -> u32
     let hs = search::columns_of_code_2();
     let mut zs = [0u16; 28];
     let mut os = [0u16; 28];
-    let mut t = [row_tables::BIG; 2048];
+    let mut t = [search::BIG; 2048];
     excess_with(
         2,
         3,

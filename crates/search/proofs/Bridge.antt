@@ -34,7 +34,7 @@ use Rattle.trellis.proofs.Trellis.{Attains, attained, reaches, none-less}
 use Rattle.lanes.proofs.Rows.{four}
 use Rattle.glue.specs.Walk.{sum4}
 use Rattle.glue.proofs.Engine.{over}
-use Rattle.search.specs.Search.{Spelt}
+use Rattle.search.specs.Within.{Spelt}
 use Rattle.search.proofs.Heads.{adds}
 use Rattle.search.proofs.Layering.{by-layers}
 use Rattle.search.proofs.Weave.{weave, weave-long, weave-layer, weave-below}

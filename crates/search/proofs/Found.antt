@@ -31,7 +31,7 @@ use Rattle.trellis.specs.Rows as R
 use Rattle.trellis.proofs.Least.{least-le, least-found}
 use Rattle.glue.specs.Walk.{sum4}
 use Rattle.glue.proofs.Engine.{over, replaced, marginal, soft-le, soft-found}
-use Rattle.search.specs.Search.{Spelt}
+use Rattle.search.specs.Within.{Spelt}
 use Rattle.search.proofs.Layering.{bit-layer}
 use Rattle.search.proofs.Bridge.{conf, table, lower, attains, free-two, two-free}
 

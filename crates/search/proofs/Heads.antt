@@ -20,7 +20,7 @@ use Rattle.code.proofs.Words.{Below}
 use Rattle.split.specs.Split.{syndrome, number}
 use Rattle.trellis.specs.Trellis.{Columns, pick, syn}
 use Rattle.trellis.specs.Rows.{layer}
-use Rattle.search.specs.Search.{pack, head, Spelt}
+use Rattle.search.specs.Within.{pack, head, Spelt}
 
 module _ (m r : ℕ) (w : width-good m ≡ true) where
   one-lt : 1 < 2 ^ m

@@ -21,7 +21,7 @@ use Rattle.trellis.specs.Trellis as T
 use Rattle.trellis.specs.Rows as R
 use Rattle.lanes.specs.Lanes as N
 use Rattle.glue.specs.Walk.{sum4}
-use Rattle.search.specs.Search.{zero-cost, one-cost, Spelt}
+use Rattle.search.specs.Within.{zero-cost, one-cost, Spelt}
 
 -- f 0 + f 1 + .., so many of them
 total : ℕ → (ℕ → ℕ) → ℕ

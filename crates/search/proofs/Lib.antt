@@ -6,3 +6,6 @@ pub mod Found
 pub mod Prepared
 pub mod Traced
 pub mod Sums
+pub mod Tabling
+pub mod Searching
+pub mod Inputs

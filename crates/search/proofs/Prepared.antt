@@ -21,7 +21,7 @@ use Rattle.field.proofs.Tests.{all, at, and-l, and-r, widths}
 use Rattle.code.specs.Code.{long}
 use Rattle.metric.specs.Cost.{costZero, costOne}
 use Rattle.lanes.proofs.Rows.{four}
-use Rattle.search.specs.Search.{head, reliability, Headed, put-four, Spread, CostsTo, Costed}
+use Rattle.search.specs.Within.{head, reliability, Headed, put-four, Spread, CostsTo, Costed}
 
 -- ---- a reliability's costs, by its sign
 clash : {X : Type 0} → false ≡ true → X

@@ -22,7 +22,7 @@ use Rattle.trellis.specs.Rows as R
 use Rattle.lanes.specs.Lanes.{entry, lane, row}
 use Rattle.lanes.proofs.Rows as RR
 use Rattle.glue.specs.Walk.{sum4}
-use Rattle.search.specs.Search.{symbol-cost, word-cost, Own, Symbol, Spelt}
+use Rattle.search.specs.Within.{symbol-cost, word-cost, Own, Symbol, Spelt}
 use Rattle.search.proofs.Layering.{by-layers}
 
 pub pick-one : (b z o : ℕ) → (b ≡ 0 → ⊥) → o ≡ pick b z o

@@ -24,7 +24,7 @@ use Rattle.trellis.specs.Rows.{chosen, symbol, traced}
 use Rattle.trellis.proofs.Trellis.{Attains, reaches}
 use Rattle.trellis.proofs.Trellis as TT
 use Rattle.glue.proofs.Engine.{over}
-use Rattle.search.specs.Search.{Spelt}
+use Rattle.search.specs.Within.{Spelt}
 use Rattle.search.proofs.Weave.{merge, weave}
 use Rattle.search.proofs.Bridge.{conf, table, Lane, woven, free-two, conf-high}
 

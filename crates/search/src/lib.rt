@@ -1,6 +1,6 @@
-// The trellis and the walk at a code and a row: the columns of each code, the costs of a row, the tuples that are its valid configurations, and
-// what a word costs by itself. proofs/Found.antt shows that what trellis and glue then find are the least costs of codewords.
-// Its functions are for the decoder and the marker.
+// The trellis and the walk at a code and a row: the columns of each code, the costs of a row, its tables, and what a word costs by itself.
+// proofs/Found.antt shows that what trellis and glue then find are the least costs of codewords, proofs/Searching.antt that the least total over
+// the tables of an accepted row is. Its functions are for the decoder and the marker.
 ghost use mathlib.Core.Path.{_≡_};
 ghost use mathlib.Core.Bool.{true};
 ghost use Prim.Native.Nat.{ℕ, _+_, _*_, _/_, _%_, _^_, _<_, _≤_};
@@ -12,9 +12,16 @@ ghost use Rattle.configurations.specs.Configurations.{configurations, listed};
 ghost use Rattle.metric.specs.Row.{reliability-good, row-good};
 ghost use Rattle.metric.specs.Cost.{costZero, costOne, weight-of, cost};
 ghost use Rattle.lanes.specs.Lanes.{lane, lanes};
-ghost use Rattle.search.specs.Search.{reliability, Headed, put-four, Spread, CostsTo, CostRows, Costed, symbol-cost, word-cost, Own, Symbol};
+ghost use Rattle.search.specs.Within.{reliability, Headed, put-four, Spread, CostsTo, CostRows, Costed, Input, Buffers, Tabled, symbol-cost, word-cost, Own, Symbol};
 ghost use Rattle.trellis.specs.Trellis.{pick};
 ghost use Rattle.glue.specs.Walk.{sum4};
+
+// A reliability's greatest size, a number above every cost of a word, and one above twice that and a layer's cost.
+pub const TOP: u16 = 127;
+
+pub const BIG: u16 = 60 * TOP + 1;
+
+pub const CAP: u16 = 2 * BIG + 15 * TOP;
 
 // The columns of each code: the syndromes that a 1 adds at each position.
 pub fn columns_of_code_1() -> [u16; 7]
@@ -111,6 +118,31 @@ pub fn cost_rows(m: u32, n: usize, row: &[i16], zs: &mut [u16], os: &mut [u16])
     let mut wide = [0i16; 60];
     spread(m, n, row, &mut wide);
     costs(&wide, zs, os);
+}
+
+// The layers' tables of a row.
+pub fn of_row(
+    code: u32,
+    m: u32,
+    r: u32,
+    q: u32,
+    n: usize,
+    size: usize,
+    count: usize,
+    row: &[i16],
+    cs: &[u16],
+    hs: &[u16],
+    zs: &mut [u16],
+    os: &mut [u16],
+    t: &mut [u16],
+)
+    requires { ⌜ Input code m r q n size count (now row) (now cs) ⌝ }
+    requires { ⌜ Headed m r (now hs) ⌝ }
+    requires { ⌜ Buffers n size (now zs) (now os) (now t) ⌝ }
+    ensures { λ _. ⌜ Tabled code q size (now (row .entry)) (now (hs .entry)) (now (zs .exit)) (now (os .exit)) (now (t .exit)) ⌝ }
+{
+    cost_rows(m, n, row, zs, os);
+    trellis::make_tables(t, q, size, hs, zs, os, TOP, BIG);
 }
 
 // What a bit costs.

@@ -1,6 +1,6 @@
 -- `decoder::best_word` meets its contract.
 -- Assumes nothing.
-use Rattle.row_tables.proofs.Searching.{tuples-ok}
+use Rattle.search.proofs.Searching.{tuples-ok}
 use Rattle.decoder.proofs.Finding.{trace-ok, best-ok}
 use native.Mathlib.Omega.{arith}
 use mathlib.Core.Path.{_∙_}

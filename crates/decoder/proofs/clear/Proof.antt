@@ -1,7 +1,7 @@
 -- `decoder::clear` meets its contract.
 -- Assumes nothing.
 use Rattle.decoder.proofs.Finding.{set-all}
-use Rattle.row_tables.specs.Within.{cap}
+use Rattle.search.specs.Within.{cap}
 use lib.ListN.{length-set}
 use lib.ListN.{length, getD}
 use native.Mathlib.Omega.{arith}

@@ -1,6 +1,6 @@
 -- `decoder::decode` meets its contract.
 -- Assumes nothing.
-use Rattle.row_tables.proofs.Inputs.{third}
+use Rattle.search.proofs.Inputs.{third}
 use Rattle.decoder.proofs.Joins.{decode-refused, good-code, accepted, decode-done}
 use mir.Facts.{toZ-ofZ}
 use borrow.Author.Needs.{needs}

@@ -3,7 +3,7 @@
 use mathlib.Core.Path.{refl}
 use borrow.Author.Needs.{needs}
 use Rattle.code.specs.Code.{width, long}
-use Rattle.row_tables.proofs.Inputs.{input-1}
+use Rattle.search.proofs.Inputs.{input-1}
 use Rattle.decoder.proofs.Inputs.{outputs}
 use Rattle.decoder.proofs.decode_1.Statement.{statement}
 use Rattle.decoder.proofs.decode_1.Tie as tie

@@ -1,6 +1,6 @@
 -- `marker::excess` meets its contract.
 -- Assumes nothing.
-use Rattle.row_tables.proofs.Inputs.{third}
+use Rattle.search.proofs.Inputs.{third}
 use Rattle.marker.specs.Within.{Judged, Short}
 use native.Mathlib.Omega.{arith}
 use Prim.Native.Nat.{ℕ}

@@ -3,7 +3,7 @@
 use mathlib.Core.Path.{refl}
 use borrow.Author.Needs.{needs}
 use Rattle.code.specs.Code.{width, long}
-use Rattle.row_tables.proofs.Inputs.{input-3}
+use Rattle.search.proofs.Inputs.{input-3}
 use Rattle.marker.proofs.excess_3.Statement.{statement}
 use Rattle.marker.proofs.excess_3.Tie as tie
 

@@ -1,7 +1,7 @@
 -- `marker::excess_with` meets its contract.
 -- Assumes nothing.
 use borrow.Author.Needs.{needs}
-use Rattle.row_tables.proofs.Searching.{tuples-ok}
+use Rattle.search.proofs.Searching.{tuples-ok}
 use Rattle.marker.proofs.Marking.{own-ok, excess-fits, excess-ok}
 use Rattle.marker.proofs.excess_with.Statement.{statement}
 use Rattle.marker.proofs.excess_with.Tie as tie

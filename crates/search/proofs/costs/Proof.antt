@@ -9,7 +9,7 @@ use lib.IntN.{pos}
 use mir.Syntax.{w16}
 use mir.Val.{SFits}
 use Rattle.metric.specs.Cost.{costZero, costOne}
-use Rattle.search.specs.Search.{CostsTo}
+use Rattle.search.specs.Within.{CostsTo}
 use Rattle.search.proofs.Prepared.{costs-more, through}
 use Rattle.search.proofs.costs.Statement.{statement}
 use Rattle.search.proofs.costs.Tie as tie

@@ -5,7 +5,7 @@ use borrow.Author.Needs.{needs}
 use mathlib.Core.Path.{_≡_, refl, sym, ap, _∙_}
 use Prim.Native.Nat.{ℕ, _+_, _-_, _*_, _≤_, _<_}
 use lib.ListN.{length}
-use Rattle.search.specs.Search.{reliability, Spread}
+use Rattle.search.specs.Within.{reliability, Spread}
 use Rattle.search.proofs.Prepared.{length-four, spread-more, inside}
 use Rattle.search.proofs.spread.Statement.{statement}
 use Rattle.search.proofs.spread.Tie as tie

@@ -6,7 +6,7 @@ use lib.ListN.{length-set}
 use mathlib.Core.Path.{_∙_}
 use Prim.Native.Nat.{_*_}
 use mir.Facts.{toZ-ofZ}
-use Rattle.search.specs.Search.{reliability}
+use Rattle.search.specs.Within.{reliability}
 use Rattle.search.proofs.Prepared.{four-is}
 use Rattle.search.proofs.spread_at.Statement.{statement}
 use Rattle.search.proofs.spread_at.Tie as tie

@@ -1,7 +1,7 @@
 -- `search::word_cost` meets its contract.
 -- Assumes nothing.
 use Rattle.search.proofs.Sums.{Adding, adding-fits, adding-more, adding-end}
-use Rattle.search.specs.Search.{Own}
+use Rattle.search.specs.Within.{Own}
 use lib.ListN.{length}
 use native.Mathlib.Omega.{arith}
 use Prim.Native.Nat.{_≤_, _-_, _+_}

@@ -14,7 +14,7 @@ use Rattle.split.specs.Split.{cosets}
 use Rattle.configurations.specs.Configurations.{configurations, listed}
 use Rattle.configurations.proofs.Listed.{listed-length}
 use Rattle.metric.specs.Row.{row-good}
-use Rattle.row_tables.specs.Within.{Input}
+use Rattle.search.specs.Within.{Input}
 
 module _ (c m r q n size count : ℕ) (g : code-good c ≡ true) (em : m ≡ width c) (er : r ≡ roots c) (en : n ≡ long m) (some : 0 < q) (eq : size ≡ 2 ^ q) (es : size ≡ cosets m r) (ec : count ≡ configurations c)
     (row : List ℤ) (l : length row ≡ row-long (width c)) (w : row-good row ≡ true) where

@@ -1,9 +1,9 @@
--- `row_tables::of_row` meets its contract.
+-- `search::of_row` meets its contract.
 -- Assumes nothing.
 use borrow.Author.Needs.{needs}
-use Rattle.row_tables.proofs.Tabling.{costs-ok, make-ok, spelt-ok, layers-ok}
-use Rattle.row_tables.proofs.of_row.Statement.{statement}
-use Rattle.row_tables.proofs.of_row.Tie as tie
+use Rattle.search.proofs.Tabling.{costs-ok, make-ok, spelt-ok, layers-ok}
+use Rattle.search.proofs.of_row.Statement.{statement}
+use Rattle.search.proofs.of_row.Tie as tie
 
 cost-rows-requires : tie.Need-cost-rows-requires
 cost-rows-requires c κs = let s = c .before .before .before .before .before .before .before in

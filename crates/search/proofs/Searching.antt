@@ -31,12 +31,11 @@ use Rattle.trellis.proofs.Tables.{back-le, final-le}
 use Rattle.glue.specs.Walk.{total, tuple, least-total, Tuples}
 use Rattle.glue.specs.Walk as W
 use Rattle.glue.proofs.Engine.{over}
-use Rattle.search.specs.Search.{Spelt}
 use Rattle.search.proofs.Bridge.{conf, table, conf-high, padded-in}
 use Rattle.search.proofs.Found as S
 use Rattle.search.proofs.Traced as TR
-use Rattle.row_tables.specs.Within.{top, big, cap, Input, Tabled}
-use Rattle.row_tables.proofs.Tabling.{short}
+use Rattle.search.specs.Within.{top, big, cap, Spelt, Input, Tabled}
+use Rattle.search.proofs.Tabling.{short}
 
 at-below : (n : ℕ) (xs : List ℕ) (j : ℕ) → Below n xs → j < length xs → getD xs j 0 < n
 at-below n [] j b h = absurd (omega arith)

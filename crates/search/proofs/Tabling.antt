@@ -18,9 +18,8 @@ use Rattle.split.specs.Split.{cosets}
 use Rattle.metric.specs.Row.{bound, reliability-good}
 use Rattle.metric.proofs.Bounds.{row-at, cost-zero-le, cost-one-le}
 use Rattle.trellis.specs.Rows.{Layers, Make}
-use Rattle.search.specs.Search.{head, reliability, Headed, CostRows, Costed, Spelt}
 use Rattle.search.proofs.Prepared.{long-le}
-use Rattle.row_tables.specs.Within.{top, big, Input, Buffers}
+use Rattle.search.specs.Within.{head, reliability, top, big, Spelt, Headed, CostRows, Costed, Input, Buffers}
 
 -- the columns' syndromes are syndromes, by a test of each code's
 heads-in : (c : ℕ) → code-good c ≡ true → (i : ℕ) → i < long (width c) → head (width c) (roots c) i < cosets (width c) (roots c)
