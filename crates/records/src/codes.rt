@@ -5,13 +5,9 @@ use code::Membership;
 
 pub fn agree() -> Tally {
     messages()
-        .plus(other_messages())
         .plus(tests())
-        .plus(test_refusals())
-        .plus(encoder_misfits())
         .plus(encoder_refusals())
         .plus(sixteen_refused())
-        .plus(reader_misfits())
         .plus(reader_refusals())
 }
 
@@ -19,10 +15,7 @@ fn messages() -> Tally {
     carries(1, 5, 0x10000, 7, 0x3610000)
         .plus(carries(2, 3, 0x100, 7, 0x3213100))
         .plus(carries(3, 13, 0x1000000000000, 15, 0x861000000000000))
-}
-
-fn other_messages() -> Tally {
-    carries(1, 5, 0x54622, 7, 0x1154622)
+        .plus(carries(1, 5, 0x54622, 7, 0x1154622))
         .plus(carries(1, 5, 0x77777, 7, 0x7777777))
         .plus(carries(2, 3, 0x000, 7, 0x0000000))
 }
@@ -35,33 +28,25 @@ fn carries(code: u32, k: usize, message: u64, n: usize, word: u64) -> Tally {
         .with(test_gives(code, n, word, 0))
 }
 
+// Words that are no codewords, and the test's refusals.
 fn tests() -> Tally {
     Tally::none()
         .with(test_gives(1, 7, 0x1000000, 8))
         .with(test_gives(2, 7, 0x3610000, 8))
         .with(test_gives(3, 15, 0x861000000000001, 8))
-}
-
-fn test_refusals() -> Tally {
-    Tally::none()
         .with(test_gives(0, 1, 0x8, 1))
         .with(test_gives(4, 1, 0x8, 1))
         .with(test_gives(1, 8, 0x80000000, 3))
         .with(test_gives(1, 7, 0x8000000, 6))
 }
 
-// Codes and lengths. Outputs hold nines, and keep them.
-fn encoder_misfits() -> Tally {
+// Codes, lengths and symbols. Outputs hold nines, and keep them.
+fn encoder_refusals() -> Tally {
     Tally::none()
         .with(encode_gives(4, 1, 0x8, 1, 1, 0x9))
         .with(encode_gives(0, 1, 0x8, 1, 1, 0x9))
         .with(encode_gives(1, 4, 0x8000, 3, 1, 0x9))
         .with(encode_gives(1, 5, 0x80000, 4, 8, 0x99999999))
-}
-
-// Symbols.
-fn encoder_refusals() -> Tally {
-    Tally::none()
         .with(encode_gives(1, 5, 0x80000, 6, 7, 0x9999999))
         .with(encode_gives(2, 3, 0x008, 6, 7, 0x9999999))
 }
@@ -78,16 +63,12 @@ fn sixteen_refused() -> Tally {
         .with(encode_into(3, &message, 6, &[9u8; 15], &mut space))
 }
 
-fn reader_misfits() -> Tally {
+// Codes, lengths, symbols, and words that are no codewords.
+fn reader_refusals() -> Tally {
     Tally::none()
         .with(read_gives(4, 1, 0x8, 1, 1, 0x9))
         .with(read_gives(1, 6, 0x800000, 3, 1, 0x9))
         .with(read_gives(1, 7, 0x8000000, 4, 6, 0x999999))
-}
-
-// Symbols, and words that are no codewords.
-fn reader_refusals() -> Tally {
-    Tally::none()
         .with(read_gives(1, 7, 0x8000000, 6, 5, 0x99999))
         .with(read_gives(1, 7, 0x1000000, 8, 5, 0x99999))
         .with(read_gives(2, 7, 0x3610000, 8, 3, 0x999))

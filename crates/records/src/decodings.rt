@@ -6,9 +6,7 @@ pub fn agree() -> Tally {
     rows().plus(one_against())
         .plus(ties())
         .plus(values_refused())
-        .plus(codes_refused())
-        .plus(rows_refused())
-        .plus(outputs_refused())
+        .plus(lengths_refused())
 }
 
 // All 10, the row of the sheet's questions; all -10; all 127.
@@ -24,16 +22,12 @@ fn gives(reliability: i16, metric: i32, symbol: u8, soft: i16) -> Tally {
     let mut softs = [9i16; 21];
     let row = [reliability; 21];
     answers(decoder::decode(1, &row, &mut word, &mut softs), metric)
-        .with(is_word(&word, symbol))
-        .places(&softs, &[soft; 21])
+        .word(word, symbol)
+        .row(softs, soft)
 }
 
 fn answers(d: Decoding, metric: i32) -> Tally {
     Tally::none().with(d.number == 0 && d.metric == metric)
-}
-
-fn is_word(word: &[u8; 7], symbol: u8) -> bool {
-    check::same(word, &[symbol; 7])
 }
 
 // All 10 but bit 0 at -10: the zero word, and of the soft outputs those of layer 1, bits 0, 3, 6 and so on.
@@ -43,11 +37,11 @@ fn one_against() -> Tally {
     let mut row = [10i16; 21];
     row[0] = -10;
     answers(decoder::decode(1, &row, &mut word, &mut softs), 190)
-        .with(is_word(&word, 0))
-        .places(&layer_1(&softs), &[20i16; 7])
+        .word(word, 0)
+        .places(&layer_1(softs), &[20i16; 7])
 }
 
-fn layer_1(s: &[i16; 21]) -> [i16; 7] {
+fn layer_1(s: [i16; 21]) -> [i16; 7] {
     [s[0], s[3], s[6], s[9], s[12], s[15], s[18]]
 }
 
@@ -56,40 +50,33 @@ fn ties() -> Tally {
     let mut word = [9u8; 7];
     let mut softs = [9i16; 21];
     answers(decoder::decode(1, &[0i16; 21], &mut word, &mut softs), 0)
-        .with(is_codeword(&word))
-        .places(&softs, &[0i16; 21])
+        .with(is_codeword(word))
+        .row(softs, 0)
 }
 
-fn is_codeword(word: &[u8; 7]) -> bool {
+fn is_codeword(word: [u8; 7]) -> bool {
     let mut message = [9u8; 5];
-    code::read_word(1, word, &mut message) == 0
+    code::read_word(1, &word, &mut message) == 0
 }
 
 // -128 at the last bit, and 128 at the first.
 fn values_refused() -> Tally {
     let mut low = [0i16; 21];
     low[20] = -128;
-    refuses(1, low, 21, 7, 21, 5).plus(refuses(1, high(), 21, 7, 21, 5))
+    let mut high = [0i16; 21];
+    high[0] = 128;
+    refuses(1, low, 21, 7, 21, 5).plus(refuses(1, high, 21, 7, 21, 5))
 }
 
-fn high() -> [i16; 21] {
-    let mut row = [0i16; 21];
-    row[0] = 128;
-    row
-}
-
-fn codes_refused() -> Tally {
+// Codes, rows and outputs.
+fn lengths_refused() -> Tally {
     let row = [128i16; 21];
-    refuses(4, row, 20, 6, 20, 1).plus(refuses(0, row, 20, 6, 20, 1))
-}
-
-fn rows_refused() -> Tally {
-    let row = [128i16; 21];
-    refuses(1, row, 20, 6, 20, 2).plus(refuses(3, high(), 21, 6, 20, 2))
-}
-
-fn outputs_refused() -> Tally {
-    refuses(1, high(), 21, 6, 21, 4).plus(refuses(1, high(), 21, 7, 20, 4))
+    refuses(4, row, 20, 6, 20, 1)
+        .plus(refuses(0, row, 20, 6, 20, 1))
+        .plus(refuses(1, row, 20, 6, 20, 2))
+        .plus(refuses(3, row, 21, 6, 20, 2))
+        .plus(refuses(1, row, 21, 6, 21, 4))
+        .plus(refuses(1, row, 21, 7, 20, 4))
 }
 
 // Decoding the first `long` of a row into n and `softs` nines is refused by a number, with the metric 0, and both outputs keep their nines.

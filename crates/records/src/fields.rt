@@ -8,20 +8,18 @@ const POWERS_3: [u8; 7] = [1, 2, 4, 3, 6, 7, 5];
 const POWERS_4: [u8; 15] = [1, 2, 4, 8, 3, 6, 12, 11, 5, 10, 7, 14, 15, 13, 9];
 
 pub fn agree() -> Tally {
-    let three = powers(3, &POWERS_3).plus(inverses(3, &POWERS_3));
-    let four = powers(4, &POWERS_4).plus(inverses(4, &POWERS_4));
-    three
-        .plus(four)
-        .plus(tables())
+    table(3, &field::ANTILOG_3, &POWERS_3)
+        .plus(table(4, &field::ANTILOG_4, &POWERS_4))
         .plus(answers())
         .plus(refusals_alone())
         .plus(refusals_of_two())
 }
 
-fn tables() -> Tally {
-    Tally::none()
-        .with(check::same(&field::ANTILOG_3, &POWERS_3))
-        .with(check::same(&field::ANTILOG_4, &POWERS_4))
+// A field's table of powers, the powers and their inverses.
+fn table(m: u32, antilogs: &[u8], listed: &[u8]) -> Tally {
+    powers(m, listed)
+        .plus(inverses(m, listed))
+        .with(check::same(antilogs, listed))
 }
 
 // Each listed power times α is the next one, and the last times α is 1.

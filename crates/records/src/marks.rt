@@ -4,12 +4,7 @@ use crate::words;
 use marker::Mark;
 
 pub fn agree() -> Tally {
-    questions()
-        .plus(low())
-        .plus(one_against())
-        .plus(zero())
-        .plus(codes_and_rows_refused())
-        .plus(words_and_values_refused())
+    questions().plus(other_rows()).plus(refusals())
 }
 
 // The three questions of the sheet on record: all 10, and the words of 0x30000000, 0x30000163 and 0x30000001.
@@ -21,42 +16,29 @@ fn questions() -> Tally {
         .with(gives(row, 0x1000000, 0, 0))
 }
 
-// All -10.
-fn low() -> Tally {
-    let row = [-10i16; 21];
+// All -10; all 10 but bit 0 at -10; all zero, where every codeword is best.
+fn other_rows() -> Tally {
+    let low = [-10i16; 21];
+    let mut one_against = [10i16; 21];
+    one_against[0] = -10;
+    let zero = [0i16; 21];
     Tally::none()
-        .with(gives(row, 0x7777777, 2, 0))
-        .with(gives(row, 0x0000000, 1, 420))
+        .with(gives(low, 0x7777777, 2, 0))
+        .with(gives(low, 0x0000000, 1, 420))
+        .with(gives(one_against, 0x0000000, 2, 0))
+        .with(gives(one_against, 0x1000000, 0, 0))
+        .with(gives(zero, 0x7777777, 2, 0))
+        .with(gives(zero, 0x1154622, 2, 0))
+        .with(gives(zero, 0x1000000, 0, 0))
 }
 
-// All 10 but bit 0 at -10.
-fn one_against() -> Tally {
-    let mut row = [10i16; 21];
-    row[0] = -10;
-    Tally::none()
-        .with(gives(row, 0x0000000, 2, 0))
-        .with(gives(row, 0x1000000, 0, 0))
-}
-
-// All zero, where every codeword is best.
-fn zero() -> Tally {
-    let row = [0i16; 21];
-    Tally::none()
-        .with(gives(row, 0x7777777, 2, 0))
-        .with(gives(row, 0x1154622, 2, 0))
-        .with(gives(row, 0x1000000, 0, 0))
-}
-
-fn codes_and_rows_refused() -> Tally {
+// Codes, rows, words and values.
+fn refusals() -> Tally {
     Tally::none()
         .with(refuses(4, -128, 20, 6, 0x800000, 1))
         .with(refuses(0, -128, 20, 6, 0x800000, 1))
         .with(refuses(1, -128, 20, 6, 0x800000, 2))
         .with(refuses(3, -128, 21, 6, 0x800000, 2))
-}
-
-fn words_and_values_refused() -> Tally {
-    Tally::none()
         .with(refuses(1, -128, 21, 6, 0x800000, 3))
         .with(refuses(1, -128, 21, 7, 0x8000000, 5))
         .with(refuses(1, 10, 21, 7, 0x8000000, 6))

@@ -42,8 +42,8 @@ fn reads(sheet: &[u8; 44]) -> Tally {
     Tally::none()
         .with(is_found(answer, 1, 7))
         .with(step.next == 1)
-        .places(&row, &[127i16; 21])
-        .with(check::same(&word, &[0u8; 7]))
+        .row(row, 127)
+        .word(word, 0)
 }
 
 fn then_none(sheet: &[u8; 44]) -> Tally {
@@ -184,6 +184,6 @@ fn keeps(sheet: &[u8], at: usize, number: u32) -> Tally {
             at,
             number,
         )
-        .places(&row, &[9i16; 21])
-        .with(check::same(&word, &[9u8; 7]))
+        .row(row, 9)
+        .word(word, 9)
 }

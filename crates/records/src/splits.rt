@@ -24,11 +24,7 @@ const CONFIGURATIONS: [u16; 8] = [
 ];
 
 pub fn agree() -> Tally {
-    counts()
-        .plus(lists())
-        .plus(codewords())
-        .plus(misfits())
-        .plus(refusals())
+    counts().plus(lists()).plus(codewords()).plus(refusals())
 }
 
 fn counts() -> Tally {
@@ -183,16 +179,12 @@ fn answers(s: Splitting, number: u32, tuple: u16) -> Tally {
         .with(is_tuple(found, tuple))
 }
 
-// Codes and lengths.
-fn misfits() -> Tally {
+// Codes, lengths, symbols, and words that are no codewords.
+fn refusals() -> Tally {
     refuses(4, 1, 0x8, 1, 1)
         .plus(refuses(1, 6, 0x800000, 3, 1))
         .plus(refuses(1, 7, 0x8000000, 4, 20))
-}
-
-// Symbols, and words that are no codewords.
-fn refusals() -> Tally {
-    refuses(1, 7, 0x8000000, 6, 21)
+        .plus(refuses(1, 7, 0x8000000, 6, 21))
         .plus(refuses(1, 7, 0x1000000, 8, 21))
         .plus(refuses(2, 7, 0x3610000, 8, 21))
 }

@@ -27,6 +27,16 @@ impl Tally {
         }
     }
 
+    // One comparison of a whole word with a symbol at every place.
+    pub fn word(self, found: [u8; 7], symbol: u8) -> Tally {
+        self.with(check::same(&found, &[symbol; 7]))
+    }
+
+    // One comparison of the lengths, and one of each place with the same number.
+    pub fn row(self, found: [i16; 21], number: i16) -> Tally {
+        self.places(&found, &[number; 21])
+    }
+
     // One comparison of the lengths, and one of each place.
     pub fn places(self, found: &[i16], expected: &[i16]) -> Tally {
         let mut t = self.with(found.len() == expected.len());
