@@ -7,18 +7,9 @@ use Rattle.code.proofs.Accepted.{refused, member, no-member, check-acce
 use Rattle.code.proofs.check_word.Statement.{statement}
 use Rattle.code.proofs.check_word.Tie as tie
 
-check-refusal-requires : tie.Need-check-refusal-requires
-check-refusal-requires c κs = search needs
-
 returns : tie.Need-returns
 unfolding checked
 returns c = refused _ _ _ (c .before .check-refusal .ensures) (c .if1 .taken)
-
-width-of-requires : tie.Need-width-of-requires
-width-of-requires c κs = search needs
-
-roots-of-requires : tie.Need-roots-of-requires
-roots-of-requires c κs = search needs
 
 is-codeword-requires : tie.Need-is-codeword-requires
 is-codeword-requires c κs = let w = c .before in let e = w .before in let a = e .before .before .before .args in
@@ -40,10 +31,10 @@ pub check-word-spec : {M : Type 1} → statement M
 check-word-spec =
     tie.close
     (tie.spec
-    check-refusal-requires
+    (λ c κs. search needs)
     returns
-    width-of-requires
-    roots-of-requires
+    (λ c κs. search needs)
+    (λ c κs. search needs)
     is-codeword-requires
     returns-2
     returns-3)

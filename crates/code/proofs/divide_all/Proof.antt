@@ -16,12 +16,6 @@ abbrev μ-loop : tie.MeasureT-loop
 loop-holds : tie.Need-loop-holds Inv-loop μ-loop
 loop-holds c = dividing-start (c .before .args .m) (c .before .args .r) (c .before .args .part .now) (c .before .pre .symbols)
 
-add-t : tie.Need-add-t Inv-loop μ-loop
-add-t c = search needs
-
-power-requires : tie.Need-power-requires Inv-loop μ-loop
-power-requires c κs = search needs
-
 divide-out-requires : tie.Need-divide-out-requires Inv-loop μ-loop
 divide-out-requires c κs = let b = c .before .before .before .before .before in
     record {
@@ -30,16 +24,10 @@ divide-out-requires c κs = let b = c .before .before .before .before .before in
       symbols = c .before .before .before .loop .inv .symbols;
     }
 
-loop-less : tie.Need-loop-less Inv-loop μ-loop
-loop-less c = search needs
-
 loop-again : tie.Need-loop-again Inv-loop μ-loop
 loop-again c = let d = c .before .before in let p = d .before .before in let s = p .before .before in let b = s .before .before in
     dividing-turn (b .args .m) (b .args .r) (b .args .part .now) (s .loop .part) (d .divide-out .last .1 .1 .0) (s .loop .t) (p .power .result) (b .pre .width)
     (p .before .loop-test .taken) (s .loop .inv) (p .power .ensures) (d .divide-out .kept .1 .1 .0) (d .divide-out .ensures)
-
-same-length : tie.Need-same-length Inv-loop μ-loop
-same-length c = c .before .loop .inv .long
 
 returns : tie.Need-returns Inv-loop μ-loop
 returns c = let s = c .before in let a = s .before .before .args in
@@ -52,10 +40,10 @@ divide-all-spec =
     Inv-loop
     μ-loop
     loop-holds
-    add-t
-    power-requires
+    (λ c. search needs)
+    (λ c κs. search needs)
     divide-out-requires
-    loop-less
+    (λ c. search needs)
     loop-again
-    same-length
+    (λ c. c .before .loop .inv .long)
     returns)

@@ -20,12 +20,6 @@ abbrev μ-loop : tie.MeasureT-loop
 loop-holds : tie.Need-loop-holds Inv-loop μ-loop
 loop-holds c = divide-start (c .before .args .m) (c .before .args .x) (c .before .args .part .now)
 
-sub-i : tie.Need-sub-i Inv-loop μ-loop
-sub-i c = search needs
-
-slice-read-add : tie.Need-slice-read-add Inv-loop μ-loop
-slice-read-add c = search needs
-
 multiply-requires : tie.Need-multiply-requires Inv-loop μ-loop
 multiply-requires c κs = let s = c .before .before in let b = s .before .before in
     record {
@@ -35,22 +29,10 @@ multiply-requires c κs = let s = c .before .before in let b = s .before .before
           divide-inside (b .args .m) (b .pre .width) (b .args .x) (b .pre .point) (b .args .part .now) (s .loop .part) (s .loop .v) (s .loop .i) (b .pre .symbols) (s .loop .inv);
     }
 
-add-requires : tie.Need-add-requires Inv-loop μ-loop
-add-requires c κs = search needs
-
-slice-write-part : tie.Need-slice-write-part Inv-loop μ-loop
-slice-write-part c = search needs
-
-loop-less : tie.Need-loop-less Inv-loop μ-loop
-loop-less c = search needs
-
 loop-again : tie.Need-loop-again Inv-loop μ-loop
 loop-again c = let s = c .before .before .before .before in let a = s .before .before .args in
     divide-turn (a .m) (a .x) (a .part .now) (s .loop .part) (s .loop .v) (s .loop .i) (s .loop .i - 1) (c .add .result) (omega arith) (s .loop .inv)
     (c .add .ensures ∙ ap (xor (getD (s .loop .part) (s .loop .i - 1) 0)) (c .before .multiply .ensures))
-
-same-length : tie.Need-same-length Inv-loop μ-loop
-same-length c = c .before .loop .inv .long
 
 returns : tie.Need-returns Inv-loop μ-loop
 returns c = let s = c .before in let a = s .before .before .args in finish (tails (a .m) (a .x)) (horner (a .m) (a .x)) (a .part .now) (s .loop .part) (s .loop .v) (s .loop .i) (c .loop-test .left) (s .loop .inv)
@@ -62,12 +44,12 @@ divide-out-spec =
     Inv-loop
     μ-loop
     loop-holds
-    sub-i
-    slice-read-add
+    (λ c. search needs)
+    (λ c. search needs)
     multiply-requires
-    add-requires
-    slice-write-part
-    loop-less
+    (λ c κs. search needs)
+    (λ c. search needs)
+    (λ c. search needs)
     loop-again
-    same-length
+    (λ c. c .before .loop .inv .long)
     returns)

@@ -7,25 +7,13 @@ use Rattle.code.proofs.Accepted.{outcome-refused, outcome-done, encode-
 use Rattle.code.proofs.encode.Statement.{statement}
 use Rattle.code.proofs.encode.Tie as tie
 
-encode-refusal-requires : tie.Need-encode-refusal-requires
-encode-refusal-requires c κs = search needs
-
 returns : tie.Need-returns
 unfolding Encode-says
 returns c = outcome-refused _ _ _ _ (c .before .encode-refusal .ensures) (c .if1 .taken) refl
 
-width-of-requires : tie.Need-width-of-requires
-width-of-requires c κs = search needs
-
-roots-of-requires : tie.Need-roots-of-requires
-roots-of-requires c κs = search needs
-
 write-codeword-requires : tie.Need-write-codeword-requires
 write-codeword-requires c κs = let w = c .before .before in let e = w .before in let a = e .before .before .before .before .args in
     rw (w .width-of .ensures, c .before .roots-of .ensures) (encode-accepts (a .code) (a .message .now) _ (sym (e .before .encode-refusal .ensures) ∙ e .if1 .left))
-
-same-length : tie.Need-same-length
-same-length c = search needs
 
 returns-2 : tie.Need-returns-2
 unfolding Encode-says
@@ -37,10 +25,10 @@ pub encode-spec : {M : Type 1} → statement M
 encode-spec =
     tie.close
     (tie.spec
-    encode-refusal-requires
+    (λ c κs. search needs)
     returns
-    width-of-requires
-    roots-of-requires
+    (λ c κs. search needs)
+    (λ c κs. search needs)
     write-codeword-requires
-    same-length
+    (λ c. search needs)
     returns-2)

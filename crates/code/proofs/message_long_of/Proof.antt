@@ -7,15 +7,9 @@ use Rattle.code.specs.Code.{message-long}
 use Rattle.code.proofs.message_long_of.Statement.{statement}
 use Rattle.code.proofs.message_long_of.Tie as tie
 
-long-of-requires : tie.Need-long-of-requires
-long-of-requires c κs = search needs
-
-sub-result : tie.Need-sub-result
-sub-result c = search needs
-
 returns : tie.Need-returns
 unfolding message-long
 returns c = ap (λ (n : ℕ). n - c .before .args .r) (c .long-of .ensures)
 
 pub message-long-of-spec : {M : Type 1} → statement M
-message-long-of-spec = tie.close (tie.spec long-of-requires sub-result returns)
+message-long-of-spec = tie.close (tie.spec (λ c κs. search needs) (λ c. search needs) returns)

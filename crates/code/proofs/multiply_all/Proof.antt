@@ -18,15 +18,6 @@ abbrev μ-loop : tie.MeasureT-loop
 loop-holds : tie.Need-loop-holds Inv-loop μ-loop
 loop-holds c = multiplying-start (c .before .args .m) (c .before .args .r) (c .before .args .out .now) (c .before .pre .symbols)
 
-power-requires : tie.Need-power-requires Inv-loop μ-loop
-power-requires c κs = search needs
-
-sub-t : tie.Need-sub-t Inv-loop μ-loop
-sub-t c = search needs
-
-cast-multiply-at : tie.Need-cast-multiply-at Inv-loop μ-loop
-cast-multiply-at c = search needs
-
 multiply-at-requires : tie.Need-multiply-at-requires Inv-loop μ-loop
 multiply-at-requires c κs = let s = c .before .before .before in let b = s .before .before in
     let e : s .loop .t ≡ s .loop .t - 1 + 1 = omega arith in
@@ -37,16 +28,10 @@ multiply-at-requires c κs = let s = c .before .before .before in let b = s .bef
       symbols = rw e at (s .loop .inv .symbols);
     }
 
-loop-less : tie.Need-loop-less Inv-loop μ-loop
-loop-less c = search needs
-
 loop-again : tie.Need-loop-again Inv-loop μ-loop
 loop-again c = let d = c .before .before in let p = d .before .before in let s = p .before .before in let b = s .before .before in
     multiplying-turn (b .args .m) (b .args .r) (b .args .out .now) (s .loop .out) (d .multiply-at .last .1 .1 .1 .0) (s .loop .t) (s .loop .t - 1) (p .power .result)
     (b .pre .width) (omega arith) (b .pre .room) (s .loop .inv) (p .power .ensures) (d .multiply-at .kept .1 .1 .1 .0) (d .multiply-at .ensures)
-
-same-length : tie.Need-same-length Inv-loop μ-loop
-same-length c = c .before .loop .inv .long
 
 returns : tie.Need-returns Inv-loop μ-loop
 returns c = let s = c .before in let a = s .before .before .args in
@@ -59,11 +44,11 @@ multiply-all-spec =
     Inv-loop
     μ-loop
     loop-holds
-    power-requires
-    sub-t
-    cast-multiply-at
+    (λ c κs. search needs)
+    (λ c. search needs)
+    (λ c. search needs)
     multiply-at-requires
-    loop-less
+    (λ c. search needs)
     loop-again
-    same-length
+    (λ c. c .before .loop .inv .long)
     returns)

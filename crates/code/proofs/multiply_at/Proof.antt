@@ -15,18 +15,6 @@ use Rattle.code.proofs.Parts.{cleared, put-cleared}
 use Rattle.code.proofs.multiply_at.Statement.{statement}
 use Rattle.code.proofs.multiply_at.Tie as tie
 
-slice-write-out : tie.Need-slice-write-out
-slice-write-out c = search needs
-
-sub-multiply-in : tie.Need-sub-multiply-in
-sub-multiply-in c = simp length-set (search needs)
-
-part-multiply-in-start : tie.Need-part-multiply-in-start
-part-multiply-in-start c = simp length-set (search needs)
-
-part-multiply-in-end : tie.Need-part-multiply-in-end
-part-multiply-in-end c = search needs
-
 multiply-in-requires : tie.Need-multiply-in-requires
 unfolding symbols-good
 multiply-in-requires c κs = let b = c .before .before in
@@ -53,10 +41,10 @@ pub multiply-at-spec : {M : Type 1} → statement M
 multiply-at-spec =
     tie.close
     (tie.spec
-    slice-write-out
-    sub-multiply-in
-    part-multiply-in-start
-    part-multiply-in-end
+    (λ c. search needs)
+    (λ c. simp length-set (search needs))
+    (λ c. simp length-set (search needs))
+    (λ c. search needs)
     multiply-in-requires
     same-length
     returns)

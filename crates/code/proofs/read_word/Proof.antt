@@ -12,9 +12,6 @@ use Rattle.code.proofs.Accepted.{outcome-refused, outcome-done, roots-f
 use Rattle.code.proofs.read_word.Statement.{statement}
 use Rattle.code.proofs.read_word.Tie as tie
 
-read-refusal-requires : tie.Need-read-refusal-requires
-read-refusal-requires c κs = search needs
-
 readable : (c : tie.After-roots-of) → let a = c .before .before .before .before .before .args in Member (a .code) (a .word .now) (length (a .output .now)) (message-long (width (a .code)) (roots (a .code)))
 unfolding read-refusal
 readable c =
@@ -32,26 +29,8 @@ returns : tie.Need-returns
 unfolding Read-says
 returns c = outcome-refused _ _ _ _ (c .before .read-refusal .ensures) (c .if1 .taken) refl
 
-roots-of-requires : tie.Need-roots-of-requires
-roots-of-requires c κs = search needs
-
-cast-r : tie.Need-cast-r
-cast-r c = search needs
-
-sub-copy : tie.Need-sub-copy
-sub-copy c = starts c
-
-part-copy-start : tie.Need-part-copy-start
-part-copy-start c = starts c
-
-part-copy-end : tie.Need-part-copy-end
-part-copy-end c = search needs
-
 copy-requires : tie.Need-copy-requires
 copy-requires c κs = let r = c .before .before in tail-long (r .before .before .before .before .before .args .word .now) (r .roots-of .result) ∙ fits r
-
-same-length : tie.Need-same-length
-same-length c = search needs
 
 returns-2 : tie.Need-returns-2
 unfolding Read-says message
@@ -63,13 +42,13 @@ pub read-word-spec : {M : Type 1} → statement M
 read-word-spec =
     tie.close
     (tie.spec
-    read-refusal-requires
+    (λ c κs. search needs)
     returns
-    roots-of-requires
-    cast-r
-    sub-copy
-    part-copy-start
-    part-copy-end
+    (λ c κs. search needs)
+    (λ c. search needs)
+    (λ c. starts c)
+    (λ c. starts c)
+    (λ c. search needs)
     copy-requires
-    same-length
+    (λ c. search needs)
     returns-2)

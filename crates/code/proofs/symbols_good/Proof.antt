@@ -16,24 +16,9 @@ Inv-loop m word top i₀ i = (i ≤ length word) × (symbols-good m word ≡ sym
 abbrev μ-loop : tie.MeasureT-loop
 μ-loop m word top i₀ i = length word - i
 
-size-requires : tie.Need-size-requires Inv-loop μ-loop
-size-requires c κs = search needs
-
-loop-holds : tie.Need-loop-holds Inv-loop μ-loop
-loop-holds c = (search needs, refl)
-
-shared-slice-read-if1 : tie.Need-shared-slice-read-if1 Inv-loop μ-loop
-shared-slice-read-if1 c = search needs
-
 returns : tie.Need-returns Inv-loop μ-loop
 returns c = let s = c .before .before .before in let g = s .before in let a = g .before .before .args in
     sym (s .loop .inv .1 ∙ symbol-bad (a .m) (a .word .now) (s .loop .i) (c .before .before .loop-test .taken) (omega (arith, g .size .ensures)))
-
-add-i : tie.Need-add-i Inv-loop μ-loop
-add-i c = search needs
-
-loop-less : tie.Need-loop-less Inv-loop μ-loop
-loop-less c = search needs
 
 loop-again : tie.Need-loop-again Inv-loop μ-loop
 loop-again c = let s = c .before .before .before in let g = s .before in let a = g .before .before .args in (
@@ -51,11 +36,11 @@ symbols-good-spec =
     (tie.spec
     Inv-loop
     μ-loop
-    size-requires
-    loop-holds
-    shared-slice-read-if1
+    (λ c κs. search needs)
+    (λ c. (search needs, refl))
+    (λ c. search needs)
     returns
-    add-i
-    loop-less
+    (λ c. search needs)
+    (λ c. search needs)
     loop-again
     returns-2)

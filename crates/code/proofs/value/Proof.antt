@@ -17,22 +17,10 @@ abbrev μ-loop : tie.MeasureT-loop
 loop-holds : tie.Need-loop-holds Inv-loop μ-loop
 loop-holds c = let a = c .before .before .before .args in value-start (a .m) (a .t) (a .word .now)
 
-sub-i : tie.Need-sub-i Inv-loop μ-loop
-sub-i c = search needs
-
-shared-slice-read-add : tie.Need-shared-slice-read-add Inv-loop μ-loop
-shared-slice-read-add c = search needs
-
 times-power-requires : tie.Need-times-power-requires Inv-loop μ-loop
 unfolding long
 times-power-requires c κs = let s = c .before .before in let b = s .before .before .before .before in
     (b .pre .0, (value-inside (b .pre .1) (s .loop .inv), b .pre .1 .few))
-
-add-requires : tie.Need-add-requires Inv-loop μ-loop
-add-requires c κs = search needs
-
-loop-less : tie.Need-loop-less Inv-loop μ-loop
-loop-less c = search needs
 
 loop-again : tie.Need-loop-again Inv-loop μ-loop
 loop-again c = let s = c .before .before .before .before in let b = s .before .before .before .before in
@@ -48,10 +36,10 @@ value-spec =
     Inv-loop
     μ-loop
     loop-holds
-    sub-i
-    shared-slice-read-add
+    (λ c. search needs)
+    (λ c. search needs)
     times-power-requires
-    add-requires
-    loop-less
+    (λ c κs. search needs)
+    (λ c. search needs)
     loop-again
     returns)

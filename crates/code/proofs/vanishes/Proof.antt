@@ -31,9 +31,6 @@ returns c = let s = c .before .before .before in let b = s .before .before .befo
 add-t : tie.Need-add-t Inv-loop μ-loop
 add-t c = let b = c .before .before .before .before .before .before .before in omega (arith, long-small (b .args .m) (b .pre .1 .width), b .pre .1)
 
-loop-less : tie.Need-loop-less Inv-loop μ-loop
-loop-less c = search needs
-
 loop-again : tie.Need-loop-again Inv-loop μ-loop
 loop-again c = let s = c .before .before .before in let b = s .before .before .before .before in let a = b .args in (
   search needs,
@@ -55,6 +52,6 @@ vanishes-spec =
     value-requires
     returns
     add-t
-    loop-less
+    (λ c. search needs)
     loop-again
     returns-2)

@@ -5,24 +5,12 @@ use Rattle.code.proofs.Roots.{quotient-fits, quotient-ready, codeword-w
 use Rattle.code.proofs.write_codeword.Statement.{statement}
 use Rattle.code.proofs.write_codeword.Tie as tie
 
-sub-write-quotient : tie.Need-sub-write-quotient
-sub-write-quotient c = search needs
-
-part-write-quotient-start : tie.Need-part-write-quotient-start
-part-write-quotient-start c = search needs
-
-part-write-quotient-end : tie.Need-part-write-quotient-end
-part-write-quotient-end c = search needs
-
 write-quotient-requires : tie.Need-write-quotient-requires
 write-quotient-requires c κs = let b = c .before .before .before in quotient-fits (b .args .m) (b .args .r) (b .args .message .now) (b .args .output .now) (b .pre)
 
 multiply-all-requires : tie.Need-multiply-all-requires
 multiply-all-requires c κs = let b = c .before .before .before .before .before .before .before in let q = c .before .before .before .write-quotient in
     quotient-ready (b .args .m) (b .args .r) (b .args .message .now) (b .args .output .now) (b .pre) (q .last .1 .1 .1 .0) (q .ensures)
-
-same-length : tie.Need-same-length
-same-length c = search needs
 
 returns : tie.Need-returns
 returns c = let b = c .before .before .before .before .before .before .before .before .before .before in let q = c .before .before .before .before .before .before .write-quotient in
@@ -33,10 +21,10 @@ pub write-codeword-spec : {M : Type 1} → statement M
 write-codeword-spec =
     tie.close
     (tie.spec
-    sub-write-quotient
-    part-write-quotient-start
-    part-write-quotient-end
+    (λ c. search needs)
+    (λ c. search needs)
+    (λ c. search needs)
     write-quotient-requires
     multiply-all-requires
-    same-length
+    (λ c. search needs)
     returns)

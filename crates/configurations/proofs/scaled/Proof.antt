@@ -14,8 +14,5 @@ multiply-requires : tie.Need-multiply-requires
 unfolding width-good
 multiply-requires c κs = record { width = refl; first = rw (c .power .ensures) (F.alpha-lt 3 refl (c .before .args .e)); second = c .before .pre }
 
-returns : tie.Need-returns
-returns c = rw (c .multiply .ensures, c .before .power .ensures) refl
-
 pub scaled-spec : {M : Type 1} → statement M
-scaled-spec = tie.close (tie.spec power-requires multiply-requires returns)
+scaled-spec = tie.close (tie.spec power-requires multiply-requires (λ c. rw (c .multiply .ensures, c .before .power .ensures) refl))

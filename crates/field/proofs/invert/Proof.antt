@@ -10,24 +10,6 @@ use Rattle.field.proofs.invert.Tie as tie
 returns : tie.Need-returns
 returns c = let s = c .before in rw (c .if1 .taken) (sym (F.inverse-zero (s .args .m) (s .pre .width)))
 
-size-requires : tie.Need-size-requires
-size-requires c κs = search needs
-
-cast-turn : tie.Need-cast-turn
-cast-turn c = search needs
-
-sub-turn : tie.Need-sub-turn
-sub-turn c = search needs
-
-log-requires : tie.Need-log-requires
-log-requires c κs = search needs
-
-sub-power : tie.Need-sub-power
-sub-power c = search needs
-
-power-requires : tie.Need-power-requires
-power-requires c κs = search needs
-
 returns-2 : tie.Need-returns-2
 returns-2 c = let b = c .before .before .before .before in let s = c .before .before .size .ensures in
     c .power .ensures
@@ -38,10 +20,10 @@ invert-spec =
     tie.close
     (tie.spec
     returns
-    size-requires
-    cast-turn
-    sub-turn
-    log-requires
-    sub-power
-    power-requires
+    (λ c κs. search needs)
+    (λ c. search needs)
+    (λ c. search needs)
+    (λ c κs. search needs)
+    (λ c. search needs)
+    (λ c κs. search needs)
     returns-2)

@@ -17,17 +17,11 @@ four c = not-three (c .before .args .m) (c .before .pre .width) (c .if1 .left)
 inside-4 : (c : tie.Else1) → c .before .args .a < 16
 inside-4 c = rw (four c) at (c .before .pre .inside)
 
-array-read-result : tie.Need-array-read-result
-array-read-result c = inside-3 c
-
 cast-result : tie.Need-cast-result
 cast-result c = omega (arith, exponent-3 (c .before .args .a) (c .before .pre .positive) (inside-3 c) .small)
 
 returns : tie.Need-returns
 returns c = rw (c .if1 .taken) (exponent-3 (c .before .args .a) (c .before .pre .positive) (inside-3 c))
-
-array-read-result-2 : tie.Need-array-read-result-2
-array-read-result-2 c = inside-4 c
 
 cast-result-2 : tie.Need-cast-result-2
 cast-result-2 c = omega (arith, exponent-4 (c .before .args .a) (c .before .pre .positive) (inside-4 c) .small)
@@ -38,4 +32,4 @@ returns-2 c = rw (four c) (exponent-4 (c .before .args .a) (c .before .pre .posi
 pub log-spec : {M : Type 1} → statement M
 log-spec =
     tie.close
-    (tie.spec array-read-result cast-result returns array-read-result-2 cast-result-2 returns-2)
+    (tie.spec (λ c. inside-3 c) cast-result returns (λ c. inside-4 c) cast-result-2 returns-2)

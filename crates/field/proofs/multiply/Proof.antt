@@ -16,18 +16,9 @@ returns-2 : tie.Need-returns-2
 returns-2 c = let s = c .before .before in
     rw (c .if2 .taken) (sym (F.times-zero-r (s .args .m) (s .pre .width) (s .args .a) (s .pre .first)))
 
-log-requires : tie.Need-log-requires
-log-requires c κs = search needs
-
-log-requires-2 : tie.Need-log-requires-2
-log-requires-2 c κs = search needs
-
 add-power : tie.Need-add-power
 add-power c = let s = c .before .before .before .before in
     omega (arith, size (s .args .m) (s .pre .width), c .before .log .ensures .small, c .log2 .ensures .small)
-
-power-requires : tie.Need-power-requires
-power-requires c κs = search needs
 
 returns-3 : tie.Need-returns-3
 returns-3 c = let s = c .before .before .before .before .before in
@@ -36,4 +27,4 @@ returns-3 c = let s = c .before .before .before .before .before in
 pub multiply-spec : {M : Type 1} → statement M
 multiply-spec =
     tie.close
-    (tie.spec returns returns-2 log-requires log-requires-2 add-power power-requires returns-3)
+    (tie.spec returns returns-2 (λ c κs. search needs) (λ c κs. search needs) add-power (λ c κs. search needs) returns-3)

@@ -9,18 +9,12 @@ use Rattle.field.specs.Answers.{one-refusal}
 use Rattle.field.proofs.one_refusal.Statement.{statement}
 use Rattle.field.proofs.one_refusal.Tie as tie
 
-is-width-requires : tie.Need-is-width-requires
-is-width-requires c κs = search needs
-
 returns : tie.Need-returns
 unfolding one-refusal
 returns c = rw (sym (c .before .is-width .ensures) ∙ not-true _ (c .if1 .taken)) refl
 
 good : (c : tie.Else1) → width-good (c .before .before .args .e .m) ≡ true
 good c = sym (c .before .is-width .ensures) ∙ not-false _ (c .if1 .left)
-
-size-requires : tie.Need-size-requires
-size-requires c κs = good c
 
 returns-2 : tie.Need-returns-2
 unfolding one-refusal
@@ -31,4 +25,4 @@ unfolding one-refusal
 returns-3 c = let s = c .before .before in rw (good (s .before), le-ltb _ _ (rw (s .size .ensures) at (c .if2 .left))) refl
 
 pub one-refusal-spec : {M : Type 1} → statement M
-one-refusal-spec = tie.close (tie.spec is-width-requires returns size-requires returns-2 returns-3)
+one-refusal-spec = tie.close (tie.spec (λ c κs. search needs) returns (λ c κs. good c) returns-2 returns-3)

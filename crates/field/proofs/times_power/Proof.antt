@@ -14,24 +14,15 @@ returns c = let s = c .before in
     let w = s .pre .0 .width in
     rw (c .if1 .taken) (sym (F.times-zero-l (s .args .m) w (alpha (s .args .m) (s .args .t)) (F.alpha-lt (s .args .m) w (s .args .t))))
 
-shared-slice-read-e : tie.Need-shared-slice-read-e
-shared-slice-read-e c = search needs
-
 cast-e : tie.Need-cast-e
 cast-e c = omega (arith, c .shared-slice-known .given (c .before .before .args .a))
 
 add-e : tie.Need-add-e
 add-e c = omega (arith, c .shared-slice-known .given (c .before .before .args .a), size (c .before .before .args .m) (c .before .before .pre .0 .width))
 
-shared-slice-read-result : tie.Need-shared-slice-read-result
-shared-slice-read-result c = search needs
-
 returns-2 : tie.Need-returns-2
 returns-2 c = let b = c .before .before .before .before in
     short-of-turn (b .pre .0) (b .args .a) (b .args .t) (search needs) (b .pre .1) (c .before .if2 .taken)
-
-sub-k : tie.Need-sub-k
-sub-k c = search needs
 
 shared-slice-read-result-2 : tie.Need-shared-slice-read-result-2
 shared-slice-read-result-2 c = let b = c .before .before .before .before in
@@ -46,11 +37,11 @@ times-power-spec =
     tie.close
     (tie.spec
     returns
-    shared-slice-read-e
+    (λ c. search needs)
     cast-e
     add-e
-    shared-slice-read-result
+    (λ c. search needs)
     returns-2
-    sub-k
+    (λ c. search needs)
     shared-slice-read-result-2
     returns-3)

@@ -10,9 +10,6 @@ use Rattle.field.specs.Answers.{two-refusal}
 use Rattle.field.proofs.two_refusal.Statement.{statement}
 use Rattle.field.proofs.two_refusal.Tie as tie
 
-is-width-requires : tie.Need-is-width-requires
-is-width-requires c κs = search needs
-
 good : (c : tie.Else1) → width-good (c .before .before .args .a .m) ≡ true
 good c = sym (c .before .is-width .ensures) ∙ not-false _ (c .if1 .left)
 
@@ -26,9 +23,6 @@ returns c = rw (sym (c .before .is-width .ensures) ∙ not-true _ (c .if1 .taken
 returns-2 : tie.Need-returns-2
 unfolding two-refusal
 returns-2 c = rw (good (c .before .before .before), ne-eqb _ _ (c .if2 .taken)) refl
-
-size-requires : tie.Need-size-requires
-size-requires c κs = good (c .before .before .before)
 
 returns-3 : tie.Need-returns-3
 unfolding two-refusal
@@ -47,4 +41,4 @@ returns-5 c = let s = c .before .before in let z = s .before .before in
 pub two-refusal-spec : {M : Type 1} → statement M
 two-refusal-spec =
     tie.close
-    (tie.spec is-width-requires returns returns-2 size-requires returns-3 returns-4 returns-5)
+    (tie.spec (λ c κs. search needs) returns returns-2 (λ c κs. good (c .before .before .before)) returns-3 returns-4 returns-5)

@@ -26,9 +26,6 @@ loop-holds : tie.Need-loop-holds Inv-loop μ-loop
 unfolding leastOf
 loop-holds c = (omega arith, refl)
 
-add-loop : tie.Need-add-loop Inv-loop μ-loop
-add-loop c = omega arith
-
 total-at-requires : tie.Need-total-at-requires Inv-loop μ-loop
 total-at-requires c κs = let st = c .before .before .before .before in
     let a = st .args in
@@ -37,9 +34,6 @@ total-at-requires c κs = let st = c .before .before .before .before in
     let l : t .k < a .n = omega arith in
     (tuple-in (a .size) (a .n) (a .cap) (a .f .now) (a .configs .now) w (t .k) l, within (a .size) (a .n) (a .cap) (a .f .now) (a .configs .now) w (t .k) l)
 
-add-total-at : tie.Need-add-total-at Inv-loop μ-loop
-add-total-at c = omega arith
-
 total-at-requires-2 : tie.Need-total-at-requires-2 Inv-loop μ-loop
 total-at-requires-2 c κs = let st = c .before .before .before .before .before in
     let a = st .args in
@@ -47,18 +41,6 @@ total-at-requires-2 c κs = let st = c .before .before .before .before .before i
     let t = c .before .before .loop in
     let l : t .k + 1 < a .n = omega arith in
     (tuple-in (a .size) (a .n) (a .cap) (a .f .now) (a .configs .now) w (t .k + 1) l, within (a .size) (a .n) (a .cap) (a .f .now) (a .configs .now) w (t .k + 1) l)
-
-less-requires : tie.Need-less-requires Inv-loop μ-loop
-less-requires c κs = tt
-
-less-requires-2 : tie.Need-less-requires-2 Inv-loop μ-loop
-less-requires-2 c κs = tt
-
-add-k : tie.Need-add-k Inv-loop μ-loop
-add-k c = omega arith
-
-loop-less : tie.Need-loop-less Inv-loop μ-loop
-loop-less c = omega arith
 
 loop-again : tie.Need-loop-again Inv-loop μ-loop
 loop-again c = let st = c .before .before .before .before .before .before .before .before in
@@ -75,9 +57,6 @@ total-at-requires-3 c κs = let st = c .before .before .before .before .before i
     let t = c .before .before .loop in
     let l : t .k < a .n = omega arith in
     (tuple-in (a .size) (a .n) (a .cap) (a .f .now) (a .configs .now) w (t .k) l, within (a .size) (a .n) (a .cap) (a .f .now) (a .configs .now) w (t .k) l)
-
-less-requires-3 : tie.Need-less-requires-3 Inv-loop μ-loop
-less-requires-3 c κs = tt
 
 returns : tie.Need-returns Inv-loop μ-loop
 returns c = let a = c .before .before .before .before .before .before .before .args in
@@ -97,16 +76,16 @@ least-of-spec =
     Inv-loop
     μ-loop
     loop-holds
-    add-loop
+    (λ c. omega arith)
     total-at-requires
-    add-total-at
+    (λ c. omega arith)
     total-at-requires-2
-    less-requires
-    less-requires-2
-    add-k
-    loop-less
+    (λ c κs. tt)
+    (λ c κs. tt)
+    (λ c. omega arith)
+    (λ c. omega arith)
     loop-again
     total-at-requires-3
-    less-requires-3
+    (λ c κs. tt)
     returns
     returns-2)

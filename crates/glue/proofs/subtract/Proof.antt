@@ -25,9 +25,6 @@ mul-t c = let st = c .before .before in
     let l : t .i < length (a .g .now) = c .loop-test .taken in
     record { fits = omega (arith, st .good .0, st .good .1 .0, st .pre .0) }
 
-shared-slice-read-t : tie.Need-shared-slice-read-t Inv-loop μ-loop
-shared-slice-read-t c = omega arith
-
 mul-t-2 : tie.Need-mul-t-2 Inv-loop μ-loop
 mul-t-2 c = let st = c .before .before .before in
     let a = st .args in
@@ -70,18 +67,12 @@ add-i c = let st = c .before .before .before .before in
     let l : t .i < length (a .g .now) = c .before .before .loop-test .taken in
     record { fits = omega (arith, st .good .0) }
 
-loop-less : tie.Need-loop-less Inv-loop μ-loop
-loop-less c = omega arith
-
 loop-again : tie.Need-loop-again Inv-loop μ-loop
 loop-again c = let st = c .before .before .before .before in
     let a = st .args in
     let t = c .before .before .before .loop in
     let l : t .i < length (a .g .now) = c .before .before .loop-test .taken in
     (omega arith, taken-more (a .g .now) (a .t .now) (t .i) (t .t) (t .inv .1) (omega (arith, st .pre .0)))
-
-same-length : tie.Need-same-length Inv-loop μ-loop
-same-length c = c .before .loop .inv .1 .long
 
 returns : tie.Need-returns Inv-loop μ-loop
 returns c = let e : c .before .loop .i ≡ length (c .before .before .args .g .now) = omega arith in
@@ -95,14 +86,14 @@ subtract-spec =
     μ-loop
     loop-holds
     mul-t
-    shared-slice-read-t
+    (λ c. omega arith)
     mul-t-2
     slice-read-t
     sub-t
     mul-t-3
     slice-write-t
     add-i
-    loop-less
+    (λ c. omega arith)
     loop-again
-    same-length
+    (λ c. c .before .loop .inv .1 .long)
     returns)

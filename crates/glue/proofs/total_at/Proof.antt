@@ -6,14 +6,8 @@ use Rattle.glue.specs.Walk.{total}
 use Rattle.glue.proofs.total_at.Statement.{statement}
 use Rattle.glue.proofs.total_at.Tie as tie
 
-tuple-at-requires : tie.Need-tuple-at-requires
-tuple-at-requires c κs = search needs
-
-total-of-requires : tie.Need-total-of-requires
-total-of-requires c κs = rw (c .tuple-at .ensures) (c .before .before .before .pre .1)
-
 returns : tie.Need-returns
 returns c = c .total-of .ensures ∙ ap (total (c .before .before .before .before .args .f .now)) (c .before .tuple-at .ensures)
 
 pub total-at-spec : {M : Type 1} → statement M
-total-at-spec = tie.close (tie.spec tuple-at-requires total-of-requires returns)
+total-at-spec = tie.close (tie.spec (λ c κs. search needs) (λ c κs. rw (c .tuple-at .ensures) (c .before .before .before .pre .1)) returns)

@@ -10,36 +10,6 @@ use borrow.Author.Needs.{needs}
 use Rattle.glue.proofs.visit.Statement.{statement}
 use Rattle.glue.proofs.visit.Tie as tie
 
-total-of-requires : tie.Need-total-of-requires
-total-of-requires c κs = search needs
-
-array-read-lower : tie.Need-array-read-lower
-array-read-lower c = search needs
-
-lower-requires : tie.Need-lower-requires
-lower-requires c κs = search needs
-
-array-read-lower-2 : tie.Need-array-read-lower-2
-array-read-lower-2 c = search needs
-
-lower-requires-2 : tie.Need-lower-requires-2
-lower-requires-2 c κs = search needs
-
-array-read-lower-3 : tie.Need-array-read-lower-3
-array-read-lower-3 c = search needs
-
-lower-requires-3 : tie.Need-lower-requires-3
-lower-requires-3 c κs = search needs
-
-array-read-lower-4 : tie.Need-array-read-lower-4
-array-read-lower-4 c = search needs
-
-lower-requires-4 : tie.Need-lower-requires-4
-lower-requires-4 c κs = search needs
-
-same-length : tie.Need-same-length
-same-length c = search needs
-
 returns : tie.Need-returns
 unfolding lowered
 returns c = let st = c .before .before .before .before .before .before .before .before .before .before .before .before .before .before .before .before .before .before .before in
@@ -56,14 +26,14 @@ pub visit-spec : {M : Type 1} → statement M
 visit-spec =
     tie.close
     (tie.spec
-    total-of-requires
-    array-read-lower
-    lower-requires
-    array-read-lower-2
-    lower-requires-2
-    array-read-lower-3
-    lower-requires-3
-    array-read-lower-4
-    lower-requires-4
-    same-length
+    (λ c κs. search needs)
+    (λ c. search needs)
+    (λ c κs. search needs)
+    (λ c. search needs)
+    (λ c κs. search needs)
+    (λ c. search needs)
+    (λ c κs. search needs)
+    (λ c. search needs)
+    (λ c κs. search needs)
+    (λ c. search needs)
     returns)

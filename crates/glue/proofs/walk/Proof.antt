@@ -40,18 +40,6 @@ visit-requires c κs = let st = c .before .before .before .before .before .befor
     let l : t .k < a .n = c .before .before .loop-test .taken in
     (rw (c .before .tuple-at .ensures) (within (a .size) (a .n) (a .cap) (a .f .now) (a .configs .now) w (t .k) l), t .inv .1 .long)
 
-where-less-requires : tie.Need-where-less-requires Inv-loop μ-loop
-where-less-requires c κs = tt
-
-less-requires : tie.Need-less-requires Inv-loop μ-loop
-less-requires c κs = tt
-
-add-k : tie.Need-add-k Inv-loop μ-loop
-add-k c = omega arith
-
-loop-less : tie.Need-loop-less Inv-loop μ-loop
-loop-less c = omega arith
-
 loop-again : tie.Need-loop-again Inv-loop μ-loop
 loop-again c = let st = c .before .before .before .before .before .before .before .before .before .before .before .before in
     let a = st .args in
@@ -91,10 +79,10 @@ walk-spec =
     loop-holds
     tuple-at-requires
     visit-requires
-    where-less-requires
-    less-requires
-    add-k
-    loop-less
+    (λ c κs. tt)
+    (λ c κs. tt)
+    (λ c. omega arith)
+    (λ c. omega arith)
     loop-again
     tuple-at-requires-2
     same-length

@@ -17,28 +17,10 @@ Inv-loop samples i₀ i = (i ≤ length samples) × (has-nan samples ≡ has-nan
 abbrev μ-loop : tie.MeasureT-loop
 μ-loop samples i₀ i = length samples - i
 
-loop-holds : tie.Need-loop-holds Inv-loop μ-loop
-loop-holds c = (omega arith, refl)
-
-mul-is-nan : tie.Need-mul-is-nan Inv-loop μ-loop
-mul-is-nan c = search needs
-
-shared-slice-read-is-nan : tie.Need-shared-slice-read-is-nan Inv-loop μ-loop
-shared-slice-read-is-nan c = search needs
-
-is-nan-requires : tie.Need-is-nan-requires Inv-loop μ-loop
-is-nan-requires c κs = search needs
-
 returns : tie.Need-returns Inv-loop μ-loop
 returns c =
     let l = c .before .before .before .before in
     found (now (l .before .before .args .samples)) (l .loop .i) (c .before .before .before .loop-test .taken) (l .loop .inv .1) (sym (c .before .is-nan .ensures) ∙ c .if1 .taken)
-
-add-i : tie.Need-add-i Inv-loop μ-loop
-add-i c = omega arith
-
-loop-less : tie.Need-loop-less Inv-loop μ-loop
-loop-less c = omega arith
 
 loop-again : tie.Need-loop-again Inv-loop μ-loop
 loop-again c =
@@ -54,12 +36,12 @@ any-nan-spec =
     (tie.spec
     Inv-loop
     μ-loop
-    loop-holds
-    mul-is-nan
-    shared-slice-read-is-nan
-    is-nan-requires
+    (λ c. (omega arith, refl))
+    (λ c. search needs)
+    (λ c. search needs)
+    (λ c κs. search needs)
     returns
-    add-i
-    loop-less
+    (λ c. omega arith)
+    (λ c. omega arith)
     loop-again
     returns-2)

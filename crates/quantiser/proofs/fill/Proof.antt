@@ -23,32 +23,11 @@ Inv-loop samples row₀ i₀ row i = (i ≤ length samples) × (length row ≡ l
 abbrev μ-loop : tie.MeasureT-loop
 μ-loop samples row₀ i₀ row i = length samples - i
 
-loop-holds : tie.Need-loop-holds Inv-loop μ-loop
-loop-holds c = (omega arith, c .before .pre .0, refl)
-
-mul-quantise-one : tie.Need-mul-quantise-one Inv-loop μ-loop
-mul-quantise-one c = search needs
-
-shared-slice-read-quantise-one : tie.Need-shared-slice-read-quantise-one Inv-loop μ-loop
-shared-slice-read-quantise-one c = search needs
-
 quantise-one-requires : tie.Need-quantise-one-requires Inv-loop μ-loop
 quantise-one-requires c κs =
     let l = c .before .before in
     let s = l .before .before in
     none (now (s .args .samples)) (s .pre .1) (l .loop .i) (c .before .loop-test .taken)
-
-mul-t9 : tie.Need-mul-t9 Inv-loop μ-loop
-mul-t9 c = omega arith
-
-slice-set-from-row : tie.Need-slice-set-from-row Inv-loop μ-loop
-slice-set-from-row c = omega arith
-
-add-i : tie.Need-add-i Inv-loop μ-loop
-add-i c = omega arith
-
-loop-less : tie.Need-loop-less Inv-loop μ-loop
-loop-less c = omega arith
 
 loop-again : tie.Need-loop-again Inv-loop μ-loop
 loop-again c =
@@ -67,9 +46,6 @@ loop-again c =
           ∙ stored (map quantised xs) (now (s .args .row)) i (quantised nan) (rw length-map h) (s .pre .0 ∙ sym (length-map xs quantised)),
     )
 
-same-length : tie.Need-same-length Inv-loop μ-loop
-same-length c = omega arith
-
 returns : tie.Need-returns Inv-loop μ-loop
 returns c =
     let s = c .before .before .before in
@@ -83,14 +59,14 @@ fill-spec =
     (tie.spec
     Inv-loop
     μ-loop
-    loop-holds
-    mul-quantise-one
-    shared-slice-read-quantise-one
+    (λ c. (omega arith, c .before .pre .0, refl))
+    (λ c. search needs)
+    (λ c. search needs)
     quantise-one-requires
-    mul-t9
-    slice-set-from-row
-    add-i
-    loop-less
+    (λ c. omega arith)
+    (λ c. omega arith)
+    (λ c. omega arith)
+    (λ c. omega arith)
     loop-again
-    same-length
+    (λ c. omega arith)
     returns)

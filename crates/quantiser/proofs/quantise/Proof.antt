@@ -8,17 +8,11 @@ use Rattle.quantiser.proofs.Outcomes.{accepted, worked, kept}
 use Rattle.quantiser.proofs.quantise.Statement.{statement}
 use Rattle.quantiser.proofs.quantise.Tie as tie
 
-quantise-refusal-requires : tie.Need-quantise-refusal-requires
-quantise-refusal-requires c κs = search needs
-
 fill-requires : tie.Need-fill-requires
 fill-requires c κs =
     let l = c .before .before in
     let s = l .before .before in
     accepted (s .args .code) (now (s .args .samples)) (length (now (s .args .row))) (sym (l .quantise-refusal .ensures) ∙ c .before .if1 .taken)
-
-same-length : tie.Need-same-length
-same-length c = search needs
 
 returns : tie.Need-returns
 returns c =
@@ -33,4 +27,4 @@ returns-2 c =
     kept (s .args .code) (now (s .args .samples)) (l .quantise-refusal .result) (now (s .args .row)) (now (s .args .row)) (l .quantise-refusal .ensures) (c .if1 .left) refl
 
 pub quantise-spec : {M : Type 1} → statement M
-quantise-spec = tie.close (tie.spec quantise-refusal-requires fill-requires same-length returns returns-2)
+quantise-spec = tie.close (tie.spec (λ c κs. search needs) fill-requires (λ c. search needs) returns returns-2)

@@ -6,9 +6,6 @@ use Rattle.quantiser.specs.Calls.{quantise-refusal}
 use Rattle.quantiser.proofs.quantise_refusal.Statement.{statement}
 use Rattle.quantiser.proofs.quantise_refusal.Tie as tie
 
-row-long-of-requires : tie.Need-row-long-of-requires
-row-long-of-requires c κs = rw (c .width-of .ensures) (width-fine _)
-
 returns : tie.Need-returns
 unfolding quantise-refusal
 returns c = rw
@@ -19,7 +16,7 @@ quantise-refusal-spec =
     tie.close
     (tie.spec
     (λ c κs. search needs)
-    row-long-of-requires
+    (λ c κs. rw (c .width-of .ensures) (width-fine _))
     (λ c κs. search needs)
     (λ c κs. search needs)
     (λ c κs. search needs)

@@ -46,19 +46,10 @@ signed-as c s e =
     by-sign (c .before .args .y) (held (c .before)) (c .before .pre) (c .size-of .result) (c .size-of .ensures)
     ∙ ap (λ (t : Bool). signed t (c .size-of .result)) e
 
-float-to-bits-b : tie.Need-float-to-bits-b
-float-to-bits-b c = subst (λ (b : Bool). T (not b)) (sym (c .pre)) tt
-
 size-of-requires : tie.Need-size-of-requires
 size-of-requires c κs =
     let b = toBits binary32 (c .args .y) in
     (omega arith, sym (same-nan b) ∙ nanBits-is binary32 b ∙ ap isNan (ofBits-toBits binary32 (c .args .y) (held c)) ∙ c .pre)
-
-cast-n : tie.Need-cast-n
-cast-n c = record { sfits = below c }
-
-sub-result : tie.Need-sub-result
-sub-result c = difference-fits (c .before .size-of .result) (below (c .before))
 
 returns : tie.Need-returns
 returns c = toZ-pos w16 (below (c .before)) ∙ sym (signed-as (c .before) false (lt-leb _ _ (c .if1 .taken)))
@@ -69,4 +60,4 @@ returns-2 c =
     toZ-ofZ (difference-fits _ h) ∙ negated _ h ∙ sym (signed-as (c .before) true (le-leb _ _ (c .if1 .left)))
 
 pub round-clipped-spec : {M : Type 1} → statement M
-round-clipped-spec = tie.close (tie.spec float-to-bits-b size-of-requires cast-n sub-result returns returns-2)
+round-clipped-spec = tie.close (tie.spec (λ c. subst (λ (b : Bool). T (not b)) (sym (c .pre)) tt) size-of-requires (λ c. record { sfits = below c }) (λ c. difference-fits (c .before .size-of .result) (below (c .before))) returns returns-2)

@@ -13,9 +13,6 @@ use Rattle.quantiser.proofs.Sizes.{units, of-plain, small, large, middl
 use Rattle.quantiser.proofs.size_of.Statement.{statement}
 use Rattle.quantiser.proofs.size_of.Tie as tie
 
-add-q : tie.Need-add-q
-add-q c = search needs
-
 returns : tie.Need-returns
 returns c =
     let s = c .before in
@@ -25,9 +22,6 @@ returns-2 : tie.Need-returns-2
 returns-2 c =
     let s = c .before .before in
     ap pos (large (s .args .b / 8388608) (s .args .b % 8388608) (c .if2 .taken)) ∙ sym (of-plain (s .args .b) (s .pre .0) (s .pre .1))
-
-shl-halves-up : tie.Need-shl-halves-up
-shl-halves-up c = search needs
 
 -- q << (e - 126) drops nothing: q has 24 bits, and e - 126 is at most 7
 bits : (b : ℕ) → 8388608 + b % 8388608 < 2 ^ 24
@@ -42,9 +36,6 @@ room b h = lt-of-lt-of-le (shl-lt 24 (b / 8388608 - 126) (bits b)) (pow-mono {i 
 halves-up-requires : tie.Need-halves-up-requires
 halves-up-requires c κs = let b = c .before .before .args .b in subst (λ (n : ℕ). n < 2147483648) (sym (kept b (c .if2 .left))) (room b (c .if2 .left))
 
-clip-requires : tie.Need-clip-requires
-clip-requires c κs = search needs
-
 returns-3 : tie.Need-returns-3
 returns-3 c =
     let l = c .before .before in
@@ -55,4 +46,4 @@ returns-3 c =
     ap pos (c .clip .ensures ∙ ap (λ (n : ℕ). min n bound) e) ∙ sym (of-plain b (s .pre .0) (s .pre .1))
 
 pub size-of-spec : {M : Type 1} → statement M
-size-of-spec = tie.close (tie.spec add-q returns returns-2 shl-halves-up halves-up-requires clip-requires returns-3)
+size-of-spec = tie.close (tie.spec (λ c. search needs) returns returns-2 (λ c. search needs) halves-up-requires (λ c κs. search needs) returns-3)

@@ -6,9 +6,6 @@ use borrow.Author.Needs.{needs}
 use Rattle.text.proofs.bit_of.Statement.{statement}
 use Rattle.text.proofs.bit_of.Tie as tie
 
-add-result : tie.Need-add-result
-add-result c = search needs
-
 returns : tie.Need-returns
 returns c = let s = c .before in let e = toZ-ofZ (s .fits .s) in bit-below (s .args .s) (rw e at (c .if1 .taken))
 
@@ -16,4 +13,4 @@ returns-2 : tie.Need-returns-2
 returns-2 c = let s = c .before in let e = toZ-ofZ (s .fits .s) in bit-above (s .args .s) (rw e at (c .if1 .left))
 
 pub bit-of-spec : {M : Type 1} → statement M
-bit-of-spec = tie.close (tie.spec add-result returns returns-2)
+bit-of-spec = tie.close (tie.spec (λ c. search needs) returns returns-2)

@@ -19,42 +19,9 @@ Inv-loop soft least₀ i₀ least i = (i ≤ length soft) × (least-from least (
 abbrev μ-loop : tie.MeasureT-loop
 μ-loop soft least₀ i₀ least i = length soft - i
 
-returns : tie.Need-returns Inv-loop μ-loop
-returns c = least-none (now (c .before .args .soft)) (c .if1 .taken)
-
-shared-slice-copy-out-wide : tie.Need-shared-slice-copy-out-wide Inv-loop μ-loop
-shared-slice-copy-out-wide c = search needs
-
-wide-requires : tie.Need-wide-requires Inv-loop μ-loop
-wide-requires c κs = search needs
-
-magnitude-requires : tie.Need-magnitude-requires Inv-loop μ-loop
-magnitude-requires c κs = search needs
-
 loop-holds : tie.Need-loop-holds Inv-loop μ-loop
 loop-holds c = let s = c .before .before in let so = now (s .before .before .args .soft) in
     (omega arith, least-first so _ (omega arith) (sized (getD so 0 (pos 0)) _ _ (record { sfits = s .wide-arg .given }) (c .before .wide .ensures) (c .magnitude .ensures)))
-
-mul-wide : tie.Need-mul-wide Inv-loop μ-loop
-mul-wide c = search needs
-
-shared-slice-copy-out-wide-2 : tie.Need-shared-slice-copy-out-wide-2 Inv-loop μ-loop
-shared-slice-copy-out-wide-2 c = search needs
-
-wide-requires-2 : tie.Need-wide-requires-2 Inv-loop μ-loop
-wide-requires-2 c κs = search needs
-
-magnitude-requires-2 : tie.Need-magnitude-requires-2 Inv-loop μ-loop
-magnitude-requires-2 c κs = search needs
-
-smaller-requires : tie.Need-smaller-requires Inv-loop μ-loop
-smaller-requires c κs = search needs
-
-add-i : tie.Need-add-i Inv-loop μ-loop
-add-i c = search needs
-
-loop-less : tie.Need-loop-less Inv-loop μ-loop
-loop-less c = search needs
 
 loop-again : tie.Need-loop-again Inv-loop μ-loop
 loop-again c = let s = c .before .before .before .before .before in let so = now (s .before .before .before .before .before .args .soft) in
@@ -71,17 +38,17 @@ least-of-spec =
     (tie.spec
     Inv-loop
     μ-loop
-    returns
-    shared-slice-copy-out-wide
-    wide-requires
-    magnitude-requires
+    (λ c. least-none (now (c .before .args .soft)) (c .if1 .taken))
+    (λ c. search needs)
+    (λ c κs. search needs)
+    (λ c κs. search needs)
     loop-holds
-    mul-wide
-    shared-slice-copy-out-wide-2
-    wide-requires-2
-    magnitude-requires-2
-    smaller-requires
-    add-i
-    loop-less
+    (λ c. search needs)
+    (λ c. search needs)
+    (λ c κs. search needs)
+    (λ c κs. search needs)
+    (λ c κs. search needs)
+    (λ c. search needs)
+    (λ c. search needs)
     loop-again
     returns-2)

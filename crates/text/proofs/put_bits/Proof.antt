@@ -25,26 +25,8 @@ abbrev μ-loop : tie.MeasureT-loop
 loop-holds : tie.Need-loop-holds Inv-loop μ-loop
 loop-holds c = let s = c .before in (omega arith, s .pre, start (s .args .at) (bits-field (now (s .args .soft))) (now (s .args .out)) (omega arith))
 
-mul-bit-of : tie.Need-mul-bit-of Inv-loop μ-loop
-mul-bit-of c = omega arith
-
-shared-slice-copy-out-bit-of : tie.Need-shared-slice-copy-out-bit-of Inv-loop μ-loop
-shared-slice-copy-out-bit-of c = omega arith
-
-bit-of-requires : tie.Need-bit-of-requires Inv-loop μ-loop
-bit-of-requires c κs = omega arith
-
-add-out : tie.Need-add-out Inv-loop μ-loop
-add-out c = omega arith
-
 slice-write-out : tie.Need-slice-write-out Inv-loop μ-loop
 slice-write-out c = omega (arith, written-length (c .before .before .before .loop .inv .2))
-
-add-i : tie.Need-add-i Inv-loop μ-loop
-add-i c = omega arith
-
-loop-less : tie.Need-loop-less Inv-loop μ-loop
-loop-less c = omega arith
 
 loop-again : tie.Need-loop-again Inv-loop μ-loop
 loop-again c = let s = c .before .before .before in let so = now (s .before .before .args .soft) in let i = s .loop .i in let o = now (s .before .before .args .out) in
@@ -52,12 +34,6 @@ loop-again c = let s = c .before .before .before in let so = now (s .before .bef
     c .bit-of .ensures ∙ ap bit-digit (toZ-ofZ (record { sfits = c .before .bit-of-arg .given })) ∙ sym (bits-at so i (c .before .before .loop-test .taken)) in
     let l = bits-length so in
     (omega arith, s .loop .inv .1, more (s .before .before .args .at) i _ (bits-field so) o (s .loop .out) (omega arith) (omega arith) b (s .loop .inv .2))
-
-add-result : tie.Need-add-result Inv-loop μ-loop
-add-result c = omega arith
-
-same-length : tie.Need-same-length Inv-loop μ-loop
-same-length c = written-length (c .before .loop .inv .2)
 
 returns : tie.Need-returns Inv-loop μ-loop
 returns c = let s = c .before in let so = now (s .before .before .args .soft) in let l = bits-length so in
@@ -70,14 +46,14 @@ put-bits-spec =
     Inv-loop
     μ-loop
     loop-holds
-    mul-bit-of
-    shared-slice-copy-out-bit-of
-    bit-of-requires
-    add-out
+    (λ c. omega arith)
+    (λ c. omega arith)
+    (λ c κs. omega arith)
+    (λ c. omega arith)
     slice-write-out
-    add-i
-    loop-less
+    (λ c. omega arith)
+    (λ c. omega arith)
     loop-again
-    add-result
-    same-length
+    (λ c. omega arith)
+    (λ c. written-length (c .before .loop .inv .2))
     returns)

@@ -12,16 +12,10 @@ unfolding count-line line question-word space feed
 put-decimal-requires c κs = let s = c .before .before in
     fits-first (decimal (s .args .count)) (space ∷ line ((question-word ++ (115 ∷ [])) ∷ [])) _ _ (s .pre)
 
-slice-aggregate-put-bytes : tie.Need-slice-aggregate-put-bytes
-slice-aggregate-put-bytes c = search needs
-
 put-bytes-requires : tie.Need-put-bytes-requires
 unfolding count-line line question-word space feed
 put-bytes-requires c κs = let s = c .before .before .before .before .before .before .before in
     fits-next (decimal (s .args .count)) (space ∷ line ((question-word ++ (115 ∷ [])) ∷ [])) (c .before .before .before .before .put-decimal .ensures) (s .pre)
-
-same-length : tie.Need-same-length
-same-length c = search needs
 
 returns : tie.Need-returns
 unfolding count-line line question-word space feed
@@ -33,7 +27,7 @@ put-count-spec =
     tie.close
     (tie.spec
     put-decimal-requires
-    slice-aggregate-put-bytes
+    (λ c. search needs)
     put-bytes-requires
-    same-length
+    (λ c. search needs)
     returns)

@@ -5,22 +5,10 @@ use borrow.Author.Needs.{needs}
 use Rattle.text.proofs.put_digit.Statement.{statement}
 use Rattle.text.proofs.put_digit.Tie as tie
 
-cast-put-byte : tie.Need-cast-put-byte
-cast-put-byte c = search needs
-
-add-put-byte : tie.Need-add-put-byte
-add-put-byte c = search needs
-
-put-byte-requires : tie.Need-put-byte-requires
-put-byte-requires c κs = search needs
-
-same-length : tie.Need-same-length
-same-length c = search needs
-
 returns : tie.Need-returns
 unfolding digit
 returns c = c .before .before .put-byte .ensures
 
 pub put-digit-spec : {M : Type 1} → statement M
 put-digit-spec =
-    tie.close (tie.spec cast-put-byte add-put-byte put-byte-requires same-length returns)
+    tie.close (tie.spec (λ c. search needs) (λ c. search needs) (λ c κs. search needs) (λ c. search needs) returns)

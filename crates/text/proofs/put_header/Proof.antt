@@ -5,16 +5,10 @@ use borrow.Author.Needs.{needs}
 use Rattle.text.proofs.put_header.Statement.{statement}
 use Rattle.text.proofs.put_header.Tie as tie
 
-slice-aggregate-put-bytes : tie.Need-slice-aggregate-put-bytes
-slice-aggregate-put-bytes c = search needs
-
 put-bytes-requires : tie.Need-put-bytes-requires
 unfolding header line question-word code-word best-word verdict-word short-word bits-word least-word space feed
 put-bytes-requires c κs = let s = c .before .before .before in
     s .pre
-
-same-length : tie.Need-same-length
-same-length c = search needs
 
 returns : tie.Need-returns
 unfolding header line question-word code-word best-word verdict-word short-word bits-word least-word space feed
@@ -23,4 +17,4 @@ returns c = let s = c .before .before .before .before .before .before in
 
 pub put-header-spec : {M : Type 1} → statement M
 put-header-spec =
-    tie.close (tie.spec slice-aggregate-put-bytes put-bytes-requires same-length returns)
+    tie.close (tie.spec (λ c. search needs) put-bytes-requires (λ c. search needs) returns)

@@ -33,9 +33,6 @@ put-byte-requires-2 c κs = let s = c .before .before .before .before .before .b
     let e-shortfall = toZ-ofZ (s .fits .shortfall) in
     fits-next (shortfall-field (s .args .verdict) (s .args .shortfall)) (space ∷ []) (rw e-shortfall at (c .before .before .before .put-shortfall .ensures)) (fits-next (space ∷ []) ((shortfall-field (s .args .verdict) (s .args .shortfall)) ++ (space ∷ [])) (c .before .before .before .before .before .before .before .put-byte .ensures) (fits-next (verdict-field (s .args .verdict)) ((space ∷ []) ++ ((shortfall-field (s .args .verdict) (s .args .shortfall)) ++ (space ∷ []))) (c .before .before .before .before .before .before .before .before .before .before .before .put-verdict .ensures) (s .pre)))
 
-same-length : tie.Need-same-length
-same-length c = search needs
-
 returns : tie.Need-returns
 unfolding mark-part space
 returns c = let s = c .before .before .before .before .before .before .before .before .before .before .before .before .before .before .before .before .before in
@@ -50,5 +47,5 @@ put-mark-spec =
     put-byte-requires
     put-shortfall-requires
     put-byte-requires-2
-    same-length
+    (λ c. search needs)
     returns)

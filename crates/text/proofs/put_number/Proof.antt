@@ -18,13 +18,10 @@ unfolding ended
 put-byte-requires c κs = let s = c .before .before .before .before .before .before in
     fits-next (decimal (s .args .n)) (s .args .end ∷ []) (c .before .before .before .put-decimal .ensures) (s .pre)
 
-same-length : tie.Need-same-length
-same-length c = search needs
-
 returns : tie.Need-returns
 unfolding ended
 returns c = let s = c .before .before .before .before .before .before .before .before .before in
     then (c .before .before .before .before .before .before .put-decimal .ensures) (c .before .before .put-byte .ensures)
 
 pub put-number-spec : {M : Type 1} → statement M
-put-number-spec = tie.close (tie.spec put-decimal-requires put-byte-requires same-length returns)
+put-number-spec = tie.close (tie.spec put-decimal-requires put-byte-requires (λ c. search needs) returns)

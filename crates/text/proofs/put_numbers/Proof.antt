@@ -33,9 +33,6 @@ put-byte-requires c κs = let s = c .before .before .before .before .before .bef
     let e-best = toZ-ofZ (s .fits .best) in
     fits-next (signed (s .args .best)) (space ∷ []) (rw e-best at (c .before .before .before .put-signed .ensures)) (fits-next (ended (decimal (s .args .code)) space) ((signed (s .args .best)) ++ (space ∷ [])) (c .before .before .before .before .before .before .before .put-number2 .ensures) (fits-next (ended (decimal (s .args .number)) space) ((ended (decimal (s .args .code)) space) ++ ((signed (s .args .best)) ++ (space ∷ []))) (c .before .before .before .before .before .before .before .before .before .before .before .put-number .ensures) (s .pre)))
 
-same-length : tie.Need-same-length
-same-length c = search needs
-
 returns : tie.Need-returns
 unfolding numbers-part ended space
 returns c = let s = c .before .before .before .before .before .before .before .before .before .before .before .before .before .before .before .before .before in
@@ -50,5 +47,5 @@ put-numbers-spec =
     put-number-requires-2
     put-signed-requires
     put-byte-requires
-    same-length
+    (λ c. search needs)
     returns)

@@ -30,9 +30,6 @@ put-soft-requires c κs = let s = c .before .before .before .before .before .bef
     let e-shortfall = toZ-ofZ (s .fits .shortfall) in
     fits-next (mark-part (s .args .verdict) (s .args .shortfall)) (soft-part (now (s .args .soft))) (rw e-shortfall at (c .before .before .before .put-mark .ensures)) (fits-next (numbers-part (s .args .number) (s .args .code) (s .args .best)) ((mark-part (s .args .verdict) (s .args .shortfall)) ++ (soft-part (now (s .args .soft)))) (rw e-best at (c .before .before .before .before .before .before .before .put-numbers .ensures)) (same-room (s .args .at) (length (now (s .args .out))) (question-parts (s .args .number) (s .args .code) (s .args .best) (s .args .verdict) (s .args .shortfall) (now (s .args .soft))) (s .pre)))
 
-same-length : tie.Need-same-length
-same-length c = search needs
-
 returns : tie.Need-returns
 returns c = let s = c .before .before .before .before .before .before .before .before .before .before .before .before .before in
     let e-best = toZ-ofZ (s .fits .best) in
@@ -42,4 +39,4 @@ returns c = let s = c .before .before .before .before .before .before .before .b
 pub put-question-spec : {M : Type 1} → statement M
 put-question-spec =
     tie.close
-    (tie.spec put-numbers-requires put-mark-requires put-soft-requires same-length returns)
+    (tie.spec put-numbers-requires put-mark-requires put-soft-requires (λ c. search needs) returns)

@@ -8,9 +8,6 @@ use borrow.Author.Needs.{needs}
 use Rattle.text.proofs.put_refused.Statement.{statement}
 use Rattle.text.proofs.put_refused.Tie as tie
 
-slice-aggregate-put-bytes : tie.Need-slice-aggregate-put-bytes
-slice-aggregate-put-bytes c = search needs
-
 put-bytes-requires : tie.Need-put-bytes-requires
 unfolding refused-line line refused-word space feed ended
 put-bytes-requires c κs = let s = c .before .before .before in
@@ -21,9 +18,6 @@ unfolding refused-line line refused-word space feed ended
 put-number-requires c κs = let s = c .before .before .before .before .before .before .before in
     fits-next (refused-word ++ (space ∷ [])) (ended (decimal (s .args .refusal)) feed) (c .before .before .before .put-bytes .ensures) (s .pre)
 
-same-length : tie.Need-same-length
-same-length c = search needs
-
 returns : tie.Need-returns
 unfolding refused-line line refused-word space feed ended
 returns c = let s = c .before .before .before .before .before .before .before .before .before .before in
@@ -32,4 +26,4 @@ returns c = let s = c .before .before .before .before .before .before .before .b
 pub put-refused-spec : {M : Type 1} → statement M
 put-refused-spec =
     tie.close
-    (tie.spec slice-aggregate-put-bytes put-bytes-requires put-number-requires same-length returns)
+    (tie.spec (λ c. search needs) put-bytes-requires put-number-requires (λ c. search needs) returns)

@@ -14,9 +14,6 @@ put-byte-requires : tie.Need-put-byte-requires
 put-byte-requires c κs = let s = c .before .before .before in
     omega (arith, same-room (s .args .at) (length (now (s .args .out))) (shortfall-none (s .args .verdict) (s .args .shortfall) (c .before .if1 .taken)) (s .pre))
 
-same-length : tie.Need-same-length
-same-length c = search needs
-
 returns : tie.Need-returns
 unfolding dash
 returns c = let s = c .before .before .before .before .before .before in
@@ -27,9 +24,6 @@ put-signed-requires c κs = let s = c .before .before .before in
     let e = toZ-ofZ (s .fits .shortfall) in
     rw e (same-room (s .args .at) (length (now (s .args .out))) (shortfall-some (s .args .verdict) (s .args .shortfall) (c .before .if1 .left)) (s .pre))
 
-same-length-2 : tie.Need-same-length-2
-same-length-2 c = search needs
-
 returns-2 : tie.Need-returns-2
 returns-2 c = let s = c .before .before .before .before .before .before in
     let e = toZ-ofZ (s .fits .shortfall) in
@@ -38,4 +32,4 @@ returns-2 c = let s = c .before .before .before .before .before .before in
 pub put-shortfall-spec : {M : Type 1} → statement M
 put-shortfall-spec =
     tie.close
-    (tie.spec put-byte-requires same-length returns put-signed-requires same-length-2 returns-2)
+    (tie.spec put-byte-requires (λ c. search needs) returns put-signed-requires (λ c. search needs) returns-2)

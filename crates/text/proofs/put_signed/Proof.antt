@@ -15,30 +15,18 @@ put-byte-requires : tie.Need-put-byte-requires
 put-byte-requires c κs = let s = c .before .before .before in let e = toZ-ofZ (s .fits .z) in
     omega (arith, below-room (s .args .z) (natAbs (s .args .z)) (s .args .at) (length (now (s .args .out))) (rw e at (c .before .if1 .taken)) refl (s .pre))
 
-magnitude-requires : tie.Need-magnitude-requires
-magnitude-requires c κs = search needs
-
 put-decimal-requires : tie.Need-put-decimal-requires
 put-decimal-requires c κs = let s = c .before .before .before .before .before .before .before .before in let e = toZ-ofZ (s .fits .z) in
     let b = c .before .before .before .before .put-byte in
     omega (arith, below-room (s .args .z) (c .before .magnitude .result) (s .args .at) (length (now (s .args .out))) (rw e at (c .before .before .before .before .before .before .if1 .taken)) (rw e at (c .before .magnitude .ensures)) (s .pre), b .ensures .next-is, b .kept .1 .0)
 
-same-length : tie.Need-same-length
-same-length c = search needs
-
 returns : tie.Need-returns
 returns c = let s = c .before .before .before .before .before .before .before .before .before .before .before in let e = toZ-ofZ (s .fits .z) in
     below-written (s .args .z) (c .before .before .before .before .magnitude .result) (rw e at (c .before .before .before .before .before .before .before .before .before .if1 .taken)) (rw e at (c .before .before .before .before .magnitude .ensures)) (c .before .before .before .before .before .before .before .put-byte .ensures) (c .before .before .put-decimal .ensures)
 
-magnitude-requires-2 : tie.Need-magnitude-requires-2
-magnitude-requires-2 c κs = search needs
-
 put-decimal-requires-2 : tie.Need-put-decimal-requires-2
 put-decimal-requires-2 c κs = let s = c .before .before .before .before in let e = toZ-ofZ (s .fits .z) in
     same-room (s .args .at) (length (now (s .args .out))) (above-is (s .args .z) _ (rw e at (c .before .before .if1 .left)) (rw e at (c .before .magnitude2 .ensures))) (s .pre)
-
-same-length-2 : tie.Need-same-length-2
-same-length-2 c = search needs
 
 returns-2 : tie.Need-returns-2
 returns-2 c = let s = c .before .before .before .before .before .before .before in let e = toZ-ofZ (s .fits .z) in
@@ -49,11 +37,11 @@ put-signed-spec =
     tie.close
     (tie.spec
     put-byte-requires
-    magnitude-requires
+    (λ c κs. search needs)
     put-decimal-requires
-    same-length
+    (λ c. search needs)
     returns
-    magnitude-requires-2
+    (λ c κs. search needs)
     put-decimal-requires-2
-    same-length-2
+    (λ c. search needs)
     returns-2)

@@ -23,16 +23,10 @@ unfolding soft-part ended space feed
 put-byte-requires c κs = let s = c .before .before .before .before .before .before in let so = now (s .args .soft) in
     fits-first (space ∷ []) (ended (decimal (least-magnitude so)) feed) _ _ (fits-next (bits-field so) (space ∷ ended (decimal (least-magnitude so)) feed) (c .before .before .before .put-bits .ensures) (s .pre))
 
-least-of-requires : tie.Need-least-of-requires
-least-of-requires c κs = search needs
-
 put-number-requires : tie.Need-put-number-requires
 unfolding soft-part ended space feed
 put-number-requires c κs = let s = c .before .before .before .before .before .before .before .before .before .before .before in let so = now (s .args .soft) in
     rw (c .before .least-of .ensures) (fits-next (space ∷ []) (ended (decimal (least-magnitude so)) feed) (c .before .before .before .before .put-byte .ensures) (fits-next (bits-field so) (space ∷ ended (decimal (least-magnitude so)) feed) (c .before .before .before .before .before .before .before .before .put-bits .ensures) (s .pre)))
-
-same-length : tie.Need-same-length
-same-length c = search needs
 
 returns : tie.Need-returns
 unfolding soft-part ended space feed
@@ -45,7 +39,7 @@ put-soft-spec =
     (tie.spec
     put-bits-requires
     put-byte-requires
-    least-of-requires
+    (λ c κs. search needs)
     put-number-requires
-    same-length
+    (λ c. search needs)
     returns)

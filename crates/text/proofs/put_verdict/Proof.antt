@@ -8,48 +8,30 @@ use borrow.Author.Needs.{needs}
 use Rattle.text.proofs.put_verdict.Statement.{statement}
 use Rattle.text.proofs.put_verdict.Tie as tie
 
-slice-aggregate-put-bytes : tie.Need-slice-aggregate-put-bytes
-slice-aggregate-put-bytes c = search needs
-
 put-bytes-requires : tie.Need-put-bytes-requires
 unfolding none-word
 put-bytes-requires c κs = let s = c .before .before .before .before in
     same-room (s .args .at) (length (now (s .args .out))) (verdict-none (s .args .verdict) (c .before .before .if1 .taken)) (s .pre)
-
-same-length : tie.Need-same-length
-same-length c = search needs
 
 returns : tie.Need-returns
 unfolding none-word
 returns c = let s = c .before .before .before .before .before .before .before in
     same-text (verdict-none (s .args .verdict) (c .before .before .before .before .before .if1 .taken)) (c .before .before .put-bytes .ensures)
 
-slice-aggregate-put-bytes-2 : tie.Need-slice-aggregate-put-bytes-2
-slice-aggregate-put-bytes-2 c = search needs
-
 put-bytes-requires-2 : tie.Need-put-bytes-requires-2
 unfolding short-word
 put-bytes-requires-2 c κs = let s = c .before .before .before .before .before in
     same-room (s .args .at) (length (now (s .args .out))) (verdict-short (s .args .verdict) (c .before .before .if2 .taken)) (s .pre)
-
-same-length-2 : tie.Need-same-length-2
-same-length-2 c = search needs
 
 returns-2 : tie.Need-returns-2
 unfolding short-word
 returns-2 c = let s = c .before .before .before .before .before .before .before .before in
     same-text (verdict-short (s .args .verdict) (c .before .before .before .before .before .if2 .taken)) (c .before .before .put-bytes2 .ensures)
 
-slice-aggregate-put-bytes-3 : tie.Need-slice-aggregate-put-bytes-3
-slice-aggregate-put-bytes-3 c = search needs
-
 put-bytes-requires-3 : tie.Need-put-bytes-requires-3
 unfolding best-word
 put-bytes-requires-3 c κs = let s = c .before .before .before .before .before in
     same-room (s .args .at) (length (now (s .args .out))) (verdict-best (s .args .verdict) (c .before .before .before .if1 .left) (c .before .before .if2 .left)) (s .pre)
-
-same-length-3 : tie.Need-same-length-3
-same-length-3 c = search needs
 
 returns-3 : tie.Need-returns-3
 unfolding best-word
@@ -60,15 +42,15 @@ pub put-verdict-spec : {M : Type 1} → statement M
 put-verdict-spec =
     tie.close
     (tie.spec
-    slice-aggregate-put-bytes
+    (λ c. search needs)
     put-bytes-requires
-    same-length
+    (λ c. search needs)
     returns
-    slice-aggregate-put-bytes-2
+    (λ c. search needs)
     put-bytes-requires-2
-    same-length-2
+    (λ c. search needs)
     returns-2
-    slice-aggregate-put-bytes-3
+    (λ c. search needs)
     put-bytes-requires-3
-    same-length-3
+    (λ c. search needs)
     returns-3)

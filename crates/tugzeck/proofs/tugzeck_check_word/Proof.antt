@@ -6,14 +6,8 @@ use Rattle.code.specs.Calls.{number-of}
 use Rattle.tugzeck.proofs.tugzeck_check_word.Statement.{statement}
 use Rattle.tugzeck.proofs.tugzeck_check_word.Tie as tie
 
-check-word-requires : tie.Need-check-word-requires
-check-word-requires c κs = search needs
-
-number-of-requires : tie.Need-number-of-requires
-number-of-requires c κs = search needs
-
 returns : tie.Need-returns
 returns c = c .number-of .ensures ∙ ap number-of (c .before .check-word .ensures)
 
 pub tugzeck-check-word-spec : {M : Type 1} → statement M
-tugzeck-check-word-spec = tie.close (tie.spec check-word-requires number-of-requires returns)
+tugzeck-check-word-spec = tie.close (tie.spec (λ c κs. search needs) (λ c κs. search needs) returns)

@@ -6,9 +6,6 @@ use Rattle.tugzeck.proofs.Judging.{refused, accepted}
 use Rattle.tugzeck.proofs.tugzeck_judge_sheet.Statement.{statement}
 use Rattle.tugzeck.proofs.tugzeck_judge_sheet.Tie as tie
 
-judge-sheet-requires : tie.Need-judge-sheet-requires
-judge-sheet-requires c κs = search needs
-
 returns : tie.Need-returns
 returns c = refused (now (c .before .before .before .args .sheet)) (c .before .judge-sheet .result) (c .before .judge-sheet .ensures) (c .if1 .taken)
 
@@ -16,4 +13,4 @@ returns-2 : tie.Need-returns-2
 returns-2 c = accepted (now (c .before .before .before .args .sheet)) (c .before .judge-sheet .result) (c .before .judge-sheet .ensures) (c .if1 .left)
 
 pub tugzeck-judge-sheet-spec : {M : Type 1} → statement M
-tugzeck-judge-sheet-spec = tie.close (tie.spec judge-sheet-requires returns returns-2)
+tugzeck-judge-sheet-spec = tie.close (tie.spec (λ c κs. search needs) returns returns-2)

@@ -4,8 +4,5 @@ use borrow.Author.Needs.{needs}
 use Rattle.tugzeck.proofs.unfound.Statement.{statement}
 use Rattle.tugzeck.proofs.unfound.Tie as tie
 
-returns : tie.Need-returns
-returns c = search needs
-
 pub unfound-spec : {M : Type 1} → statement M
-unfound-spec = tie.close (tie.spec returns)
+unfound-spec = tie.close (tie.spec (λ c. search needs))

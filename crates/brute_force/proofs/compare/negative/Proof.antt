@@ -8,14 +8,5 @@ use Rattle.brute_force.proofs.Signed.{negated-fits}
 use Rattle.brute_force.proofs.compare.negative.Statement.{statement}
 use Rattle.brute_force.proofs.compare.negative.Tie as tie
 
-cast-n : tie.Need-cast-n
-cast-n c = search needs
-
-sub-result : tie.Need-sub-result
-sub-result c = negated-fits w32 (c .args .x % 65536) (omega arith)
-
-returns : tie.Need-returns
-returns c = search needs
-
 pub negative-spec : {M : Type 1} → statement M
-negative-spec = tie.close (tie.spec cast-n sub-result returns)
+negative-spec = tie.close (tie.spec (λ c. search needs) (λ c. negated-fits w32 (c .args .x % 65536) (omega arith)) (λ c. search needs))

@@ -6,11 +6,5 @@ use Rattle.brute_force.proofs.Signed.{wider}
 use Rattle.brute_force.proofs.compare.wide.Statement.{statement}
 use Rattle.brute_force.proofs.compare.wide.Tie as tie
 
-cast-result : tie.Need-cast-result
-cast-result c = rw (toZ-ofZ (c .fits .x)) (wider (c .args .x) (c .fits .x))
-
-returns : tie.Need-returns
-returns c = search needs
-
 pub wide-spec : {M : Type 1} → statement M
-wide-spec = tie.close (tie.spec cast-result returns)
+wide-spec = tie.close (tie.spec (λ c. rw (toZ-ofZ (c .fits .x)) (wider (c .args .x) (c .fits .x))) (λ c. search needs))

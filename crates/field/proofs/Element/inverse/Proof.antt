@@ -7,9 +7,6 @@ use Rattle.field.proofs.Refusals.{refused, found, one-good}
 use Rattle.field.proofs.Element.inverse.Statement.{statement}
 use Rattle.field.proofs.Element.inverse.Tie as tie
 
-one-refusal-requires : tie.Need-one-refusal-requires
-one-refusal-requires c κs = search needs
-
 returns : tie.Need-returns
 unfolding inverse-of
 returns c = let s = c .before in refused _ _ _ _ (s .one-refusal .ensures) (c .if1 .taken)
@@ -22,4 +19,4 @@ unfolding inverse-of
 returns-2 c = let s = c .before .before in found _ _ _ _ _ (s .one-refusal .ensures) (c .before .if1 .left) (c .invert .ensures)
 
 pub inverse-spec : {M : Type 1} → statement M
-inverse-spec = tie.close (tie.spec one-refusal-requires returns invert-requires returns-2)
+inverse-spec = tie.close (tie.spec (λ c κs. search needs) returns invert-requires returns-2)

@@ -7,9 +7,6 @@ use Rattle.field.proofs.Refusals.{refused, found}
 use Rattle.field.proofs.Element.new.Statement.{statement}
 use Rattle.field.proofs.Element.new.Tie as tie
 
-one-refusal-requires : tie.Need-one-refusal-requires
-one-refusal-requires c κs = search needs
-
 returns : tie.Need-returns
 unfolding made
 returns c = let s = c .before in refused _ _ _ _ (s .one-refusal .ensures) (c .if1 .taken)
@@ -19,4 +16,4 @@ unfolding made
 returns-2 c = let s = c .before in found _ _ _ _ _ (s .one-refusal .ensures) (c .if1 .left) refl
 
 pub new-spec : {M : Type 1} → statement M
-new-spec = tie.close (tie.spec one-refusal-requires returns returns-2)
+new-spec = tie.close (tie.spec (λ c κs. search needs) returns returns-2)

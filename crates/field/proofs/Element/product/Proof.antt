@@ -7,9 +7,6 @@ use Rattle.field.proofs.Refusals.{refused, found, two-good}
 use Rattle.field.proofs.Element.product.Statement.{statement}
 use Rattle.field.proofs.Element.product.Tie as tie
 
-two-refusal-requires : tie.Need-two-refusal-requires
-two-refusal-requires c κs = search needs
-
 returns : tie.Need-returns
 unfolding product-of
 returns c = let s = c .before in refused _ _ _ _ (s .two-refusal .ensures) (c .if1 .taken)
@@ -22,4 +19,4 @@ unfolding product-of
 returns-2 c = let s = c .before .before in found _ _ _ _ _ (s .two-refusal .ensures) (c .before .if1 .left) (c .multiply .ensures)
 
 pub product-spec : {M : Type 1} → statement M
-product-spec = tie.close (tie.spec two-refusal-requires returns multiply-requires returns-2)
+product-spec = tie.close (tie.spec (λ c κs. search needs) returns multiply-requires returns-2)
