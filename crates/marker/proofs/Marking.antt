@@ -5,21 +5,26 @@ use mathlib.Core.Bool.{true, false}
 use mathlib.Core.List.{List}
 use Prim.Native.Nat.{ℕ, zero, suc, _-_, _*_, _^_, _≤_, _<_}
 use native.Mathlib.Omega.{arith}
+use lib.Dec.{lit≤}
 use lib.ListN.{length}
-use lib.IntN.{ℤ, pos}
+use lib.IntN.{ℤ, pos, natAbs, _-ℤ_}
+use mir.Syntax.{w32}
+use mir.Val.{SFits}
 use Rattle.metric.proofs.Integers as I
 use Rattle.code.specs.Code.{code-good, width, roots, is-codeword}
 use Rattle.code.specs.Bits.{row-long}
 use Rattle.code.specs.Within.{Word-within}
 use Rattle.code.specs.Promise.{Codes-inside}
-use Rattle.code.proofs.Promise.{codes-inside}
+use Rattle.code.proofs.Promise.{codes, codes-inside}
 use Rattle.code.proofs.Words.{Codeword-parts, codeword-parts}
 use Rattle.refusal.proofs.Outcomes.{outcome-done, outcome-refused}
-use Rattle.metric.specs.Metric.{Marked}
+use Rattle.metric.specs.Metric.{metric, Greatest, Marked}
 use Rattle.metric.specs.Cost.{cost, Least}
-use Rattle.metric.proofs.Marks.{marked-none, marked-short, marked-best}
+use Rattle.metric.proofs.Marks.{marked-none, marked-short, marked-best, marked-none-lacking, marked-lacking}
 use Rattle.metric.proofs.Costs.{codeword-bits}
-use Rattle.metric.proofs.Bounds.{weight-le, cost-le}
+use Rattle.metric.proofs.Bounds.{weight-le, cost-le, word-size}
+use Rattle.metric.specs.Within.{Word-with}
+use Rattle.metric.proofs.Counting.{small-fits}
 use Rattle.glue.specs.Walk.{least-total}
 use Rattle.search.proofs.Sums.{own-cost}
 use Rattle.marker.specs.declared.Mark.{Mark}
@@ -112,3 +117,36 @@ best-verdict (suc x) e = absurd (omega arith)
 pub short-verdict : (x : ℕ) → (x ≡ 0 → ⊥) → (y : ℤ) → y ≡ pos (2 * x) → Verdict x (record { number = 0; verdict = 1; shortfall = y })
 short-verdict zero n y e = absurd (n refl)
 short-verdict (suc x) n y e = (refl, refl, e)
+
+-- ---- the verdict where the greatest metric is known
+module _ (c : ℕ) (rs : List ℤ) (ws : List ℕ) (z : mark-refusal c rs ws ≡ 0) where
+  abbrev t : Mark-taken c rs ws
+  t = mark-accepted c rs ws z
+
+  few-entries : length rs ≤ 60
+  few-entries = omega (arith, t .long-row, row-le c (t .code-is))
+
+  pub word-with : Word-with (width c) rs (length ws)
+  unfolding width row-long
+  word-with = record {
+    width = codes (λ c. width c ≤ 4) (lit≤ tt) (lit≤ tt) (lit≤ tt) c (t .code-is);
+    count = t .long-row ∙ ap (λ (n : ℕ). n * width c) (sym (t .long-word));
+    few = few-entries;
+    good = t .good-row;
+  }
+
+  module _ (g : ℤ) (s : Greatest (width c) (is-codeword (width c) (roots c)) rs g) where
+    pub lacks-fits : SFits w32 (g -ℤ metric (width c) rs ws)
+    lacks-fits =
+        let h : natAbs g ≤ 7620 = rw (s .met .2) at (word-size (width c) rs (s .met .0) few-entries (t .good-row)) in
+        small-fits (g -ℤ metric (width c) rs ws) (omega (arith, I.minus-size g (metric (width c) rs ws), word-size (width c) rs ws few-entries (t .good-row)))
+
+    module _ (cw : is-codeword (width c) (roots c) ws ≡ true) where
+      pub known-best : g -ℤ metric (width c) rs ws ≡ pos 0 → Mark-says c rs ws (record { number = 0; verdict = 2; shortfall = pos 0 })
+      unfolding Mark-says
+      known-best e = outcome-done (mark-refusal c rs ws) 0 _ _ z refl (marked-none-lacking (width c) (is-codeword (width c) (roots c)) rs ws g cw s e)
+
+      pub known-short : (d : ℤ) → d ≡ g -ℤ metric (width c) rs ws → (d ≡ pos 0 → ⊥) → Mark-says c rs ws (record { number = 0; verdict = 1; shortfall = d })
+      unfolding Mark-says
+      known-short d e n =
+          rw e (outcome-done (mark-refusal c rs ws) 0 _ _ z refl (marked-lacking (width c) (is-codeword (width c) (roots c)) rs ws g cw s (λ f. n (e ∙ f))))

@@ -1,9 +1,10 @@
 // The marker. `judge_word` is offered to callers: it takes any input and promises what specs/Calls.antt says, in the words of the crate metric; how
-// the search goes is no part of the promise.
+// the search goes is no part of the promise. `verdict_on_word` is for the crates above, which know the best metric.
 ghost use mathlib.Core.Path.{_≡_};
 ghost use mathlib.Core.Bool.{true};
 ghost use Prim.Native.Nat.{_^_, _<_};
 ghost use Rattle.code.specs.Code.{code-good, width, roots, is-codeword};
+ghost use Rattle.metric.specs.Metric.{Greatest};
 ghost use Rattle.search.specs.Within.{Headed, Input, Buffers};
 ghost use Rattle.marker.specs.Calls.{mark-refusal, Mark-says};
 ghost use Rattle.marker.specs.Verdict.{Verdict};
@@ -16,6 +17,13 @@ pub struct Mark {
     pub verdict: u32,
     pub shortfall: i32,
 }
+
+// The verdicts.
+const NONE: u32 = 0;
+
+const SHORT: u32 = 1;
+
+const BEST: u32 = 2;
 
 // What a call is refused by, 0 for nothing.
 fn mark_refusal(code: u32, row: &[i16], word: &[u8]) -> u32
@@ -162,13 +170,13 @@ fn verdict_on(x: u32) -> Mark
     if x == 0 {
         return Mark {
             number: 0,
-            verdict: 2,
+            verdict: BEST,
             shortfall: 0,
         };
     }
     Mark {
         number: 0,
-        verdict: 1,
+        verdict: SHORT,
         shortfall: (2 * x) as i32,
     }
 }
@@ -188,9 +196,38 @@ pub fn judge_word(code: u32, row: &[i16], word: &[u8]) -> Mark
     if !code::is_codeword(code::width_of(code), code::roots_of(code), word) {
         return Mark {
             number: 0,
-            verdict: 0,
+            verdict: NONE,
             shortfall: 0,
         };
     }
     verdict_on(excess(code, row, word))
+}
+
+// The verdict on a word where the best metric of the row is known, with no search.
+pub fn verdict_on_word(code: u32, row: &[i16], word: &[u8], best: i32) -> Mark
+    requires { ⌜ mark-refusal code (now row) (now word) ≡ 0 ⌝ }
+    requires { ⌜ Greatest (width code) (is-codeword (width code) (roots code)) (now row) best ⌝ }
+    ensures { λ r. ⌜ Mark-says code (now (row .entry)) (now (word .entry)) r ⌝ }
+{
+    let m = code::width_of(code);
+    if !code::is_codeword(m, code::roots_of(code), word) {
+        return Mark {
+            number: 0,
+            verdict: NONE,
+            shortfall: 0,
+        };
+    }
+    let shortfall = best - metric::word_metric(m, row, word);
+    if shortfall == 0 {
+        return Mark {
+            number: 0,
+            verdict: BEST,
+            shortfall: 0,
+        };
+    }
+    Mark {
+        number: 0,
+        verdict: SHORT,
+        shortfall,
+    }
 }

@@ -1,17 +1,20 @@
--- What a row of reliabilities can weigh, and a word cost.
+-- What a row of reliabilities can weigh, and a word cost; the size of a metric.
 -- Assumes nothing.
 use mathlib.Core.Path.{_≡_, refl}
-use mathlib.Core.Bool.{true}
+use mathlib.Core.Bool.{true, cond}
 use mathlib.Core.List.{List, [], _∷_}
 use Prim.Native.Nat.{ℕ, zero, suc, _+_, _*_, _≤_}
 use native.Mathlib.Omega.{arith}
 use borrow.Author.Tests.{leb-true}
+use lib.Dec.{eqb, eqb·suc-zero}
 use lib.ListN.{length, getD}
-use lib.IntN.{ℤ, pos, negsuc}
+use lib.IntN.{ℤ, pos, negsuc, natAbs, _+ℤ_, _-ℤ_}
 use Rattle.field.proofs.Tests.{and-l, and-r, to-T, from-T}
 use Rattle.code.specs.Bits.{all-bits}
 use Rattle.metric.specs.Row.{bound, reliability-good, row-good}
+use Rattle.metric.specs.Metric.{metric-of, metric}
 use Rattle.metric.specs.Cost.{costZero, costOne, choose, discrepancy, weight-of, cost}
+use Rattle.metric.proofs.Integers.{size, plus-size, minus-size}
 
 module _ (r : ℤ) (rs : List ℤ) (g : row-good (r ∷ rs) ≡ true) where
   pub row-first : reliability-good r ≡ true
@@ -58,3 +61,21 @@ discrepancy-le (r ∷ rs) (b ∷ bs) = omega (arith, chosen b (costZero r) (cost
 pub cost-le : (m : ℕ) (rs : List ℤ) (ws : List ℕ) → cost m rs ws ≤ weight-of rs
 unfolding cost
 cost-le m rs ws = discrepancy-le rs (all-bits m ws)
+
+-- a metric is at most 127 an entry
+pub metric-size : (rs : List ℤ) (bs : List ℕ) → row-good rs ≡ true → natAbs (metric-of rs bs) ≤ length rs * 127
+unfolding metric-of
+metric-size [] bs f = omega arith
+metric-size (r ∷ rs) [] f = omega arith
+metric-size (r ∷ rs) (b ∷ bs) f = go b (metric-size rs bs (row-rest r rs f))
+  where
+    x : ℤ
+    x = metric-of rs bs
+
+    go : (b : ℕ) → natAbs x ≤ length rs * 127 → natAbs (cond (eqb b 0) (x +ℤ r) (x -ℤ r)) ≤ suc (length rs) * 127
+    go zero h = omega (arith, plus-size x r, size r, costs-le r (row-first r rs f))
+    go (suc b) h = rw (eqb·suc-zero b) (omega (arith, minus-size x r, size r, costs-le r (row-first r rs f)))
+
+pub word-size : (m : ℕ) (rs : List ℤ) (ws : List ℕ) → length rs ≤ 60 → row-good rs ≡ true → natAbs (metric m rs ws) ≤ 7620
+unfolding metric
+word-size m rs ws n f = omega (arith, metric-size rs (all-bits m ws) f)

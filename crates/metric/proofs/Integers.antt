@@ -6,7 +6,7 @@ use Prim.Native.Nat.{ℕ, zero, suc, _+_, _-_, _≤_, _<_}
 use native.Mathlib.Omega.{arith}
 use borrow.Author.Tests.{ltb-true, ltb-false}
 use lib.Dec.{ltb}
-use lib.IntN.{ℤ, pos, negsuc, subℕ, _+ℤ_, _-ℤ_}
+use lib.IntN.{ℤ, pos, negsuc, natAbs, subℕ, _+ℤ_, _-ℤ_}
 use Rattle.metric.specs.Metric.{is-neg, at-most}
 use Rattle.metric.specs.Cost.{costZero, costOne}
 
@@ -34,6 +34,21 @@ same (pos a) (pos b) e = ap pos (omega arith)
 same (pos a) (negsuc b) e = absurd (omega arith)
 same (negsuc a) (pos b) e = absurd (omega arith)
 same (negsuc a) (negsuc b) e = ap negsuc (omega arith)
+
+-- the size
+pub size : (z : ℤ) → costZero z + costOne z ≡ natAbs z
+size (pos n) = omega arith
+size (negsuc n) = omega arith
+
+pub size-le : (z : ℤ) (k : ℕ) → costOne z ≤ costZero z + k → costZero z ≤ costOne z + k → natAbs z ≤ k
+size-le (pos n) k p q = omega arith
+size-le (negsuc n) k p q = omega arith
+
+pub plus-size : (x y : ℤ) → natAbs (x +ℤ y) ≤ natAbs x + natAbs y
+plus-size x y = size-le (x +ℤ y) (natAbs x + natAbs y) (omega (arith, plus x y, size x, size y)) (omega (arith, plus x y, size x, size y))
+
+pub minus-size : (x y : ℤ) → natAbs (x -ℤ y) ≤ natAbs x + natAbs y
+minus-size x y = size-le (x -ℤ y) (natAbs x + natAbs y) (omega (arith, minus x y, size x, size y)) (omega (arith, minus x y, size x, size y))
 
 -- the sign
 not-negative : (z : ℤ) → costZero z ≤ costOne z → not (is-neg z) ≡ true

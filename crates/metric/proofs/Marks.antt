@@ -1,4 +1,4 @@
--- The three verdicts from costs: the shortfall is twice what the word costs above the least.
+-- The three verdicts from costs: the shortfall is twice what the word costs above the least; and from the greatest metric.
 -- Assumes nothing.
 use mathlib.Core.Path.{_≡_, refl, ap, _∙_}
 use mathlib.Core.Bool.{Bool, true, false}
@@ -6,11 +6,11 @@ use mathlib.Core.List.{List}
 use Prim.Native.Nat.{ℕ, _*_, _-_, _<_}
 use native.Mathlib.Omega.{arith}
 use lib.ListN.{length}
-use lib.IntN.{ℤ, pos}
+use lib.IntN.{ℤ, pos, _-ℤ_}
 use Rattle.code.specs.Bits.{all-bits}
-use Rattle.metric.specs.Metric.{Marked}
-use Rattle.metric.specs.Cost.{cost, top, Least}
-use Rattle.metric.proofs.Integers.{minus, same, gt-at-most}
+use Rattle.metric.specs.Metric.{metric, at-most, Greatest, Marked}
+use Rattle.metric.specs.Cost.{costZero, costOne, cost, top, Least}
+use Rattle.metric.proofs.Integers.{minus, same, gt-at-most, at-most-antisym}
 use Rattle.metric.proofs.Costs.{top-parts, top-own, greatest}
 
 pub marked-none : (m : ℕ) (among : List ℕ → Bool) (rs : List ℤ) (ws : List ℕ) → among ws ≡ false → Marked 0 (pos 0) m among rs ws
@@ -37,3 +37,17 @@ module _ (m : ℕ) (among : List ℕ → Bool) (rs : List ℤ) (full : (ws : Lis
   pub marked-best : cost m rs ws ≡ d → Marked 2 (pos 0) m among rs ws
   unfolding Marked
   marked-best e = (c, rw (top-own m rs ws (full ws c) ∙ ap (top rs) e) (greatest m among rs full d s), refl)
+
+-- the verdicts on a word from the greatest metric itself
+module _ (m : ℕ) (among : List ℕ → Bool) (rs : List ℤ) (ws : List ℕ) (g : ℤ) (c : among ws ≡ true) (s : Greatest m among rs g) where
+  pub marked-none-lacking : g -ℤ metric m rs ws ≡ pos 0 → Marked 2 (pos 0) m among rs ws
+  unfolding Marked
+  marked-none-lacking e = (c, rw (same g (metric m rs ws) (omega (arith, minus g (metric m rs ws), ap costOne e, ap costZero e))) at s, refl)
+
+  pub marked-lacking : (g -ℤ metric m rs ws ≡ pos 0 → ⊥) → Marked 1 (g -ℤ metric m rs ws) m among rs ws
+  unfolding Marked
+  marked-lacking n = (c, (g, s, go (at-most g (metric m rs ws)) refl, refl))
+    where
+      go : (b : Bool) → at-most g (metric m rs ws) ≡ b → b ≡ false
+      go true e = absurd (n (rw (at-most-antisym g (metric m rs ws) e (s .all ws c)) (same _ _ (omega (arith, minus (metric m rs ws) (metric m rs ws))))))
+      go false e = refl

@@ -7,23 +7,22 @@ use mathlib.Core.List.{List, [], _∷_, _++_}
 use Prim.Native.Nat.{ℕ, zero, suc, _+_, _*_, _-_, _/_, _≤_, _<_}
 use native.Mathlib.Nat.{eq-or-lt-of-le}
 use native.Mathlib.Omega.{arith}
-use lib.Dec.{eqb, lit<, eqb·suc-zero}
+use lib.Dec.{lit<}
 use lib.ListN.{length, getD}
 use lib.Seq.{ext-getD}
-use lib.IntN.{ℤ, pos, negsuc, _+ℤ_, _-ℤ_}
+use lib.IntN.{ℤ, pos, negsuc, natAbs, _-ℤ_}
 use Rattle.field.proofs.Tests.{widths}
 use Rattle.code.specs.Code.{long, is-codeword}
 use Rattle.code.specs.Bits.{bits-of, all-bits, bit-at, row-long}
 use Rattle.code.specs.Promise.{Both-there}
 use Rattle.code.proofs.Words.{good, codeword-parts}
 use Rattle.code.proofs.Both.{both-there}
-use Rattle.metric.specs.Row.{row-good}
-use Rattle.metric.specs.Metric.{metric-of, metric, at-most, Greatest, Soft, Marked}
+use Rattle.metric.specs.Metric.{metric, at-most, Greatest, Soft, Decoded, Marked}
 use Rattle.metric.specs.Cost.{costZero, costOne, cost, top, Least}
 use Rattle.metric.specs.Right.{Soft-right, Marked-right}
 use Rattle.metric.specs.Promise.{Words-for, Codewords-for, Greatest-there, Greatest-with-there, Decoded-there, Marked-there, Greatest-one, Greatest-with-one, Soft-width, Best-of-two, Decoded-one, Marked-one, Soft-enough, Decoded-enough, Marked-enough}
-use Rattle.metric.proofs.Integers.{plus, minus, same, le-at-most, at-most-true, at-most-false, at-most-refl, at-most-antisym}
-use Rattle.metric.proofs.Bounds.{row-first, row-rest, costs-le}
+use Rattle.metric.proofs.Integers.{same, size, minus-size, le-at-most, at-most-true, at-most-false, at-most-refl, at-most-antisym}
+use Rattle.metric.proofs.Bounds.{word-size}
 use Rattle.metric.proofs.Costs.{length-all-bits, greatest, greatest-with}
 use Rattle.metric.proofs.Marks.{marked-none, marked-short, marked-best}
 use Rattle.metric.proofs.Finite.{least-there, least-with-there}
@@ -72,35 +71,13 @@ greatest-with-one m among rs b v g h p q =
     at-most-antisym g h (rw (p .met .3) at (q .all (p .met .0) (p .met .1) (p .met .2))) (rw (q .met .3) at (p .all (q .met .0) (q .met .1) (q .met .2)))
 
 -- THE WIDTH: a metric is at most 127 an entry, and there are at most 60
-record Within (n : ℕ) (z : ℤ) : Type 0 where
-  above : costOne z ≤ costZero z + n
-  below : costZero z ≤ costOne z + n
-
-metric-within : (rs : List ℤ) (bs : List ℕ) → row-good rs ≡ true → Within (length rs * 127) (metric-of rs bs)
-unfolding metric-of
-metric-within [] bs f = record { above = omega arith; below = omega arith }
-metric-within (r ∷ rs) [] f = record { above = omega arith; below = omega arith }
-metric-within (r ∷ rs) (b ∷ bs) f = go b (costs-le r (row-first r rs f)) (metric-within rs bs (row-rest r rs f))
-  where
-    x : ℤ
-    x = metric-of rs bs
-
-    go : (b : ℕ) → costZero r + costOne r ≤ 127 → Within (length rs * 127) x → Within (suc (length rs) * 127) (cond (eqb b 0) (x +ℤ r) (x -ℤ r))
-    go zero s w = record { above = omega (arith, plus x r); below = omega (arith, plus x r) }
-    go (suc b) s w = rw (eqb·suc-zero b) (record { above = omega (arith, minus x r); below = omega (arith, minus x r) })
-
-word-within : (m : ℕ) (rs : List ℤ) (ws : List ℕ) → length rs ≤ 60 → row-good rs ≡ true → Within 7620 (metric m rs ws)
-unfolding metric
-word-within m rs ws n f =
-    let x : Within (length rs * 127) (metric-of rs (all-bits m ws)) = metric-within rs (all-bits m ws) f in
-    record { above = omega arith; below = omega arith }
-
 pub soft-width : Soft-width
 unfolding Soft-width
 soft-width m among rs b g h n f p q =
-    let x : Within 7620 g = rw (p .met .3) at (word-within m rs (p .met .0) n f) in
-    let y : Within 7620 h = rw (q .met .3) at (word-within m rs (q .met .0) n f) in
-    (le-at-most (g -ℤ h) (pos 15240) (omega (arith, minus g h)), le-at-most (negsuc 15239) (g -ℤ h) (omega (arith, minus g h)))
+    let x : natAbs g ≤ 7620 = rw (p .met .3) at (word-size m rs (p .met .0) n f) in
+    let y : natAbs h ≤ 7620 = rw (q .met .3) at (word-size m rs (q .met .0) n f) in
+    let z : costZero (g -ℤ h) + costOne (g -ℤ h) ≤ 15240 = omega (arith, size (g -ℤ h), minus-size g h) in
+    (le-at-most (g -ℤ h) (pos 15240) (omega arith), le-at-most (negsuc 15239) (g -ℤ h) (omega arith))
 
 -- THE BEST OF TWO: the best word has a 0 or a 1 at the bit
 front : (k c : ℕ) (bs : List ℕ) (i : ℕ) → ((i : ℕ) → getD bs i 0 < 2) → getD (bits-of k c ++ bs) i 0 < 2
@@ -246,3 +223,7 @@ decoded-one m among rs vs ws e g so to p q =
     each s b h =
         let t : Soft m among rs b (getD to b (pos 0)) = q .softly b h in
         s .1 b (t .of-zero) (t .of-one) h (t .greatest-zero) (t .greatest-one) ∙ sym (t .difference)
+
+-- the metric of a decoding is the greatest
+pub decoded-greatest : (m : ℕ) (among : List ℕ → Bool) (rs : List ℤ) (ws : List ℕ) (g : ℤ) (so : List ℤ) → Decoded m among rs ws g so → Greatest m among rs g
+decoded-greatest m among rs ws g so d = record { met = (ws, d .word, sym (d .own)); all = d .most }

@@ -3,3 +3,4 @@ pub mod Metric
 pub mod Cost
 pub mod Right
 pub mod Promise
+pub mod Within

@@ -2,8 +2,16 @@
 // and of a row. The search for a best word is left to the crates above. Its functions are for them, and promise `reliability-good` and
 // `row-good` of specs/Row.antt.
 ghost use mathlib.Core.Path.{_≡_};
-ghost use mathlib.Core.Bool.{_&&_};
+ghost use mathlib.Core.Bool.{true, _&&_, cond};
+ghost use mathlib.Core.List.{List, _++_};
+ghost use Prim.Native.Nat.{ℕ, _≤_};
+ghost use lib.Dec.{eqb};
+ghost use lib.ListN.{length, drop};
+ghost use lib.IntN.{natAbs, _+ℤ_, _-ℤ_};
+ghost use Rattle.code.specs.Bits.{bits-of};
 ghost use Rattle.metric.specs.Row.{reliability-good, row-good};
+ghost use Rattle.metric.specs.Metric.{metric-of, metric};
+ghost use Rattle.metric.specs.Within.{Symbol-more, Word-with};
 
 // The greatest size of a reliability.
 pub const BOUND: i16 = 127;
@@ -36,4 +44,46 @@ pub fn is_row(row: &[i16]) -> bool
         i += 1;
     }
     good
+}
+
+// The metric with one bit more: a 0 counts its reliability, a 1 counts it against.
+fn counted(sum: i32, bit: u8, r: i16) -> i32
+    requires { ⌜ (natAbs sum ≤ 10000) × (reliability-good r ≡ true) ⌝ }
+    ensures { λ x. ⌜ x ≡ cond (eqb bit 0) (sum +ℤ r) (sum -ℤ r) ⌝ }
+{
+    if bit == 0 {
+        return sum + (r as i32);
+    }
+    sum - (r as i32)
+}
+
+// The metric with one symbol more, whose bits' reliabilities come first in the row.
+fn with_symbol(m: u32, row: &[i16], c: u8, sum: i32) -> i32
+    requires { ⌜ Symbol-more m (now row) sum ⌝ }
+    ensures { λ x. ⌜ ((bs : List ℕ) → sum ≡ metric-of (drop m (now (row .entry))) bs → x ≡ metric-of (now (row .entry)) (bits-of m c ++ bs)) ⌝ }
+{
+    let mut s = sum;
+    let mut j = m;
+    while 0 < j {
+        j -= 1;
+        let r = row[j as usize];
+        s = counted(s, (c >> j) % 2, r);
+    }
+    s
+}
+
+// The metric of a word whose bits are as many as the entries of an accepted row.
+pub fn word_metric(m: u32, row: &[i16], word: &[u8]) -> i32
+    requires { ⌜ Word-with m (now row) (length (now word)) ⌝ }
+    ensures { λ x. ⌜ x ≡ metric m (now (row .entry)) (now (word .entry)) ⌝ }
+{
+    let mut sum = 0;
+    let mut at = row.len();
+    let mut i = word.len();
+    while 0 < i {
+        i -= 1;
+        at -= m as usize;
+        sum = with_symbol(m, &row[at..], word[i], sum);
+    }
+    sum
 }

@@ -11,7 +11,8 @@ use lib.IntN.{ℤ}
 use Rattle.code.specs.Code.{width, roots, long, is-codeword}
 use Rattle.code.specs.Bits.{row-long}
 use Rattle.refusal.specs.Refusal.{Outcome}
-use Rattle.metric.specs.Metric.{Marked}
+use Rattle.metric.specs.Metric.{Greatest, Marked}
+use Rattle.metric.proofs.Promise.{decoded-greatest}
 use Rattle.decoder.specs.declared.Decoding.{Decoding}
 use Rattle.marker.specs.declared.Mark.{Mark}
 use Rattle.decoder.specs.Calls.{decode-refusal, Decode-says}
@@ -49,20 +50,29 @@ pub record Said (c n : ℕ) (rs : List ℤ) (ws : List ℕ) (best : ℤ) (so : L
   pub answer : Answered c rs best so
   pub marked : Marked verdict shortfall (width c) (is-codeword (width c) (roots c)) rs ws
 
--- the marker takes its word
-pub said :
-    (c n : ℕ) (rs : List ℤ) (ws : List ℕ) (k : Mark) (g : ℤ) (so : List ℤ) → question-good (question c n rs ws) ≡ true → Answered c rs g so →
-    Mark-says c rs ws k → Said c n rs ws g so (k .verdict) (k .shortfall)
-unfolding question Mark-says mark-refusal
-said c n rs ws k best so q x y =
+-- the marker takes its word, and the decoder has found the best metric
+pub taken : (c n : ℕ) (rs : List ℤ) (ws : List ℕ) → question-good (question c n rs ws) ≡ true → mark-refusal c rs ws ≡ 0
+unfolding question mark-refusal
+taken c n rs ws q =
     let g = good-parts (question c n rs ws) q in
     let er = eq-eqb (length rs) (row-long (width c)) (g .row-length) in
     let ew = eq-eqb (length ws) (long (width c)) (g .word-length) in
+    rw (g .known, er, ew, g .row-fine, g .word-fine)
+
+pub found : (c : ℕ) (rs : List ℤ) (g : ℤ) (so : List ℤ) → Answered c rs g so → Greatest (width c) (is-codeword (width c) (roots c)) rs g
+found c rs g so x = decoded-greatest (width c) (is-codeword (width c) (roots c)) rs (x .word) g so (x .decoded)
+
+pub said :
+    (c n : ℕ) (rs : List ℤ) (ws : List ℕ) (k : Mark) (g : ℤ) (so : List ℤ) → question-good (question c n rs ws) ≡ true → Answered c rs g so →
+    Mark-says c rs ws k → Said c n rs ws g so (k .verdict) (k .shortfall)
+unfolding question Mark-says
+said c n rs ws k best so q x y =
+    let g = good-parts (question c n rs ws) q in
     record {
       few = g .small;
       fine = record { known = g .known; whole = g .row-length; good = g .row-fine };
       answer = x;
-      marked = done _ (k .number) _ _ (rw (g .known, er, ew, g .row-fine, g .word-fine)) y;
+      marked = done _ (k .number) _ _ (taken c n rs ws q) y;
     }
 
 pub said-fits : {c n : ℕ} {rs : List ℤ} {ws : List ℕ} {g : ℤ} {so : List ℤ} {v : ℕ} {d : ℤ} → Said c n rs ws g so v d →

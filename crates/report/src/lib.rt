@@ -43,7 +43,7 @@ fn put_answer(
     requires { ⌜ at + line-most ≤ length (now out) ⌝ }
     ensures { λ r. ⌜ Put-line (question code number (now (row .entry)) (now (word .entry))) at (now (out .entry)) (now (out .exit)) r ⌝ }
 {
-    let mark = marker::judge_word(code, row, word);
+    let mark = marker::verdict_on_word(code, row, word, metric);
     let verdict = mark.verdict;
     let shortfall = mark.shortfall;
     text::put_question(number, code, metric, verdict, shortfall, soft, out, at)

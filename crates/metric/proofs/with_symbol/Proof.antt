@@ -1,0 +1,98 @@
+-- `metric::with_symbol` meets its contract: from its last bit on.
+-- Assumes nothing.
+use mathlib.Core.Path.{_≡_, _∙_}
+use mathlib.Core.List.{List, _++_}
+use Prim.Native.Nat.{ℕ, _+_, _*_, _-_, _/_, _%_, _^_, _≤_}
+use native.Mathlib.Omega.{arith}
+use borrow.Author.Needs.{needs}
+use lib.ListN.{length, getD, drop}
+use lib.IntN.{pos, natAbs}
+use mir.Facts.{toZ-ofZ}
+use mir.Syntax.{w16, w32}
+use mir.Val.{toZ}
+use Rattle.code.specs.Bits.{bits-of}
+use Rattle.metric.specs.Metric.{metric-of}
+use Rattle.metric.proofs.Bounds.{row-at}
+use Rattle.metric.proofs.Counting.{bit-more, all-counted, counted-size}
+use Rattle.metric.proofs.with_symbol.Statement.{statement}
+use Rattle.metric.proofs.with_symbol.Tie as tie
+
+abbrev Inv-loop : tie.InvT-loop
+Inv-loop m row c sum s₀ j₀ s j =
+    (j ≤ m) × (natAbs (toZ w32 s) ≤ 7620 + (m - j) * 127)
+    × ((bs : List ℕ) → toZ w32 sum ≡ metric-of (drop m row) bs → toZ w32 s ≡ metric-of (drop j row) (bits-of (m - j) (c / 2 ^ j) ++ bs))
+
+abbrev μ-loop : tie.MeasureT-loop
+μ-loop m row c sum s₀ j₀ s j = j
+
+loop-holds : tie.Need-loop-holds Inv-loop μ-loop
+unfolding bits-of
+loop-holds c = let a = c .args in
+    let z : a .m - a .m ≡ 0 = omega arith in
+    (omega arith, rw (toZ-ofZ (c .fits .sum)) (omega (arith, c .pre .small)), λ bs e. rw z e)
+
+sub-j : tie.Need-sub-j Inv-loop μ-loop
+sub-j c = search needs
+
+cast-r : tie.Need-cast-r Inv-loop μ-loop
+cast-r c = search needs
+
+mul-r : tie.Need-mul-r Inv-loop μ-loop
+mul-r c = record { fits = omega (arith, c .before .before .pre .width, c .before .loop .inv .0) }
+
+shared-slice-copy-out-r : tie.Need-shared-slice-copy-out-r Inv-loop μ-loop
+shared-slice-copy-out-r c = omega (arith, c .before .before .pre .count, c .before .loop .inv .0)
+
+cast-counted : tie.Need-cast-counted Inv-loop μ-loop
+cast-counted c = record { fits = omega (arith, c .before .before .before .pre .width, c .before .before .loop .inv .0) }
+
+shr-counted : tie.Need-shr-counted Inv-loop μ-loop
+shr-counted c = omega (arith, c .before .before .before .pre .width, c .before .before .loop .inv .0)
+
+counted-requires : tie.Need-counted-requires Inv-loop μ-loop
+counted-requires c κs = let s = c .before .before .before in
+    let t = c .before .before .loop in
+    (omega (arith, s .pre .width, t .inv .0, t .inv .1), rw (toZ-ofZ (record { sfits = c .r .given })) (row-at (s .args .row .now) (t .j - 1) (s .pre .good)))
+
+loop-less : tie.Need-loop-less Inv-loop μ-loop
+loop-less c = search needs
+
+loop-again : tie.Need-loop-again Inv-loop μ-loop
+loop-again c = let s = c .before .before .before .before in
+    let a = s .args in
+    let t = c .before .before .before .loop in
+    let r = toZ-ofZ {w = w16} {z = getD (a .row .now) (t .j - 1) (pos 0)} (record { sfits = c .before .r .given }) in
+    let x = toZ-ofZ {w = w32} {z = c .counted .result} (record { sfits = c .counted .ok }) in
+    let e = rw r at (c .counted .ensures) in
+    let g = row-at (a .row .now) (t .j - 1) (s .pre .good) in
+    let z = counted-size (toZ w32 (t .s)) (getD (a .row .now) (t .j - 1) (pos 0)) (omega (arith, s .pre .width, t .inv .0, t .inv .1)) g (a .c / 2 ^ (t .j - 1) % 2) in (
+      omega arith,
+      rw (x, e) (omega (arith, z, t .inv .1)),
+      λ bs h.
+          rw x
+          (bit-more (a .m) (t .j - 1) (t .j) (a .c) (a .row .now) bs (toZ w32 (t .s)) (c .counted .result) (omega arith) (t .inv .0) (omega (arith, s .pre .count, t .inv .0)) (t .inv .2 bs h) e),
+    )
+
+returns : tie.Need-returns Inv-loop μ-loop
+returns c = let s = c .before .before in
+    let a = s .args in
+    let t = c .before .loop in
+    λ bs h. all-counted (a .m) (t .j) (a .c) (a .row .now) bs (toZ w32 (t .s)) (omega arith) (t .inv .2 bs (toZ-ofZ (s .fits .sum) ∙ h))
+
+pub with-symbol-spec : {M : Type 1} → statement M
+with-symbol-spec =
+    tie.close
+    (tie.spec
+    Inv-loop
+    μ-loop
+    loop-holds
+    sub-j
+    cast-r
+    mul-r
+    shared-slice-copy-out-r
+    cast-counted
+    shr-counted
+    counted-requires
+    loop-less
+    loop-again
+    returns)
