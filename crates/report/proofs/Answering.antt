@@ -33,7 +33,7 @@ done (suc n) r D K e o = absurd (omega arith)
 pub answered :
     (c n : ℕ) (rs : List ℤ) (ws : List ℕ) (d : Decoding) (b us : List ℕ) (s so : List ℤ) → question-good (question c n rs ws) ≡ true →
     length b ≡ length ws → length s ≡ length rs → Decode-says c rs d b us s so → Answered c rs (d .metric) so
-unfolding question Decode-says decode-refusal
+unfolding Decode-says decode-refusal
 answered c n rs ws d b us s so q lb ls x =
     let g = good-parts (question c n rs ws) q in
     let m = width c in
@@ -53,7 +53,7 @@ pub record Said (c n : ℕ) (rs : List ℤ) (ws : List ℕ) (best : ℤ) (so : L
 pub said :
     (c n : ℕ) (rs : List ℤ) (ws : List ℕ) (k : Mark) (g : ℤ) (so : List ℤ) → question-good (question c n rs ws) ≡ true → Answered c rs g so →
     Mark-says c rs ws k → Said c n rs ws g so (k .verdict) (k .shortfall)
-unfolding question Mark-says mark-refusal
+unfolding Mark-says mark-refusal
 said c n rs ws k best so q x y =
     let g = good-parts (question c n rs ws) q in
     let er = eq-eqb (length rs) (row-long (width c)) (g .row-length) in
@@ -72,7 +72,6 @@ said-fits {c} {n} {rs} {ws} {g} {so} {v} {d} s =
 
 pub put-line : {c n at next : ℕ} {rs : List ℤ} {ws o p : List ℕ} {g : ℤ} {so : List ℤ} {v : ℕ} {d : ℤ} → Said c n rs ws g so v d →
     Written at (question-line n c g v d so) o p next → Put-line (question c n rs ws) at o p next
-unfolding question
 put-line {c} {n} {at} {next} {rs} {ws} {o} {p} {g} {so} {v} {d} s w =
     record {
       text = question-line n c g v d so;
