@@ -34,7 +34,7 @@ done (suc n) r D K e o = absurd (omega arith)
 pub answered :
     (c n : ℕ) (rs : List ℤ) (ws : List ℕ) (d : Decoding) (b us : List ℕ) (s so : List ℤ) → question-good (question c n rs ws) ≡ true →
     length b ≡ length ws → length s ≡ length rs → Decode-says c rs d b us s so → Answered c rs (d .metric) so
-unfolding question Decode-says decode-refusal
+unfolding Decode-says decode-refusal
 answered c n rs ws d b us s so q lb ls x =
     let g = good-parts (question c n rs ws) q in
     let m = width c in
@@ -52,7 +52,7 @@ pub record Said (c n : ℕ) (rs : List ℤ) (ws : List ℕ) (best : ℤ) (so : L
 
 -- the marker takes its word, and the decoder has found the best metric
 pub taken : (c n : ℕ) (rs : List ℤ) (ws : List ℕ) → question-good (question c n rs ws) ≡ true → mark-refusal c rs ws ≡ 0
-unfolding question mark-refusal
+unfolding mark-refusal unless
 taken c n rs ws q =
     let g = good-parts (question c n rs ws) q in
     let er = eq-eqb (length rs) (row-long (width c)) (g .row-length) in
@@ -82,7 +82,6 @@ said-fits {c} {n} {rs} {ws} {g} {so} {v} {d} s =
 
 pub put-line : {c n at next : ℕ} {rs : List ℤ} {ws o p : List ℕ} {g : ℤ} {so : List ℤ} {v : ℕ} {d : ℤ} → Said c n rs ws g so v d →
     Written at (question-line n c g v d so) o p next → Put-line (question c n rs ws) at o p next
-unfolding question
 put-line {c} {n} {at} {next} {rs} {ws} {o} {p} {g} {so} {v} {d} s w =
     record {
       text = question-line n c g v d so;

@@ -63,7 +63,7 @@ read bs i at b o s rs rs' ws ws' k l y =
 pub here :
     (bs : List ℕ) (at w c n : ℕ) (s : Step) (rs : List ℤ) (ws : List ℕ) → w ≡ getD (as-words bs) at 0 → c ≡ head-code w → n ≡ low w → Read bs at s rs ws →
     question c n rs ws ≡ question-here bs at
-unfolding question question-here question-in
+unfolding question-here question-in
 here bs at w c n s rs ws ew ec en r = rw (ec, en, ew, r .row-is, r .word-is)
 
 pub good-here : {bs : List ℕ} {i at : ℕ} {q : Question} → q ≡ question-here bs at → Asked bs i at → question-good q ≡ true

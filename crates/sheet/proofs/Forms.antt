@@ -19,7 +19,7 @@ use Rattle.code.proofs.Words.{Below, below, widen}
 use Rattle.metric.specs.Row.{bound, reliability-good, row-good}
 use Rattle.sheet.specs.declared.Form.{Form}
 use Rattle.sheet.specs.Sheet.{reliabilities, symbols, unsigned-of, signed-of, row-items, row-of, count, row-words, symbol-words}
-use Rattle.sheet.specs.Within.{Fine}
+use Rattle.sheet.specs.Within.{Fine, Row-form}
 use Rattle.sheet.proofs.Items.{Tested, both, le-or-lt}
 
 and-assoc : (a b d : Bool) → (a && (b && d)) ≡ ((a && b) && d)
@@ -38,11 +38,12 @@ symbol-splits m [] b = refl
 symbol-splits m (d ∷ ds) b = ap (λ (x : Bool). ltb d (2 ^ m) && x) (symbol-splits m ds b) ∙ and-assoc (ltb d (2 ^ m)) (symbols-good m ds) (symbols-good m b)
 
 -- today's forms
-pub reliabilities-fine : Fine reliabilities
-reliabilities-fine = record { kinds = lit< tt; some = lit< tt; small = lit< tt; holds = lit< tt; few = lit≤ tt; fits = lit≤ tt }
-
-pub reliabilities-wide : 256 ≤ reliabilities .base
-reliabilities-wide = lit≤ tt
+pub row-form : Row-form reliabilities
+row-form = record {
+  form = record { kinds = lit< tt; some = lit< tt; small = lit< tt; holds = lit< tt; few = lit≤ tt; fits = lit≤ tt };
+  wide = lit≤ tt;
+  other = λ e. omega (arith, e);
+}
 
 pub symbols-fine : Fine symbols
 symbols-fine = record { kinds = lit< tt; some = lit< tt; small = lit< tt; holds = lit< tt; few = lit≤ tt; fits = lit≤ tt }

@@ -10,7 +10,7 @@ use lib.IntN.{pos}
 use Rattle.code.specs.Code.{code-good, width, long, symbols-good}
 use Rattle.code.specs.Bits.{row-long}
 use Rattle.metric.specs.Row.{bound, reliability-good, row-good}
-use Rattle.sheet.specs.Sheet.{Question, reliabilities, end-kind, most, numbers, worded, count, row-words, symbol-words, question-long, question-words, all-words, written, questions, question-good, all-good}
+use Rattle.sheet.specs.Sheet.{Question, question, reliabilities, end-kind, most, numbers, worded, count, row-words, symbol-words, question-long, question-words, all-words, written, questions, question-good, all-good}
 use Rattle.sheet.specs.Promise.{sheet-most, Longest-sheet, Read-written, Written-read}
 use Rattle.sheet.proofs.Items.{items-words-length}
 use Rattle.sheet.proofs.Bytes.{bytes-length, bytes, as-bytes-below}
@@ -35,7 +35,7 @@ written-length qs =
 
 -- a question of code 3, and so many of them
 longest : Question
-longest = record { code = 3; number = 0; row = replicate 60 (pos 0); word = replicate 15 0 }
+longest = question 3 0 (replicate 60 (pos 0)) (replicate 15 0)
 
 longest-good : (n : ℕ) → all-good (replicate n longest) ≡ true
 unfolding all-good question-good longest code-good width long row-long numbers row-good reliability-good bound symbols-good

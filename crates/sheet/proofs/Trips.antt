@@ -57,9 +57,9 @@ use Rattle.sheet.specs.Sheet.{
 }
 use Rattle.sheet.specs.Promise.{Written-read, Read-written}
 use Rattle.sheet.proofs.Items.{Held, passed, held, first-none, both, below-join, items-words-below, kind-worded, body-worded, items-words-length, items-in-length, written-accepted, written-back, accepted-back}
-use Rattle.sheet.specs.Within.{Fine}
+use Rattle.sheet.specs.Within.{Row-form}
 use Rattle.sheet.specs.declared.Form.{Form}
-use Rattle.sheet.proofs.Forms.{reliabilities-fine, reliabilities-wide, row-tested, symbol-tested, items-below, row-back, items-back, row-items-length, row-of-length, symbols-below, row-room, symbol-room}
+use Rattle.sheet.proofs.Forms.{row-form, row-tested, symbol-tested, items-below, row-back, items-back, row-items-length, row-of-length, symbols-below, row-room, symbol-room}
 use Rattle.sheet.proofs.Bytes.{bytes-length, as-words-bytes, as-bytes-words}
 
 -- what a question that a sheet can hold has
@@ -131,7 +131,7 @@ row-part f q = items-words f (row-words f (width (q .code))) (row-items f (q .ro
 abbrev word-part : Question → List ℕ
 word-part q = items-words symbols (symbol-words (width (q .code))) (q .word)
 
-module _ (f : Form) (z : Fine f) (wide : 256 ≤ f .base) (q : Question) (g : Good q) (rest : List ℕ) where
+module _ {f : Form} (z : Row-form f) (q : Question) (g : Good q) (rest : List ℕ) where
   abbrev m : ℕ
   m = width (q .code)
 
@@ -147,7 +147,7 @@ module _ (f : Form) (z : Fine f) (wide : 256 ≤ f .base) (q : Question) (g : Go
   past-question = rw past-row (drop-at (word-part q) rest (symbol-words m) (items-words-length symbols (symbol-words m) (q .word)))
 
   row-below : Below (f .base) (row-items f (q .row))
-  row-below = items-below f (q .row) (omega arith) (g .row-fine)
+  row-below = items-below f (q .row) (omega (arith, z .wide)) (g .row-fine)
 
   word-below : Below (symbols .base) (q .word)
   word-below = symbols-below m (q .word) (width-le (q .code) (g .known)) (g .word-fine)
@@ -156,7 +156,7 @@ module _ (f : Form) (z : Fine f) (wide : 256 ≤ f .base) (q : Question) (g : Go
   unfolding row-refusal
   row-accepted =
       rw (← g .row-length, ← row-items-length f (q .row))
-      (written-accepted f _ (row-tested f z) 5 (row-words f m) (row-items f (q .row)) (word-part q ++ rest) row-below (ap row-good (row-back f (q .row) wide (g .row-fine)) ∙ g .row-fine))
+      (written-accepted f _ (row-tested f (z .form)) 5 (row-words f m) (row-items f (q .row)) (word-part q ++ rest) row-below (ap row-good (row-back f (q .row) (z .wide) (g .row-fine)) ∙ g .row-fine))
 
   word-accepted : symbol-refusal m (word-part q ++ rest) ≡ 0
   unfolding symbol-refusal
@@ -168,9 +168,9 @@ module _ (f : Form) (z : Fine f) (wide : 256 ≤ f .base) (q : Question) (g : Go
 
   row-read : row-of f (items-in f (row-words f m) (row-long m) whole) ≡ q .row
   row-read =
-      let room : length (row-items f (q .row)) ≤ f .each * row-words f m = omega (arith, row-items-length f (q .row), g .row-length, row-room f z m) in
+      let room : length (row-items f (q .row)) ≤ f .each * row-words f m = omega (arith, row-items-length f (q .row), g .row-length, row-room f (z .form) m) in
       rw (← g .row-length, ← row-items-length f (q .row))
-      (ap (row-of f) (written-back f _ (row-tested f z) (row-words f m) (row-items f (q .row)) (word-part q ++ rest) row-below room) ∙ row-back f (q .row) wide (g .row-fine))
+      (ap (row-of f) (written-back f _ (row-tested f (z .form)) (row-words f m) (row-items f (q .row)) (word-part q ++ rest) row-below room) ∙ row-back f (q .row) (z .wide) (g .row-fine))
 
   word-read : items-in symbols (symbol-words m) (long m) (word-part q ++ rest) ≡ q .word
   word-read =
@@ -188,7 +188,7 @@ module _ (f : Form) (z : Fine f) (wide : 256 ≤ f .base) (q : Question) (g : Go
   unfolding question-words head-kind numbers
   question-below = (
     worded-lt 1 (q .code * 2 ^ 24 + q .number) (lit< tt) (omega (arith, code-lt (q .code) (g .known), g .small)),
-    below-join (2 ^ 32) (row-part f q) (word-part q) (items-words-below f _ (row-tested f z) (row-words f m) (row-items f (q .row)) row-below)
+    below-join (2 ^ 32) (row-part f q) (word-part q) (items-words-below f _ (row-tested f (z .form)) (row-words f m) (row-items f (q .row)) row-below)
         (items-words-below symbols (symbols-good m) (symbol-tested m) (symbol-words m) (q .word) word-below),
   )
 
@@ -238,11 +238,11 @@ question-front q k rest qs g r =
     let ws : List ℕ = row-part reliabilities q ++ (word-part q ++ rest) in
     let hk : kind w ≡ head-kind = head-kind-is head-kind (q .code) (q .number) (code-lt (q .code) (g .known)) (g .small) in
     let hc : head-code w ≡ q .code = head-code-is head-kind (q .code) (q .number) (code-lt (q .code) (g .known)) (g .small) in
-    let past : after reliabilities (width (head-code w)) ws ≡ rest = rw hc (past-question reliabilities reliabilities-fine reliabilities-wide q g rest) in
+    let past : after reliabilities (width (head-code w)) ws ≡ rest = rw hc (past-question row-form q g rest) in
     rw (append-assoc (row-part reliabilities q) (word-part q) rest)
     (record {
-      accepted = head-accepted k w ws hk (rw hc (question-accepted reliabilities reliabilities-fine reliabilities-wide q g rest)) ∙ ap (rest-refusal k) past ∙ r .accepted;
-      same = head-read k w ws hk ∙ ap₂ _∷_ (question-read reliabilities reliabilities-fine reliabilities-wide q g rest) (ap (questions-from k) past ∙ r .same);
+      accepted = head-accepted k w ws hk (rw hc (question-accepted row-form q g rest)) ∙ ap (rest-refusal k) past ∙ r .accepted;
+      same = head-read k w ws hk ∙ ap₂ _∷_ (question-read row-form q g rest) (ap (questions-from k) past ∙ r .same);
     })
 
 written-from : (qs : List Question) (left n : ℕ) → all-good qs ≡ true → left ≤ most → length qs ≤ left → n ≡ most - left + length qs →
@@ -260,7 +260,7 @@ unfolding all-good all-words
 all-below [] g = tt
 all-below (q ∷ qs) g =
     let p = both (question-good q) (all-good qs) g in
-    below-join (2 ^ 32) (question-words reliabilities q) (all-words qs) (question-below reliabilities reliabilities-fine reliabilities-wide q (good-parts q (p .0)) []) (all-below qs (p .1))
+    below-join (2 ^ 32) (question-words reliabilities q) (all-words qs) (question-below row-form q (good-parts q (p .0)) []) (all-below qs (p .1))
 
 pub written-read : Written-read
 unfolding Written-read written sheet-refusal questions most end-kind
@@ -302,7 +302,7 @@ record Asked (f : Form) (w : ℕ) (ws : List ℕ) : Type 0 where
   row-held : Held f (λ ds. row-good (row-of f ds)) (row-words f (width (head-code w))) (row-long (width (head-code w))) ws
   word-held : Held symbols (symbols-good (width (head-code w))) (symbol-words (width (head-code w))) (long (width (head-code w))) (after-row f (width (head-code w)) ws)
 
-module _ (f : Form) (z : Fine f) (w : ℕ) (ws : List ℕ) where
+module _ {f : Form} (z : Row-form f) (w : ℕ) (ws : List ℕ) where
   abbrev head-width : ℕ
   head-width = width (head-code w)
 
@@ -313,7 +313,7 @@ module _ (f : Form) (z : Fine f) (w : ℕ) (ws : List ℕ) where
       let b = first-none _ _ (a .1) in
       record {
         known = not-false _ (a .0);
-        row-held = accepted-back f _ (row-tested f z) 4 (row-words f head-width) (row-long head-width) ws (b .0);
+        row-held = accepted-back f _ (row-tested f (z .form)) 4 (row-words f head-width) (row-long head-width) ws (b .0);
         word-held = accepted-back symbols (symbols-good head-width) (symbol-tested head-width) 5 (symbol-words head-width) (long head-width) (after-row f head-width ws) (b .1);
       }
 
@@ -322,7 +322,7 @@ module _ (f : Form) (z : Fine f) (w : ℕ) (ws : List ℕ) where
   asked-good a = record {
     known = a .known;
     small = mod-lt (body w) (lit< tt);
-    row-length = row-of-length f (items-in f (row-words f head-width) (row-long head-width) ws) ∙ items-in-length f (row-words f head-width) (row-long head-width) ws (row-room f z head-width);
+    row-length = row-of-length f (items-in f (row-words f head-width) (row-long head-width) ws) ∙ items-in-length f (row-words f head-width) (row-long head-width) ws (row-room f (z .form) head-width);
     row-fine = a .row-held .fine;
     word-length = items-in-length symbols (symbol-words head-width) (long head-width) (after-row f head-width ws) (symbol-room head-width);
     word-fine = a .word-held .fine;
@@ -362,14 +362,14 @@ headed k w ws h e a r =
     let qs : List Question = questions-from k rest in
     let q : questions-from (suc k) (w ∷ ws) ≡ question-in reliabilities w ws ∷ qs = head-read k w ws e in
     record {
-      fine = ap all-good q ∙ ap₂ _&&_ (parts-good (question-in reliabilities w ws) (asked-good reliabilities reliabilities-fine w ws a)) (r .fine);
+      fine = ap all-good q ∙ ap₂ _&&_ (parts-good (question-in reliabilities w ws) (asked-good row-form w ws a)) (r .fine);
       few = subst (λ (x : List Question). length x ≤ suc k) (sym q) (omega (arith, r .few));
       again =
           ap (λ (x : List Question). all-words x ++ worded end-kind (most - suc k + length x) ∷ []) q
           ∙ append-assoc (question-words reliabilities (question-in reliabilities w ws)) (all-words qs) (worded end-kind (most - suc k + suc (length qs)) ∷ [])
           ∙ ap (λ (x : ℕ). question-words reliabilities (question-in reliabilities w ws) ++ (all-words qs ++ worded end-kind x ∷ [])) (omega arith)
           ∙ ap (λ (x : List ℕ). question-words reliabilities (question-in reliabilities w ws) ++ x) (r .again)
-          ∙ asked-again reliabilities reliabilities-fine w ws e a;
+          ∙ asked-again row-form w ws e a;
     }
 
 read-from : (left : ℕ) (ws : List ℕ) → left ≤ most → rest-refusal left ws ≡ 0 → Back left ws
@@ -393,7 +393,7 @@ read-from (suc k) (w ∷ ws) h e = by (read-from k (after reliabilities (width (
     by more false t e =
         let p = held (eqb (kind w) head-kind) 9 _ e in
         let f = first-none (question-refusal reliabilities (head-code w) ws) (rest-refusal k rest) (p .1) in
-        headed k w ws h (eqb-true (kind w) head-kind (p .0)) (asked reliabilities reliabilities-fine w ws (f .0)) (more (f .1))
+        headed k w ws h (eqb-true (kind w) head-kind (p .0)) (asked row-form w ws (f .0)) (more (f .1))
 
 pub read-written : Read-written
 unfolding Read-written written sheet-refusal questions most

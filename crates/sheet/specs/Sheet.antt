@@ -39,7 +39,8 @@ pub record Question : Type 0 where
   pub row : List ℤ
   pub word : List ℕ
 
-unfoldable pub question : (code number : ℕ) → (row : List ℤ) → (word : List ℕ) → Question
+-- a question of these parts
+abbrev pub question : (code number : ℕ) → (row : List ℤ) → (word : List ℕ) → Question
 question c n rs ws = record { code = c; number = n; row = rs; word = ws }
 
 -- n digits to a base, the first lowest; and the number that has these digits
@@ -200,12 +201,7 @@ sheet-refusal bs = cond (eqb (length bs % 4) 0) (rest-refusal most (as-words bs)
 unfoldable pub question-in : Form → (head : ℕ) → (follows : List ℕ) → Question
 question-in f w ws =
     let m = width (head-code w) in
-    record {
-      code = head-code w;
-      number = low w;
-      row = row-of f (items-in f (row-words f m) (row-long m) ws);
-      word = items-in symbols (symbol-words m) (long m) (after-row f m ws);
-    }
+    question (head-code w) (low w) (row-of f (items-in f (row-words f m) (row-long m) ws)) (items-in symbols (symbol-words m) (long m) (after-row f m ws))
 
 unfoldable pub questions-from : (left : ℕ) → List ℕ → List Question
 questions-from zero ws = []

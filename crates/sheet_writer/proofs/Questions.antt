@@ -5,7 +5,6 @@ use mathlib.Core.List.{List, _∷_, _++_}
 use Prim.Native.Nat.{ℕ, zero, suc, _+_, _*_, _-_, _^_, _<_, _≤_}
 use native.Mathlib.Nat.{lt-of-lt-of-le, mul-comm, mul-suc, mul-zero, add-comm, not-suc-le-zero}
 use native.Mathlib.Omega.{arith}
-use lib.Dec.{lit≤}
 use lib.ListN.{length, getD, take, drop, length-append, List·getD-append}
 use lib.Seq.{drop-drop, getD-drop, getD-append-add}
 use lib.IntN.{ℤ}
@@ -16,11 +15,11 @@ use Rattle.code.specs.Bits.{row-long}
 use Rattle.code.proofs.Words.{Below}
 use Rattle.metric.specs.Row.{row-good}
 use Rattle.sheet.specs.declared.Form.{Form}
-use Rattle.sheet.specs.Sheet.{question, reliabilities, symbols, head-kind, numbers, worded, packed, row-items, row-words, symbol-words, question-long, items-words, question-words}
-use Rattle.sheet.specs.Within.{Fine}
+use Rattle.sheet.specs.Sheet.{question, symbols, head-kind, numbers, worded, packed, row-items, row-words, symbol-words, question-long, items-words, question-words}
+use Rattle.sheet.specs.Within.{Fine, Row-form}
 use Rattle.sheet.proofs.Items.{items-words-length, below-parts}
-use Rattle.sheet.proofs.Forms.{reliabilities-fine, symbols-fine, count-place, items-below, symbols-below}
-use Rattle.sheet_writer.specs.Within.{items-of, Row-form, Packs}
+use Rattle.sheet.proofs.Forms.{symbols-fine, count-place, items-below, symbols-below}
+use Rattle.sheet_writer.specs.Within.{items-of, Packs}
 use Rattle.sheet_writer.proofs.Packing.{below-at, all-below, digit-turn, digit-bound}
 
 some : (j : ℕ) → (j ≡ 0 → ⊥) → 0 < j
@@ -54,7 +53,7 @@ module _ (f : Form) (c n : ℕ) (rs : List ℤ) (ws : List ℕ) where
   syms = items-words symbols (symbol-words m) ws
 
   words-are : words ≡ worded head-kind (c * numbers + n) ∷ (rows ++ syms)
-  unfolding question-words question rows syms
+  unfolding question-words rows syms
   words-are = refl
 
   rows-length : length rows ≡ row-words f m
@@ -113,13 +112,10 @@ module _ (f : Form) (rs : List ℤ) (ws : List ℕ) where
   pub packs-row : Row-form f → row-good rs ≡ true → Packs f rs ws
   packs-row z g = record {
     form = z .form;
-    row-wide = λ e. z .wide;
+    row-wide = λ e. omega (arith, z .wide);
     row-fine = g;
-    below = rw (items-row (z .other)) (below-at (f .base) (row-items f rs) (z .form .some) (items-below f rs (z .wide) g));
+    below = rw (items-row (z .other)) (below-at (f .base) (row-items f rs) (z .form .some) (items-below f rs (omega (arith, z .wide)) g));
   }
-
-pub row-form : Row-form reliabilities
-row-form = record { form = reliabilities-fine; wide = lit≤ tt; other = λ e. omega (arith, e) }
 
 pub packs-symbols : (m : ℕ) (rs : List ℤ) (ws : List ℕ) → m ≤ 4 → row-good rs ≡ true → symbols-good m ws ≡ true → Packs symbols rs ws
 packs-symbols m rs ws h r g = record {

@@ -13,7 +13,7 @@ use lib.IntN.{ℤ}
 use Rattle.code.specs.Code.{width, long}
 use Rattle.code.specs.Bits.{row-long}
 use Rattle.refusal.specs.Refusal.{Outcome}
-use Rattle.sheet.specs.Sheet.{Question, question, most, numbers, all-good, question-good, first, questions}
+use Rattle.sheet.specs.Sheet.{Question, most, numbers, all-good, question-good, first, questions}
 use Rattle.sheet.proofs.Items.{passed, both, first-none}
 use Rattle.sheet.proofs.Trips.{good-parts, written-read, read-written}
 use Rattle.sheet.specs.Promise.{Written-read, Read-written}
@@ -22,7 +22,7 @@ use Rattle.sheet_writer.specs.Promise.{Lists-return, Lent-says, Sheets-r
 use Rattle.sheet_writer.proofs.Writing.{asked-good, listed-length}
 
 listed-good : (cs ns : List ℕ) (rs : List ℤ) (ws : List ℕ) → length cs ≡ length ns → list-refusal cs ns rs ws ≡ 0 → all-good (listed cs ns rs ws) ≡ true
-unfolding listed list-refusal all-good question
+unfolding listed list-refusal all-good
 listed-good [] ns rs ws e h = refl
 listed-good (c ∷ cs) [] rs ws e h = absurd (omega arith)
 listed-good (c ∷ cs) (n ∷ ns) rs ws e h =

@@ -37,7 +37,7 @@ first-of c n rs ws = question c n (take (row-long (width c)) rs) (take (long (wi
 
 -- an accepted question can be written
 pub asked-good : (c n k : ℕ) (rs : List ℤ) (ws : List ℕ) → asked-refusal c n k rs ws ≡ 0 → question-good (first-of c n rs ws) ≡ true
-unfolding asked-refusal parts-refusal numbers question
+unfolding asked-refusal parts-refusal numbers
 asked-good c n k rs ws h =
     let m = width c in
     let a = passed (not (code-good c)) 0 _ h in
@@ -59,14 +59,13 @@ asked-good c n k rs ws h =
 
 -- and leaves what is left of the rows and of the words
 pub room : (c n k : ℕ) (rs : List ℤ) (ws : List ℕ) → asked-refusal c n k rs ws ≡ 0 → (row-long (width c) ≤ length rs) × (long (width c) ≤ length ws)
-unfolding question
 room c n k rs ws h =
     let g = good-parts (first-of c n rs ws) (asked-good c n k rs ws h) in
     (omega (arith, simp length-take at (g .row-length)), omega (arith, simp length-take at (g .word-length)))
 
 -- how many words the list takes
 pub needed-is : (cs ns : List ℕ) (rs : List ℤ) (ws : List ℕ) → length cs ≡ length ns → length (all-words (listed cs ns rs ws)) ≡ words-needed cs
-unfolding all-words listed words-needed question
+unfolding all-words listed words-needed
 needed-is [] ns rs ws e = refl
 needed-is (c ∷ cs) [] rs ws e = absurd (omega arith)
 needed-is (c ∷ cs) (n ∷ ns) rs ws e =
@@ -140,7 +139,7 @@ module _ {cs ns : List ℕ} {rs : List ℤ} {ws o : List ℕ} {i row word at : �
     after = listed (drop (i + 1) cs) (drop (i + 1) ns) (drop (row-long (width next-code)) (drop row rs)) (drop (long (width next-code)) (drop word ws))
 
     split : drop i list ≡ next ∷ after
-    unfolding listed question after
+    unfolding listed after
     split = b .left ∙ rw (drop-cons cs i 0 h, drop-cons ns i 0 other, add-one)
 
     pub fits-in : at + 4 * length (question-words reliabilities next) ≤ length out

@@ -11,7 +11,7 @@ use Rattle.code.specs.Code.{code-good, width, long, symbols-good}
 use Rattle.code.specs.Bits.{row-long}
 use Rattle.refusal.specs.Refusal.{Outcome}
 use Rattle.metric.specs.Row.{row-good}
-use Rattle.sheet.specs.Sheet.{Question, most, numbers, first, written}
+use Rattle.sheet.specs.Sheet.{Question, question, most, numbers, first, written}
 
 -- a question list is lent as its codes, its question numbers, all rows end to end and all handed-in words end to end
 unfoldable pub listed : (codes numbers : List ℕ) → (rows : List ℤ) → (words : List ℕ) → List Question
@@ -19,7 +19,7 @@ listed [] ns rs ws = []
 listed (c ∷ cs) [] rs ws = []
 listed (c ∷ cs) (n ∷ ns) rs ws =
     let m = width c in
-    record { code = c; number = n; row = take (row-long m) rs; word = take (long m) ws } ∷ listed cs ns (drop (row-long m) rs) (drop (long m) ws)
+    question c n (take (row-long m) rs) (take (long m) ws) ∷ listed cs ns (drop (row-long m) rs) (drop (long m) ws)
 
 -- so many are needed where so many are left: no fewer, and for the last question no more
 unfoldable pub fits : (after left needed : ℕ) → Bool

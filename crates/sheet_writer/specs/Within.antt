@@ -25,12 +25,6 @@ begun ws o = as-bytes ws ++ drop (4 * length ws) o
 unfoldable pub items-of : Form → (row : List ℤ) → (word : List ℕ) → List ℕ
 items-of f rs ws = cond (eqb (f .kind) (symbols .kind)) ws (row-items f rs)
 
--- a form of reliabilities
-pub record Row-form (f : Form) : Type 0 where
-  pub form : Fine f
-  pub wide : 128 ≤ f .base
-  pub other : f .kind ≡ symbols .kind → ⊥
-
 -- the items have room in words of their form
 pub record Packs (f : Form) (rs : List ℤ) (ws : List ℕ) : Type 0 where
   pub form : Fine f

@@ -7,7 +7,8 @@ ghost use Prim.Native.Nat.{_+_, _*_, _^_, _<_, _≤_};
 ghost use lib.ListN.{length, getD, take, drop};
 ghost use Rattle.metric.specs.Row.{reliability-good};
 ghost use Rattle.sheet.specs.Sheet.{digits, packed, unsigned-of, question, question-words, question-good, worded, end-kind};
-ghost use Rattle.sheet_writer.specs.Within.{items-of, Packs, Row-form};
+ghost use Rattle.sheet_writer.specs.Within.{items-of, Packs};
+ghost use Rattle.sheet.specs.Within.{Row-form};
 
 const KINDS: u32 = 268435456;
 

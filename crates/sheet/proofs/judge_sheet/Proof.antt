@@ -48,12 +48,6 @@ more c =
 few : (c : tie.After-question-words-of Inv-loop μ-loop) → c .question-words-of .result ≤ 23
 few c = omega (arith, c .question-words-of .ensures, question-long-le (c .before .head-code-of .result))
 
-returns : tie.Need-returns Inv-loop μ-loop
-returns c = sym (judged-odd (now (c .before .before .args .sheet)) (c .if1 .taken))
-
-loop-holds : tie.Need-loop-holds Inv-loop μ-loop
-loop-holds c = (lit≤ tt, judged-whole (now (c .before .before .args .sheet)) (c .if1 .left))
-
 returns-2 : tie.Need-returns-2 Inv-loop μ-loop
 returns-2 c = let w = c .before .before .before in let a = w .before .before in
     let bs : List ℕ = now (a .before .before .before .args .sheet) in
@@ -69,18 +63,6 @@ returns-3 c = let r = c .before in let a = r .before .before .before .before .be
     ∙ turn-refused (now (a .before .before .before .args .sheet)) (a .loop .left) (a .loop .at) (r .before .before .before .before .loop-test .taken) (no-end (r .before))
     (λ e. c .if3 .taken (refused r ∙ e))
     ∙ sym (refused r))
-
-add-at : tie.Need-add-at Inv-loop μ-loop
-add-at c = omega (arith, few c)
-
-add-at-2 : tie.Need-add-at-2 Inv-loop μ-loop
-add-at-2 c = omega (arith, few c)
-
-sub-left : tie.Need-sub-left Inv-loop μ-loop
-sub-left c = more (c .before .before) .0
-
-loop-less : tie.Need-loop-less Inv-loop μ-loop
-loop-less c = omega (arith, more (c .before .before) .0)
 
 loop-again : tie.Need-loop-again Inv-loop μ-loop
 loop-again c = let r = c .before .before .before in let a = r .before .before .before .before .before in
@@ -102,8 +84,8 @@ judge-sheet-spec =
     (tie.spec
     Inv-loop
     μ-loop
-    returns
-    loop-holds
+    (λ c. sym (judged-odd (now (c .before .before .args .sheet)) (c .if1 .taken)))
+    (λ c. (lit≤ tt, judged-whole (now (c .before .before .args .sheet)) (c .if1 .left)))
     (λ c κs. search needs)
     (λ c κs. search needs)
     (λ c. search needs)
@@ -116,9 +98,9 @@ judge-sheet-spec =
     returns-3
     (λ c κs. search needs)
     (λ c κs. search needs)
-    add-at
-    add-at-2
-    sub-left
-    loop-less
+    (λ c. omega (arith, few c))
+    (λ c. omega (arith, few c))
+    (λ c. more (c .before .before) .0)
+    (λ c. omega (arith, more (c .before .before) .0))
     loop-again
     returns-4)

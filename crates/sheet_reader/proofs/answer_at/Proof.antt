@@ -43,15 +43,9 @@ unfolding head-kind
 returns c = let w = c .before .before in let s = w .before .before .args in
     sym (at-word w ∙ answered-none (w .word-at .result) (s .row) (s .word) (λ e. c .if1 .taken (c .before .kind-of .ensures ∙ e)))
 
-row-long-of-requires : tie.Need-row-long-of-requires
-row-long-of-requires c κs = fine c
-
 returns-2 : tie.Need-returns-2
 returns-2 c = let h = c .before .before .before .before in let w = h .before .before in let s = w .before .before .args in
     sym (at-word w ∙ answered-row (w .word-at .result) (s .row) (s .word) (head h) (λ e. c .if2 .taken (e ∙ sym (row-is (c .before)))))
-
-long-of-requires : tie.Need-long-of-requires
-long-of-requires c κs = fine (c .before .before)
 
 returns-3 : tie.Need-returns-3
 returns-3 c = let h = c .before .before .before .before .before .before in let w = h .before .before in let s = w .before .before .args in
@@ -73,9 +67,9 @@ answer-at-spec =
     returns
     (λ c κs. search needs)
     (λ c κs. search needs)
-    row-long-of-requires
+    (λ c κs. fine c)
     returns-2
-    long-of-requires
+    (λ c κs. fine (c .before .before))
     returns-3
     (λ c κs. search needs)
     returns-4)

@@ -29,16 +29,10 @@ head c = ap kind (sym (c .before .before .word-at .ensures)) ∙ sym (c .before 
 few : (c : tie.After-question-words-of Inv-loop μ-loop) → c .question-words-of .result ≤ 23
 few c = omega (arith, c .question-words-of .ensures, question-long-le (c .before .head-code-of .result))
 
-loop-holds : tie.Need-loop-holds Inv-loop μ-loop
-loop-holds c = refl
-
 returns : tie.Need-returns Inv-loop μ-loop
 unfolding head-kind
 returns c = let w = c .before .before in let a = w .before .before in let s = a .before .before .args in
     sym (a .loop .inv ∙ skip-end (as-words (now (s .sheet))) (a .loop .at) (a .loop .left) (λ e. c .if1 .taken (c .before .kind-of .ensures ∙ ap kind (w .word-at .ensures) ∙ e)))
-
-add-at : tie.Need-add-at Inv-loop μ-loop
-add-at c = omega (arith, few c)
 
 add-at-2 : tie.Need-add-at-2 Inv-loop μ-loop
 add-at-2 c = let e = c .before .before in let a = e .before .before .before .before in
@@ -60,13 +54,13 @@ place-of-spec =
     (tie.spec
     Inv-loop
     μ-loop
-    loop-holds
+    (λ c. refl)
     (λ c κs. search needs)
     (λ c κs. search needs)
     returns
     (λ c κs. search needs)
     (λ c κs. search needs)
-    add-at
+    (λ c. omega (arith, few c))
     add-at-2
     (λ c. search needs)
     (λ c. search needs)

@@ -9,7 +9,7 @@ use Rattle.field.specs.Field.{width-good}
 use Rattle.code.specs.Code.{width, long}
 use Rattle.code.specs.Bits.{row-long}
 use Rattle.sheet.specs.Sheet.{reliabilities, as-words}
-use Rattle.sheet.proofs.Forms.{reliabilities-fine}
+use Rattle.sheet.proofs.Forms.{row-form}
 use Rattle.sheet.proofs.Judging.{width-fine, question-long-le}
 use Rattle.sheet_reader.specs.Within.{behind, Read-says}
 use Rattle.sheet_reader.proofs.Says.{Standing, standing, inside, says-found, says-none, says-refused}
@@ -36,7 +36,7 @@ read-question-requires : tie.Need-read-question-requires
 read-question-requires c κs = let w = c .before .before in let a = w .before .before in let t = found a in
     let k : ℕ = a .answer .given .0 .0 in
     let s = a .before .before .before .before .before .args in (
-      reliabilities-fine,
+      row-form .form,
       (
         ap width-good (width-is w) ∙ width-fine k,
         (
@@ -45,9 +45,6 @@ read-question-requires c κs = let w = c .before .before in let a = w .before .b
         ),
       ),
     )
-
-add-next : tie.Need-add-next
-add-next c = omega (arith, few c)
 
 add-next-2 : tie.Need-add-next-2
 add-next-2 c = let a = c .before .before .before .before .before .before .before .before .before in
@@ -81,7 +78,7 @@ question-at-spec =
     (λ c κs. search needs)
     read-question-requires
     (λ c κs. search needs)
-    add-next
+    (λ c. omega (arith, few c))
     add-next-2
     (λ c. search needs)
     (λ c. search needs)

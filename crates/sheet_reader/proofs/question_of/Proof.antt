@@ -17,9 +17,6 @@ there c =
 returns : tie.Need-returns
 returns c = let s = c .before .before .before .before .args in refused (now (s .sheet)) (s .index) _ _ _ (c .before .judge-sheet .ensures) (c .if1 .taken)
 
-question-at-requires : tie.Need-question-at-requires
-question-at-requires c κs = (_, there (c .before .before))
-
 returns-2 : tie.Need-returns-2
 returns-2 c = let q = c .before .before .before in choice (there (q .before .before .before)) (q .question-at .ensures)
 
@@ -30,7 +27,7 @@ question-of-spec =
     (λ c κs. search needs)
     returns
     (λ c κs. search needs)
-    question-at-requires
+    (λ c κs. (_, there (c .before .before)))
     (λ c. search needs)
     (λ c. search needs)
     returns-2)

@@ -77,15 +77,6 @@ mul-write-question c = let i = c .before .before .before .before in omega (arith
 shared-slice-read-write-question : tie.Need-shared-slice-read-write-question Inv-loop μ-loop
 shared-slice-read-write-question c = let i = c .before .before .before .before .before in omega (arith, i .loop-test .taken, i .before .loop .inv .same)
 
-mul-write-question-2 : tie.Need-mul-write-question-2 Inv-loop μ-loop
-mul-write-question-2 c = omega (arith, c .before .before .before .before .before .before .loop .inv .row-in)
-
-sub-write-question-3 : tie.Need-sub-write-question-3 Inv-loop μ-loop
-sub-write-question-3 c = omega (arith, output-in (c .before .before .before .before .before .before .before))
-
-part-write-question-start-3 : tie.Need-part-write-question-start-3 Inv-loop μ-loop
-part-write-question-start-3 c = omega (arith, output-in (c .before .before .before .before .before .before .before))
-
 write-question-requires : tie.Need-write-question-requires Inv-loop μ-loop
 write-question-requires c κs =
     let l = c .before .before .before .before in let i = l .before .before .before .before in let a = i .before in
@@ -109,9 +100,6 @@ loop-again c =
     (c .before .before .before .write-question .ensures ∙ ap₂ begun (ap (question-words reliabilities) (same-question l)) (part-is a))
     (drop-of-length-le (drop (a .loop .at) (a .loop .output)) {i = length (a .loop .output) - a .loop .at} (omega (arith, length-drop (a .loop .at) (a .loop .output))))
     ∙ ap (λ (x : List ℕ). take (a .loop .at) (a .loop .output) ++ x) (append-nil (begun (question-words reliabilities (next (a .loop .inv))) (drop (a .loop .at) (a .loop .output))))))
-
-cast-count : tie.Need-cast-count Inv-loop μ-loop
-cast-count c = omega (arith, c .before .before .before .before .before .before .pre .1 .0)
 
 put-word-requires : tie.Need-put-word-requires Inv-loop μ-loop
 put-word-requires c κs = let l = c .before .before in omega (arith, end-fits (l .before .loop .inv) (l .loop-test .left), l .before .loop .inv .place)
@@ -143,15 +131,15 @@ write-list-spec =
     (λ c. omega (arith, words-in c))
     mul-write-question
     shared-slice-read-write-question
-    mul-write-question-2
+    (λ c. omega (arith, c .before .before .before .before .before .before .loop .inv .row-in))
     (λ c. search needs)
     (λ c. search needs)
     (λ c. rows-in (c .before .before))
     (λ c. search needs)
     (λ c. search needs)
     (λ c. words-in (c .before .before))
-    sub-write-question-3
-    part-write-question-start-3
+    (λ c. omega (arith, output-in (c .before .before .before .before .before .before .before)))
+    (λ c. omega (arith, output-in (c .before .before .before .before .before .before .before)))
     (λ c. search needs)
     write-question-requires
     (λ c κs. search needs)
@@ -161,7 +149,7 @@ write-list-spec =
     (λ c. search needs)
     (λ c. search needs)
     loop-again
-    cast-count
+    (λ c. omega (arith, c .before .before .before .before .before .before .pre .1 .0))
     (λ c κs. c .before .before .before .before .before .before .before .pre .1 .0)
     put-word-requires
     same-length

@@ -7,10 +7,11 @@ use lib.ListN.{length, take, drop}
 use lib.Seq.{take-all}
 use denote.Ref.{now}
 use Rattle.sheet.specs.Sheet.{digits, reliabilities, question, question-words}
+use Rattle.sheet.proofs.Forms.{row-form}
 use Rattle.sheet.proofs.Judging.{question-long-le}
 use Rattle.sheet_writer.specs.Within.{begun}
 use Rattle.sheet_writer.proofs.Packing.{begun-none, begun-next}
-use Rattle.sheet_writer.proofs.Questions.{words-length, row-form}
+use Rattle.sheet_writer.proofs.Questions.{words-length}
 use borrow.Author.Needs.{needs}
 use native.Mathlib.Omega.{arith}
 use Rattle.sheet_writer.proofs.write_question.Statement.{statement}
@@ -35,20 +36,11 @@ inside c =
 add-n : tie.Need-add-n Inv-loop μ-loop
 add-n c = let k : ℕ = c .before .before .before .args .code in omega (arith, c .question-words-of .ensures, question-long-le k)
 
-loop-holds : tie.Need-loop-holds Inv-loop μ-loop
-loop-holds c = (omega arith, refl, sym (begun-none (now (c .before .before .before .args .output))))
-
-question-word-requires : tie.Need-question-word-requires Inv-loop μ-loop
-question-word-requires c κs = let s = c .before .before .before .before .before in (row-form, (s .pre .0, inside c))
-
 put-word-requires : tie.Need-put-word-requires Inv-loop μ-loop
 put-word-requires c κs = let a = c .before .before .before in let s = a .before .before .before .before in omega (arith, inside (c .before .before), a .loop .inv .1, s .pre .1)
 
 add-j : tie.Need-add-j Inv-loop μ-loop
 add-j c = let i = c .before .before .before .before .before in omega (arith, inside i, i .before .before .before .before .before .pre .1)
-
-loop-less : tie.Need-loop-less Inv-loop μ-loop
-loop-less c = let i = c .before .before .before .before .before in omega (arith, inside i)
 
 loop-again : tie.Need-loop-again Inv-loop μ-loop
 loop-again c = let p = c .before .before in let i = p .before .before .before in let a = i .before in (
@@ -73,11 +65,11 @@ write-question-spec =
     μ-loop
     (λ c κs. search needs)
     add-n
-    loop-holds
-    question-word-requires
+    (λ c. (omega arith, refl, sym (begun-none (now (c .before .before .before .args .output)))))
+    (λ c κs. let s = c .before .before .before .before .before in (row-form, (s .pre .0, inside c)))
     put-word-requires
     add-j
-    loop-less
+    (λ c. let i = c .before .before .before .before .before in omega (arith, inside i))
     loop-again
     (λ c. c .before .loop .inv .1)
     returns)

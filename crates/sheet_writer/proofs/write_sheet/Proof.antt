@@ -15,9 +15,6 @@ bound c =
     let e = c .before .before .before .before in let s = e .before .before .before .before .before .args in
     omega (arith, c .needed .ensures, needed-le (now (s .codes)), e .if1 .left)
 
-returns : tie.Need-returns
-returns c = refuses _ _ _ _ _ 12 (too-many _ _ _ _ _ (c .if1 .taken)) (λ z. omega (arith, z))
-
 returns-2 : tie.Need-returns-2
 returns-2 c = refuses _ _ _ _ _ 12 (unequal _ _ _ _ _ (c .before .if1 .left) (c .if2 .taken)) (λ z. omega (arith, z))
 
@@ -52,7 +49,7 @@ pub write-sheet-spec : {M : Type 1} → statement M
 write-sheet-spec =
     tie.close
     (tie.spec
-    returns
+    (λ c. refuses _ _ _ _ _ 12 (too-many _ _ _ _ _ (c .if1 .taken)) (λ z. omega (arith, z)))
     returns-2
     (λ c κs. search needs)
     returns-3

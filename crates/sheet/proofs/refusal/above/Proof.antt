@@ -13,9 +13,6 @@ Inv-loop v base n rest₀ left₀ rest left = v / base ^ n ≡ rest / base ^ lef
 abbrev μ-loop : tie.MeasureT-loop
 μ-loop v base n rest₀ left₀ rest left = left
 
-loop-holds : tie.Need-loop-holds Inv-loop μ-loop
-loop-holds c = refl
-
 loop-again : tie.Need-loop-again Inv-loop μ-loop
 loop-again c = let b = c .before in b .loop .inv ∙ above-step (b .loop .rest) (b .before .args .base) (b .loop .left) (c .loop-test .taken)
 
@@ -24,4 +21,4 @@ returns c = let b = c .before in sym (b .loop .inv ∙ above-none (b .loop .rest
 
 pub above-spec : {M : Type 1} → statement M
 above-spec =
-    tie.close (tie.spec Inv-loop μ-loop loop-holds (λ c. search needs) (λ c. search needs) (λ c. search needs) loop-again returns)
+    tie.close (tie.spec Inv-loop μ-loop (λ c. refl) (λ c. search needs) (λ c. search needs) (λ c. search needs) loop-again returns)

@@ -25,15 +25,6 @@ turn c =
     b .loop .inv ∙ outside-step (s .low) (s .high) (s .base) (b .loop .left) (b .loop .rest) (c .before .loop-test .taken)
     ∙ ap (λ (x : Bool). x && outside (s .low) (s .high) (digits (s .base) (b .loop .left - 1) (b .loop .rest / s .base))) (sym (c .is-outside .ensures))
 
-loop-holds : tie.Need-loop-holds Inv-loop μ-loop
-loop-holds c = refl
-
-returns : tie.Need-returns Inv-loop μ-loop
-returns c = sym (turn (c .before) ∙ rw (not-true (c .before .is-outside .result) (c .if1 .taken)))
-
-loop-again : tie.Need-loop-again Inv-loop μ-loop
-loop-again c = turn (c .before) ∙ rw (not-false (c .before .is-outside .result) (c .if1 .left))
-
 returns-2 : tie.Need-returns-2 Inv-loop μ-loop
 returns-2 c = let b = c .before in sym (b .loop .inv ∙ outside-none (b .before .args .low) (b .before .args .high) (b .before .args .base) (b .loop .left) (b .loop .rest) (c .loop-test .left))
 
@@ -43,12 +34,12 @@ all-outside-spec =
     (tie.spec
     Inv-loop
     μ-loop
-    loop-holds
+    (λ c. refl)
     (λ c. search needs)
     (λ c κs. search needs)
-    returns
+    (λ c. sym (turn (c .before) ∙ rw (not-true (c .before .is-outside .result) (c .if1 .taken))))
     (λ c. search needs)
     (λ c. search needs)
     (λ c. search needs)
-    loop-again
+    (λ c. turn (c .before) ∙ rw (not-false (c .before .is-outside .result) (c .if1 .left)))
     returns-2)

@@ -4,11 +4,5 @@ use borrow.Author.Tests.{lt-ltb, le-ltb}
 use Rattle.sheet.proofs.refusal.is_outside.Statement.{statement}
 use Rattle.sheet.proofs.refusal.is_outside.Tie as tie
 
-returns : tie.Need-returns
-returns c = rw (lt-ltb _ _ (c .if1 .taken))
-
-returns-2 : tie.Need-returns-2
-returns-2 c = rw (le-ltb _ _ (c .if1 .left))
-
 pub is-outside-spec : {M : Type 1} → statement M
-is-outside-spec = tie.close (tie.spec returns returns-2)
+is-outside-spec = tie.close (tie.spec (λ c. rw (lt-ltb _ _ (c .if1 .taken))) (λ c. rw (le-ltb _ _ (c .if1 .left))))

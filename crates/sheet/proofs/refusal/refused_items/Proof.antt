@@ -39,17 +39,11 @@ turn c =
     ∙ ap (λ (x : ℕ). first x (left-refusal (s .f) (s .bad) (s .low) (s .high) (now (s .sheet)) (a .loop .left - s .f .each) (a .loop .i + 1)))
     (sym (c .refused-word .ensures ∙ ap (word-refusal (s .f) (s .bad) (outside (s .low) (s .high)) (a .loop .left)) w))
 
-loop-holds : tie.Need-loop-holds Inv-loop μ-loop
-loop-holds c = refl
-
 returns : tie.Need-returns Inv-loop μ-loop
 returns c = let a = c .before .before in let s = a .before .before .args in
     sym (a .loop .inv
     ∙ items-out (s .f) (a .before .before .pre .holds) (s .bad) (outside (s .low) (s .high)) (as-words (now (s .sheet))) (a .loop .left) (a .loop .i) (c .before .loop-test .taken)
     (omega (arith, as-words-length (now (s .sheet)), c .if1 .taken)))
-
-returns-2 : tie.Need-returns-2 Inv-loop μ-loop
-returns-2 c = sym (turn (c .before) ∙ first-some (c .before .refused-word .result) _ (c .if2 .taken))
 
 loop-again : tie.Need-loop-again Inv-loop μ-loop
 loop-again c = let b = c .before .before in let l = b .before .before .before .before .loop in let s = b .before .before .before .before .before .before .args in
@@ -67,11 +61,11 @@ refused-items-spec =
     (tie.spec
     Inv-loop
     μ-loop
-    loop-holds
+    (λ c. refl)
     returns
     (λ c κs. search needs)
     (λ c κs. search needs)
-    returns-2
+    (λ c. sym (turn (c .before) ∙ first-some (c .before .refused-word .result) _ (c .if2 .taken)))
     (λ c. search needs)
     (λ c κs. search needs)
     (λ c. search needs)

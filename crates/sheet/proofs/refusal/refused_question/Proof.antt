@@ -37,20 +37,8 @@ returns : tie.Need-returns
 returns c = let s = c .before .before .before .args in let a = c .before in
     sym (code-unknown (s .f) (s .code) (drop (s .at) (as-words (now (s .sheet)))) (sym (a .is-code .ensures) ∙ not-true (a .is-code .result) (c .if1 .taken)))
 
-refused-row-requires : tie.Need-refused-row-requires
-refused-row-requires c κs = let s = c .before .before .before .before in (s .pre .0, (s .pre .1 .0, fine c))
-
-returns-2 : tie.Need-returns-2
-returns-2 c = sym (parts (c .before) ∙ first-some (c .before .refused-row .result) _ (c .if2 .taken))
-
-row-words-of-requires : tie.Need-row-words-of-requires
-row-words-of-requires c κs = (c .before .before .before .before .before .before .pre .0, fine (c .before .before))
-
 add-refused-symbols : tie.Need-add-refused-symbols
 add-refused-symbols c = let w = c .before .before .before in omega (arith, c .row-words-of .ensures, row-words-le (w .before .before .before .before .args .f) (w .before .before .before .before .pre .0) (w .width-of .result) (fine w))
-
-refused-symbols-requires : tie.Need-refused-symbols-requires
-refused-symbols-requires c κs = fine (c .before .before .before)
 
 returns-3 : tie.Need-returns-3
 returns-3 c = let r = c .before .before .before in let s = r .before .before .before .before .before .args in
@@ -68,9 +56,9 @@ refused-question-spec =
     (λ c κs. search needs)
     returns
     (λ c κs. search needs)
-    refused-row-requires
-    returns-2
-    row-words-of-requires
+    (λ c κs. let s = c .before .before .before .before in (s .pre .0, (s .pre .1 .0, fine c)))
+    (λ c. sym (parts (c .before) ∙ first-some (c .before .refused-row .result) _ (c .if2 .taken)))
+    (λ c κs. (c .before .before .before .before .before .before .pre .0, fine (c .before .before)))
     add-refused-symbols
-    refused-symbols-requires
+    (λ c κs. fine (c .before .before .before))
     returns-3)

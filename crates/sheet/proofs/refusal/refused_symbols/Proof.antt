@@ -14,9 +14,6 @@ use borrow.Author.Needs.{needs}
 use Rattle.sheet.proofs.refusal.refused_symbols.Statement.{statement}
 use Rattle.sheet.proofs.refusal.refused_symbols.Tie as tie
 
-refused-items-requires : tie.Need-refused-items-requires
-refused-items-requires c κs = symbols-fine
-
 returns : tie.Need-returns
 unfolding symbol-refusal symbol-words
 returns c = let s = c .before .before .before .before .args in
@@ -26,4 +23,4 @@ returns c = let s = c .before .before .before .before .args in
     ∙ same-items symbols (symbols-fine .some) 6 (outside (2 ^ s .m) 16) (symbols-good (s .m)) (symbols-outside (s .m)) _ _ ws
 
 pub refused-symbols-spec : {M : Type 1} → statement M
-refused-symbols-spec = tie.close (tie.spec (λ c κs. search needs) (λ c. search needs) (λ c κs. search needs) refused-items-requires returns)
+refused-symbols-spec = tie.close (tie.spec (λ c κs. search needs) (λ c. search needs) (λ c κs. search needs) (λ c κs. symbols-fine) returns)

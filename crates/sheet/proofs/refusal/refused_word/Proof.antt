@@ -43,12 +43,6 @@ returns-2 : tie.Need-returns-2
 returns-2 c = let s = c .before .before .before .before .before .before .args in
     sym (not-clear (s .f) (s .bad) (outside (s .low) (s .high)) (s .n) (s .w) (right (c .before .before .before .before)) (λ e. c .if2 .taken (rest (c .before) ∙ e)))
 
-returns-3 : tie.Need-returns-3
-returns-3 c = sym (last (c .before) true (c .if3 .taken))
-
-returns-4 : tie.Need-returns-4
-returns-4 c = sym (last (c .before) false (c .if3 .left))
-
 pub refused-word-spec : {M : Type 1} → statement M
 refused-word-spec =
     tie.close
@@ -60,5 +54,5 @@ refused-word-spec =
     (λ c κs. search needs)
     returns-2
     (λ c κs. search needs)
-    returns-3
-    returns-4)
+    (λ c. sym (last (c .before) true (c .if3 .taken)))
+    (λ c. sym (last (c .before) false (c .if3 .left))))

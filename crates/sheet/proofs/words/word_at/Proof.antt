@@ -8,9 +8,6 @@ use borrow.Author.Needs.{needs}
 use Rattle.sheet.proofs.words.word_at.Statement.{statement}
 use Rattle.sheet.proofs.words.word_at.Tie as tie
 
-returns : tie.Need-returns
-returns c = let s = c .before .before .args in sym (no-word (now (s .sheet)) (s .i) (c .if1 .taken))
-
 returns-2 : tie.Need-returns-2
 returns-2 c =
     let s = c .before .before .before .before .before .before .before .args in
@@ -20,7 +17,7 @@ pub word-at-spec : {M : Type 1} → statement M
 word-at-spec =
     tie.close
     (tie.spec
-    returns
+    (λ c. let s = c .before .before .args in sym (no-word (now (s .sheet)) (s .i) (c .if1 .taken)))
     (λ c. search needs)
     (λ c. search needs)
     (λ c. search needs)

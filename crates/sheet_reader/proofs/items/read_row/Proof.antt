@@ -27,12 +27,6 @@ Inv-loop sheet at f row₀ base i₀ row i = Filled (row-here f sheet at (length
 abbrev μ-loop : tie.MeasureT-loop
 μ-loop sheet at f row₀ base i₀ row i = length row₀ - i
 
-item-at-requires : tie.Need-item-at-requires Inv-loop μ-loop
-item-at-requires c κs = (c .before .before .before .pre .0, search needs)
-
-signed-requires : tie.Need-signed-requires Inv-loop μ-loop
-signed-requires c κs = (c .item-at .ensures .small, c .before .before .before .before .pre .0 .small)
-
 loop-again : tie.Need-loop-again Inv-loop μ-loop
 loop-again c =
     let b = c .before in let a = b .before .before in let s = a .before .before in let f = s .args .f in let n : ℕ = length (now (s .args .row)) in
@@ -53,8 +47,8 @@ read-row-spec =
     Inv-loop
     μ-loop
     (λ c. filled-none)
-    item-at-requires
-    signed-requires
+    (λ c κs. (c .before .before .before .pre .0, search needs))
+    (λ c κs. (c .item-at .ensures .small, c .before .before .before .before .pre .0 .small))
     (λ c. search needs)
     (λ c. search needs)
     (λ c. search needs)

@@ -22,12 +22,6 @@ Inv-loop sheet at word₀ i₀ word i = Filled (word-here sheet at (length word�
 abbrev μ-loop : tie.MeasureT-loop
 μ-loop sheet at word₀ i₀ word i = length word₀ - i
 
-item-at-requires : tie.Need-item-at-requires Inv-loop μ-loop
-item-at-requires c κs = (symbols-fine, search needs)
-
-cast-word : tie.Need-cast-word Inv-loop μ-loop
-cast-word c = omega (arith, c .item-at .ensures .small)
-
 loop-again : tie.Need-loop-again Inv-loop μ-loop
 loop-again c = let a = c .before .before in let s = a .before .before .before in let n : ℕ = length (now (s .args .word)) in
     filled-more 0 _ (items-from-length symbols symbols-fine n _) (search needs) (c .item-at .ensures .is n (search needs)) (a .loop .inv)
@@ -43,8 +37,8 @@ read-symbols-spec =
     Inv-loop
     μ-loop
     (λ c. filled-none)
-    item-at-requires
-    cast-word
+    (λ c κs. (symbols-fine, search needs))
+    (λ c. omega (arith, c .item-at .ensures .small))
     (λ c. search needs)
     (λ c. search needs)
     (λ c. search needs)

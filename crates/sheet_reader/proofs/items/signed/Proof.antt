@@ -8,11 +8,8 @@ use Rattle.sheet_reader.proofs.items.signed.Tie as tie
 returns : tie.Need-returns
 returns c = let s = c .before in low-half (s .args .base) (s .args .d) (s .pre .1) (s .pre .0) (c .if1 .taken)
 
-sub-result : tie.Need-sub-result
-sub-result c = let s = c .before in high-fits (s .args .base) (s .args .d) (s .pre .1) (s .pre .0)
-
 returns-2 : tie.Need-returns-2
 returns-2 c = let s = c .before in high-is (s .args .base) (s .args .d) (s .pre .1) (s .pre .0) (c .if1 .left)
 
 pub signed-spec : {M : Type 1} → statement M
-signed-spec = tie.close (tie.spec (λ c. search needs) returns (λ c. search needs) (λ c. search needs) sub-result returns-2)
+signed-spec = tie.close (tie.spec (λ c. search needs) returns (λ c. search needs) (λ c. search needs) (λ c. let s = c .before in high-fits (s .args .base) (s .args .d) (s .pre .1) (s .pre .0)) returns-2)

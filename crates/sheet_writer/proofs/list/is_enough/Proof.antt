@@ -8,8 +8,5 @@ use Rattle.sheet_writer.proofs.list.is_enough.Tie as tie
 returns : tie.Need-returns
 returns c = let s = c .before .args in sym (fits-last (s .after) (s .left) (s .needed) (c .if1 .taken))
 
-returns-2 : tie.Need-returns-2
-returns-2 c = let s = c .before .args in sym (fits-more (s .after) (s .left) (s .needed) (c .if1 .left))
-
 pub is-enough-spec : {M : Type 1} → statement M
-is-enough-spec = tie.close (tie.spec returns returns-2)
+is-enough-spec = tie.close (tie.spec returns (λ c. let s = c .before .args in sym (fits-more (s .after) (s .left) (s .needed) (c .if1 .left))))

@@ -60,12 +60,6 @@ slice-aggregate-symbols-good : tie.Need-slice-aggregate-symbols-good
 slice-aggregate-symbols-good c = let o = c .before .before .before .before in let l = o .before .before .before .before in let s = l .before .before .before .args in
     sym (length-take-le (l .long-of .result) (now (s .words)) (subst (λ (n : ℕ). n ≤ length (now (s .words))) (sym (l .long-of .ensures)) (enough (s .after) (length (now (s .words))) (long (s .m)) (word-fits-now o))))
 
-returns-4 : tie.Need-returns-4
-returns-4 c = sym (last (c .before) false (not-true (c .before .symbols-good .result) (c .if4 .taken)))
-
-returns-5 : tie.Need-returns-5
-returns-5 c = sym (last (c .before) true (not-false (c .before .symbols-good .result) (c .if4 .left)))
-
 pub refused-parts-spec : {M : Type 1} → statement M
 refused-parts-spec =
     tie.close
@@ -81,5 +75,5 @@ refused-parts-spec =
     returns-3
     slice-aggregate-symbols-good
     (λ c κs. search needs)
-    returns-4
-    returns-5)
+    (λ c. sym (last (c .before) false (not-true (c .before .symbols-good .result) (c .if4 .taken))))
+    (λ c. sym (last (c .before) true (not-false (c .before .symbols-good .result) (c .if4 .left)))))

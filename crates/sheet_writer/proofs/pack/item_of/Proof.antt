@@ -38,12 +38,6 @@ inside c =
 element : (c : tie.After-unsigned-arg) → let s = c .before .before .before .before .before .args in let r : ℤ = getD (now (s .row)) (s .i) (pos 0) in toZ w16 (ofZ w16 r) ≡ r
 element c = toZ-ofZ (record { sfits = c .unsigned-arg .given })
 
-mul-unsigned : tie.Need-mul-unsigned
-mul-unsigned c = let h = inside c in search needs
-
-shared-slice-copy-out-unsigned : tie.Need-shared-slice-copy-out-unsigned
-shared-slice-copy-out-unsigned c = inside c
-
 unsigned-requires : tie.Need-unsigned-requires
 unsigned-requires c κs = let s = c .before .before .before .before .before in let p = s .pre .0 in
     (ap reliability-good (element c) ∙ row-good-at (now (s .args .row)) (s .args .i) (p .row-fine) (inside (c .before)), (p .row-wide (c .before .if1 .left), p .form .small))
@@ -60,7 +54,7 @@ item-of-spec =
     shared-slice-read-result
     cast-result
     returns
-    mul-unsigned
-    shared-slice-copy-out-unsigned
+    (λ c. let h = inside c in search needs)
+    inside
     unsigned-requires
     returns-2)

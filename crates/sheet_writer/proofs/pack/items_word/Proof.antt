@@ -45,37 +45,16 @@ less : (c : tie.In-loop Inv-loop μ-loop) → let a = c .before in let s = st a 
     a .loop .v * s .args .f .base + getD (list s) (s .args .f .each * s .args .k + (a .loop .i - 1)) 0 < 268435456
 less c = let a = c .before in let s = st a in subst (λ (x : ℕ). x < 268435456) (sym (more c)) (packed-fits (s .pre .0) (s .args .f .each * s .args .k) (a .loop .i - 1))
 
-mul-from : tie.Need-mul-from Inv-loop μ-loop
-mul-from c = omega (arith, c .before .pre .1 .1)
-
-sub-least : tie.Need-sub-least Inv-loop μ-loop
-sub-least c = c .before .pre .1 .1
-
 loop-holds : tie.Need-loop-holds Inv-loop μ-loop
 loop-holds c = let s = c .before .before in let f = s .args .f in let es : List ℕ = part f (list s) (s .args .k) in
     let n : c .least .result ≡ length es = omega (arith, c .least .ensures, length-take (f .each) (drop (f .each * s .args .k) (list s)), length-drop (f .each * s .args .k) (list s), s .pre .1 .0) in
     (omega arith, sym (packed-end (f .base) es (c .least .result) (omega arith)))
 
-mul-v : tie.Need-mul-v Inv-loop μ-loop
-mul-v c = omega (arith, less c)
-
-add-item-of : tie.Need-add-item-of Inv-loop μ-loop
-add-item-of c = let a = c .before in omega (arith, part-long (st a), a .loop .inv .0)
-
 item-of-requires : tie.Need-item-of-requires Inv-loop μ-loop
 item-of-requires c κs = let a = c .before in let s = st a in (s .pre .0, omega (arith, part-long s, a .loop .inv .0, c .loop-test .taken, s .pre .1 .0))
 
-add-v : tie.Need-add-v Inv-loop μ-loop
-add-v c = omega (arith, less (c .before), c .item-of .ensures)
-
 loop-again : tie.Need-loop-again Inv-loop μ-loop
 loop-again c = let i = c .before in (omega (arith, i .before .loop .inv .0), omega (arith, more i, c .item-of .ensures))
-
-mul-result : tie.Need-mul-result Inv-loop μ-loop
-mul-result c = omega (arith, st (c .before) .pre .0 .form .kinds)
-
-add-result : tie.Need-add-result Inv-loop μ-loop
-add-result c = omega (arith, st (c .before) .pre .0 .form .kinds, small (c .before))
 
 returns : tie.Need-returns Inv-loop μ-loop
 unfolding worded
@@ -88,17 +67,17 @@ items-word-spec =
     (tie.spec
     Inv-loop
     μ-loop
-    mul-from
-    sub-least
+    (λ c. omega (arith, c .before .pre .1 .1))
+    (λ c. c .before .pre .1 .1)
     (λ c κs. search needs)
     loop-holds
     (λ c. search needs)
-    mul-v
-    add-item-of
+    (λ c. omega (arith, less c))
+    (λ c. let a = c .before in omega (arith, part-long (st a), a .loop .inv .0))
     item-of-requires
-    add-v
+    (λ c. omega (arith, less (c .before), c .item-of .ensures))
     (λ c. search needs)
     loop-again
-    mul-result
-    add-result
+    (λ c. omega (arith, st (c .before) .pre .0 .form .kinds))
+    (λ c. omega (arith, st (c .before) .pre .0 .form .kinds, small (c .before)))
     returns)

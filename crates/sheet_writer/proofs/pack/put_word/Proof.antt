@@ -8,9 +8,6 @@ use borrow.Author.Needs.{needs}
 use Rattle.sheet_writer.proofs.pack.put_word.Statement.{statement}
 use Rattle.sheet_writer.proofs.pack.put_word.Tie as tie
 
-returns : tie.Need-returns
-returns c = let n = c .args .i in four-stores (now (c .args .output)) _ (c .args .w) (c .pre)
-
 pub put-word-spec : {M : Type 1} → statement M
 put-word-spec =
     tie.close
@@ -28,4 +25,4 @@ put-word-spec =
     (λ c. search needs)
     (λ c. simp length-set (omega arith))
     (λ c. simp length-set)
-    returns)
+    (λ c. let n = c .args .i in four-stores (now (c .args .output)) _ (c .args .w) (c .pre)))

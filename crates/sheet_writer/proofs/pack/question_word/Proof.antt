@@ -24,25 +24,18 @@ size : (c : tie.After-row-words-of) → let s = c .before .before .before .befor
 size c = c .row-words-of .ensures ∙ ap (row-words (c .before .before .before .before .args .f)) (c .before .width-of .ensures)
 
 mul-result-2 : tie.Need-mul-result-2
-unfolding question
 mul-result-2 c = let s = c .before .before in omega (arith, code-lt (s .args .code) (good s .known))
 
 add-result : tie.Need-add-result
-unfolding question
 add-result c = let s = c .before .before in omega (arith, code-lt (s .args .code) (good s .known), good s .small)
 
 add-result-2 : tie.Need-add-result-2
-unfolding question
 add-result-2 c = let s = c .before .before in omega (arith, code-lt (s .args .code) (good s .known), good s .small)
-
-returns : tie.Need-returns
-returns c = sym (word-head _ _ _ _ _ _ (c .if1 .taken))
 
 row-words-of-requires : tie.Need-row-words-of-requires
 row-words-of-requires c κs = let s = c .before .before .before in (s .pre .0 .form, ap width-good (c .width-of .ensures) ∙ width-fine (s .args .code))
 
 items-word-requires : tie.Need-items-word-requires
-unfolding question
 items-word-requires c κs = let k = c .before in let e = k .before .before in let s = e .before .before in let a = s .args in let f = a .f in (
   packs-row f (now (a .row)) (now (a .word)) (s .pre .0) (good s .row-fine),
   (
@@ -57,7 +50,6 @@ returns-2 c = let k = c .before .before in let e = k .before .before in let s = 
     ∙ sym (word-row _ _ _ _ _ _ (e .if1 .left) (subst (λ (x : ℕ). a .j ≤ x) (size k) (c .before .if2 .taken)))
 
 items-word-requires-2 : tie.Need-items-word-requires-2
-unfolding question
 items-word-requires-2 c κs = let k = c .before in let s = k .before .before .before .before in let a = s .args in (
   packs-symbols (width (a .code)) (now (a .row)) (now (a .word)) (width-le (a .code) (good s .known)) (good s .row-fine) (good s .word-fine),
   (
@@ -82,7 +74,7 @@ question-word-spec =
     mul-result-2
     add-result
     add-result-2
-    returns
+    (λ c. sym (word-head _ _ _ _ _ _ (c .if1 .taken)))
     (λ c κs. search needs)
     row-words-of-requires
     (λ c. search needs)
