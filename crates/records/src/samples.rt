@@ -52,27 +52,25 @@ const QUANTISED: [i16; 21] = [
 ];
 
 pub fn agree() -> Tally {
-    let taken = on_record();
-    let other = with_nan();
-    values(&taken).plus(refusals(&other))
+    values(on_record()).plus(refusals(with_nan()))
 }
 
-fn values(samples: &[f32; 21]) -> Tally {
+fn values(samples: [f32; 21]) -> Tally {
     let row = QUANTISED;
     let kept = [9i16; 21];
-    gives(1, samples, 0, &row)
-        .plus(gives(2, samples, 0, &row))
-        .plus(gives(4, samples, 1, &kept))
-        .plus(gives(3, samples, 2, &kept))
+    gives(1, samples, 0, row, 21)
+        .plus(gives(2, samples, 0, row, 21))
+        .plus(gives(4, samples, 1, kept, 21))
+        .plus(gives(3, samples, 2, kept, 21))
 }
 
 // The last of the samples is not a number.
-fn refusals(samples: &[f32; 21]) -> Tally {
+fn refusals(samples: [f32; 21]) -> Tally {
     let kept = [9i16; 21];
-    gives(1, samples, 7, &kept)
-        .plus(gives(0, samples, 1, &kept))
-        .plus(gives(3, samples, 2, &kept))
-        .plus(gives(1, samples, 4, &kept[..20]))
+    gives(1, samples, 7, kept, 21)
+        .plus(gives(0, samples, 1, kept, 21))
+        .plus(gives(3, samples, 2, kept, 21))
+        .plus(gives(1, samples, 4, kept, 20))
 }
 
 fn with_nan() -> [f32; 21] {
@@ -98,14 +96,11 @@ fn on_record() -> [f32; 21] {
     samples
 }
 
-// Quantising into nines answers a number and leaves a row: a comparison a place.
-fn gives(code: u32, samples: &[f32], number: u32, row: &[i16]) -> Tally {
-    let n = row.len();
+// Quantising into so many nines answers a number and leaves the start of a row: a comparison a place.
+fn gives(code: u32, samples: [f32; 21], number: u32, row: [i16; 21], long: usize) -> Tally {
     let mut space = [9i16; 21];
-    if 21 < n {
-        return Tally::none().with(false);
-    }
-    gives_in(code, samples, number, row, &mut space[..n])
+    let a = long % 22;
+    gives_in(code, &samples, number, &row[..a], &mut space[..a])
 }
 
 fn gives_in(code: u32, samples: &[f32], number: u32, row: &[i16], space: &mut [i16]) -> Tally {

@@ -6,21 +6,8 @@ use Rattle.code.specs.Code.{code-good, width, roots}
 use Rattle.split.specs.Split.{cosets}
 use Rattle.configurations.specs.Configurations.{configurations}
 use borrow.Author.Needs.{needs}
-use mathlib.Core.Path.{refl}
-use native.Mathlib.Omega.{arith}
-use Rattle.code.specs.Code.{code-good, width, roots}
-use Rattle.split.specs.Split.{cosets}
-use Rattle.configurations.specs.Configurations.{configurations}
-use borrow.Author.Needs.{needs}
 use Rattle.records.proofs.splits.entry.Statement.{statement}
 use Rattle.records.proofs.splits.entry.Tie as tie
-use Rattle.configurations.proofs.configuration.Reads as configuration-reads
-use Rattle.records.proofs.splits.is_generated.Reads as is-generated-reads
-use Rattle.records.proofs.splits.is_generated_at_square.Reads as is-generated-at-square-reads
-use Rattle.records.proofs.splits.is_tuple.Reads as is-tuple-reads
-use Rattle.records.proofs.tally.Tally.none.Reads as none-reads
-use Rattle.records.proofs.tally.Tally.with.Reads as with-reads
-use Rattle.split.proofs.leader.Reads as leader-reads
 
 configuration-requires : tie.Need-configuration-requires
 unfolding code-good configurations
