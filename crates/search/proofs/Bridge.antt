@@ -12,7 +12,7 @@ use lib.Dec.{eqb, leb, ltb}
 use lib.ListN.{length, getD, replicate, length-replicate, List·getD-append}
 use lib.Seq.{ext-getD, getD-append-add}
 use lib.IntN.{ℤ, pos}
-use borrow.Author.Tests.{le-ltb}
+use borrow.Author.Tests.{le-ltb, ne-eqb}
 use Rattle.field.specs.Field.{width-good, xor}
 use Rattle.field.proofs.Tests.{widths, to-T}
 use Rattle.field.proofs.Xor as X
@@ -21,8 +21,11 @@ use Rattle.code.specs.Bits.{bit-at, row-long}
 use Rattle.code.specs.Promise.{Codes-inside}
 use Rattle.code.proofs.Promise.{codes, codes-inside}
 use Rattle.code.proofs.Words.{Below, good, Codeword-parts, codeword-parts}
-use Rattle.split.specs.Split.{layer, syndrome, syndromes, syndromes-from, cosets, padded}
-use Rattle.split.proofs.Layers.{layer-below, layer-length}
+use Rattle.split.specs.Split.{layer, syndrome, columns-from, syndromes, padded, Binary}
+use Rattle.split.specs.Promise.{Syndrome-columns}
+use Rattle.split.proofs.Layers.{all-of, layer-length, layer-binary}
+use Rattle.split.proofs.Syndromes.{place-at}
+use Rattle.split.proofs.Columns.{syndrome-columns}
 use Rattle.configurations.specs.Configurations.{configurations, configuration, Configuration}
 use Rattle.configurations.specs.Promise.{Codewords-configured, Configurations}
 use Rattle.configurations.proofs.Valid.{codewords-configured, configurations-right, syndromes-length}
@@ -35,28 +38,12 @@ use Rattle.lanes.proofs.Rows.{four}
 use Rattle.glue.specs.Walk.{sum4}
 use Rattle.glue.proofs.Engine.{over}
 use Rattle.search.specs.Within.{Spelt}
-use Rattle.search.proofs.Heads.{adds}
 use Rattle.search.proofs.Layering.{by-layers}
 use Rattle.search.proofs.Weave.{weave, weave-long, weave-layer, weave-below}
-
--- at most four roots
-few : (c : ℕ) → code-good c ≡ true → roots c ≤ 4
-unfolding roots
-few = codes (λ c. roots c ≤ 4) (omega arith) (omega arith) (omega arith)
 
 -- place j of configuration k, 0 where m = 3 has none
 abbrev pub conf : (code k j : ℕ) → ℕ
 conf c k j = getD (padded (configuration c k)) j 0
-
-at-syndromes : (k j m r i : ℕ) (ws : List ℕ) → i < k → getD (syndromes-from k j m r ws) i 0 ≡ syndrome m r (layer (j + i) ws)
-unfolding syndromes-from
-at-syndromes zero j m r i ws h = absurd (not-suc-le-zero h)
-at-syndromes (suc k) j m r zero ws h = ap (λ (x : ℕ). syndrome m r (layer x ws)) (omega arith)
-at-syndromes (suc k) j m r (suc i) ws h = at-syndromes k (suc j) m r i ws (le-of-suc-le-suc h) ∙ ap (λ (x : ℕ). syndrome m r (layer x ws)) (omega arith)
-
-at-syndrome : (m r i : ℕ) (ws : List ℕ) → i < m → getD (syndromes m r ws) i 0 ≡ syndrome m r (layer i ws)
-unfolding syndromes
-at-syndrome m r i ws h = at-syndromes m 0 m r i ws h ∙ ap (λ (x : ℕ). syndrome m r (layer x ws)) (omega arith)
 
 zeros-at : (k i : ℕ) → _≡_ {A = ℕ} (getD (replicate k 0) i 0) 0
 zeros-at zero i = refl
@@ -92,6 +79,18 @@ free-two i (b ∷ bs) h = (h .0, free-two (suc i) bs (h .1))
 pub two-free : (i : ℕ) (bs : List ℕ) → Below 2 bs → Held free i bs
 two-free i [] h = tt
 two-free i (b ∷ bs) h = (h .0, two-free (suc i) bs (h .1))
+
+-- what bits add up to in the trellis is their syndrome
+module _ {m r : ℕ} {rs : List ℤ} {hs zs os : List ℕ} (y : Spelt m r rs hs zs os) (j : ℕ) where
+  adds-from : (i : ℕ) (bs : List ℕ) → i + length bs ≤ long m → syn (R.layer hs zs os j) i bs ≡ columns-from m r i bs
+  unfolding syn columns-from
+  adds-from i [] h = refl
+  adds-from i (zero ∷ bs) h = ap (xor 0) (adds-from (suc i) bs (omega arith))
+  adds-from i (suc b ∷ bs) h = rw (ne-eqb (suc b) 0 (λ e. omega arith)) (ap₂ xor (y .heads i (omega arith)) (adds-from (suc i) bs (omega arith)))
+
+  adds : width-good m ≡ true → (bs : List ℕ) → Binary m bs → syn (R.layer hs zs os j) 0 bs ≡ syndrome m r bs
+  unfolding Syndrome-columns
+  adds w bs b = adds-from 0 bs (omega (arith, b .count)) ∙ sym (syndrome-columns m r bs w b)
 
 -- a place above the width is 0
 pub conf-high : (c : ℕ) → code-good c ≡ true → (k : ℕ) → k < configurations c → (j : ℕ) → width c ≤ j → conf c k j ≡ 0
@@ -145,8 +144,8 @@ module _ (c : ℕ) (g : code-good c ≡ true) (rs : List ℤ) (l : length rs ≡
             ∙ sym (syn-zeros (L j) 0 (layer j ws) (high-layer (width c) j ws (pow-mono h) (p .symbols)))
         place ws p j (no h) =
             padded-in (syndromes (width c) (roots c) ws) j (omega (arith, syndromes-length (width c) (roots c) ws))
-            ∙ at-syndrome (width c) (roots c) j ws (omega arith)
-            ∙ sym (adds (width c) (roots c) w rs hs zs os y j (few c g) (layer j ws) (layer-below j ws) (layer-length j ws ∙ p .count))
+            ∙ place-at (width c) (roots c) j ws (omega arith)
+            ∙ sym (adds y j w (layer j ws) (layer-binary (width c) j ws (p .count)))
 
     -- NO CODEWORD WITH THE HELD BITS COSTS LESS than some configuration's tables
     pub lower : (ws : List ℕ) → is-codeword (width c) (roots c) ws ≡ true → ((j : ℕ) → j < 4 → Held (holds j) 0 (layer j ws)) →
@@ -213,9 +212,9 @@ module _ (c : ℕ) (g : code-good c ≡ true) (rs : List ℤ) (l : length rs ≡
             let l4 : i < 4 = under i li in
             sym (padded-in (configuration c k) i h)
             ∙ sym (la i l4 .sum)
-            ∙ adds (width c) (roots c) w rs hs zs os y i (few c g) (b i) (la i l4 .two) (la i l4 .count)
+            ∙ adds y i w (b i) (record { count = la i l4 .count; bits = all-of 2 (b i) (la i l4 .two) })
             ∙ ap (syndrome (width c) (roots c)) (sym (lays i l4))
-            ∙ sym (at-syndrome (width c) (roots c) i (weave b) li))
+            ∙ sym (place-at (width c) (roots c) i (weave b) li))
 
     -- a lane that costs less than big has such bits
     lane-there : (k : ℕ) → k < configurations c → (j : ℕ) → j < 4 → table holds j (conf c k j) < big → (bs : List ℕ) × Lane k j bs
