@@ -1,41 +1,39 @@
 -- From tables to codewords: over the configurations of a code, the least sum of the layers' tables is the least cost of a codeword, with bits held or not.
 -- Assumes nothing.
-use mathlib.Core.Path.{_≡_, refl, sym, ap, ap₂, _∙_, subst}
-use mathlib.Core.Bool.{Bool, true, false, cond, _&&_}
-use mathlib.Core.List.{List, [], _∷_, _++_}
-use Prim.Native.Nat.{ℕ, zero, suc, _+_, _-_, _*_, _/_, _%_, _^_, _≤_, _<_}
-use native.Mathlib.Nat.{not-suc-le-zero, le-of-suc-le-suc, le-antisymm, div-eq-of-lt, lt-of-lt-of-le}
+use mathlib.Core.Path.{_≡_, refl, sym, ap, ap₂, _∙_}
+use mathlib.Core.Bool.{Bool, true, cond}
+use mathlib.Core.List.{List, [], _∷_}
+use Prim.Native.Nat.{ℕ, zero, suc, _+_, _-_, _*_, _/_, _^_, _≤_, _<_}
+use native.Mathlib.Nat.{div-eq-of-lt, lt-of-lt-of-le}
 use native.Mathlib.Omega.{arith}
 use native.Mathlib.Decide.{decLe}
 use lib.Pow.{pow-mono}
-use lib.Dec.{eqb, leb, ltb}
 use lib.ListN.{length, getD, replicate, length-replicate, List·getD-append}
 use lib.Seq.{ext-getD, getD-append-add}
 use lib.IntN.{ℤ, pos}
 use borrow.Author.Tests.{le-ltb, ne-eqb}
 use Rattle.field.specs.Field.{width-good, xor}
-use Rattle.field.proofs.Tests.{widths, to-T}
+use Rattle.field.proofs.Tests.{widths}
 use Rattle.field.proofs.Xor as X
-use Rattle.code.specs.Code.{code-good, width, roots, long, symbols-good, is-codeword}
-use Rattle.code.specs.Bits.{bit-at, row-long}
+use Rattle.code.specs.Code.{code-good, width, roots, long, is-codeword}
+use Rattle.code.specs.Bits.{row-long}
 use Rattle.code.specs.Promise.{Codes-inside}
-use Rattle.code.proofs.Promise.{codes, codes-inside}
+use Rattle.code.proofs.Promise.{codes-inside}
 use Rattle.code.proofs.Words.{Below, good, Codeword-parts, codeword-parts}
 use Rattle.split.specs.Split.{layer, syndrome, columns-from, syndromes, padded, Binary}
 use Rattle.split.specs.Promise.{Syndrome-columns}
 use Rattle.split.proofs.Layers.{all-of, layer-length, layer-binary}
 use Rattle.split.proofs.Syndromes.{place-at}
 use Rattle.split.proofs.Columns.{syndrome-columns}
-use Rattle.configurations.specs.Configurations.{configurations, configuration, Configuration}
+use Rattle.configurations.specs.Configurations.{configurations, configuration}
 use Rattle.configurations.specs.Promise.{Codewords-configured, Configurations}
 use Rattle.configurations.proofs.Valid.{codewords-configured, configurations-right, syndromes-length}
 use Rattle.metric.specs.Cost.{costZero, cost}
-use Rattle.trellis.specs.Trellis.{Columns, Choice, either, only, pick, back, syn, Held, free, final}
+use Rattle.trellis.specs.Trellis.{Columns, Choice, back, syn, Held, free, final}
 use Rattle.trellis.specs.Trellis as T
 use Rattle.trellis.specs.Rows as R
 use Rattle.trellis.proofs.Trellis.{Attains, attained, reaches, none-less}
 use Rattle.lanes.proofs.Rows.{four}
-use Rattle.glue.specs.Walk.{sum4}
 use Rattle.glue.proofs.Engine.{over}
 use Rattle.search.specs.Within.{Spelt}
 use Rattle.search.proofs.Layering.{by-layers}
@@ -86,7 +84,7 @@ module _ {m r : ℕ} {rs : List ℤ} {hs zs os : List ℕ} (y : Spelt m r rs hs 
   unfolding syn columns-from
   adds-from i [] h = refl
   adds-from i (zero ∷ bs) h = ap (xor 0) (adds-from (suc i) bs (omega arith))
-  adds-from i (suc b ∷ bs) h = rw (ne-eqb (suc b) 0 (λ e. omega arith)) (ap₂ xor (y .heads i (omega arith)) (adds-from (suc i) bs (omega arith)))
+  adds-from i (suc b ∷ bs) h = rw (ne-eqb (suc b) 0 (λ e. omega arith)) (ap₂ xor (y .columns .heads i (omega arith)) (adds-from (suc i) bs (omega arith)))
 
   adds : width-good m ≡ true → (bs : List ℕ) → Binary m bs → syn (R.layer hs zs os j) 0 bs ≡ syndrome m r bs
   unfolding Syndrome-columns
@@ -123,7 +121,7 @@ module _ (c : ℕ) (g : code-good c ≡ true) (rs : List ℤ) (l : length rs ≡
       omega (
         arith,
         lane-free j u lj (suc i) bs (b .1) (omega arith),
-        y .zeros i j (omega arith) lj,
+        y .costs .zeros i j (omega arith) lj,
         ap (λ (t : Bool). costZero (cond t (getD rs (i * width c + j) (pos 0)) (pos 0))) (le-ltb j (width c) u),
       )
   lane-free j u lj i (suc x ∷ bs) b e = absurd (omega (arith, b .0))
@@ -159,7 +157,7 @@ module _ (c : ℕ) (g : code-good c ≡ true) (rs : List ℤ) (l : length rs ≡
             (f : (k : ℕ) × (k < configurations c) × ((j : ℕ) → j < 4 → conf c k j ≡ syn (L j) 0 (layer j ws))) →
             (j : ℕ) → j < 4 → table holds j (conf c (f .0) j) ≤ T.cost (L j) 0 (layer j ws)
         each ws p held f j lj =
-            let e : length hs ≡ length (layer j ws) = y .count ∙ sym (layer-length j ws ∙ p .count) in
+            let e : length hs ≡ length (layer j ws) = y .columns .count ∙ sym (layer-length j ws ∙ p .count) in
             rw (f .2 j lj, e) (none-less (L j) big (holds j) 0 (layer j ws) (held j lj))
 
     -- bits of layer j that have place j of configuration k and its table's cost
@@ -242,7 +240,7 @@ module _ (c : ℕ) (g : code-good c ≡ true) (rs : List ℤ) (l : length rs ≡
         go (no n) = (
           a .0,
           record {
-            count = a .1 .count ∙ y .count;
+            count = a .1 .count ∙ y .columns .count;
             two = binary j 0 (a .0) (a .1 .held);
             sum = s .0;
             held = a .1 .held;
@@ -268,7 +266,7 @@ module _ (c : ℕ) (g : code-good c ≡ true) (rs : List ℤ) (l : length rs ≡
             none-cost : (bs : List ℕ) → Below 1 bs → length bs ≡ long (width c) → T.cost (L j) 0 bs ≡ table holds j (conf c k j)
             none-cost bs b e =
                 let z : T.cost (L j) 0 bs ≡ 0 = lane-free j u lj 0 bs b (omega arith) in
-                let v : length hs ≡ length bs = y .count ∙ sym e in
+                let v : length hs ≡ length bs = y .columns .count ∙ sym e in
                 let x = none-less (L j) big (holds j) 0 bs (rw (above j u) (two-free 0 bs (wide bs b))) in
                 let q : table holds j (conf c k j) ≡ back (holds j) (L j) (final big) 0 (length bs) (syn (L j) 0 bs) =
                 ap₂ (λ (n s : ℕ). back (holds j) (L j) (final big) 0 n s) v (nothing ∙ sym (syn-zeros (L j) 0 bs b)) in

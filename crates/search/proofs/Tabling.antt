@@ -20,7 +20,7 @@ use Rattle.trellis.specs.Rows.{Layers, Make}
 use Rattle.search.proofs.Prepared.{long-le}
 use Rattle.search.specs.Within.{reliability, top, big, Spelt, Headed, CostRows, Costed, Input, Buffers}
 
-module _ (c m r q n size count : ℕ) (row : List ℤ) (cs : List ℕ) (z : Input c m r q n size count row cs) where
+module _ {c m r q n size count : ℕ} {row : List ℤ} {cs : List ℕ} (z : Input c m r q n size count row cs) where
   pub width-ok : width-good m ≡ true
   unfolding Codes-inside
   width-ok = rw (z .m-is) (codes-inside c (z .code-is) .0)
@@ -40,12 +40,12 @@ module _ (c m r q n size count : ℕ) (row : List ℤ) (cs : List ℕ) (z : Inpu
       go true = row-at row (i * m + j) (z .good-row)
       go false = refl
 
-  module _ (zs os t : List ℕ) (b : Buffers n size zs os t) where
+  module _ {zs os t : List ℕ} (b : Buffers n size zs os t) where
     pub costs-ok : CostRows m n row zs os
     costs-ok = record { width = width-ok; few = omega (arith, z .n-is, long-le m width-ok); length-row = row-is; length-zs = b .length-zs; length-os = b .length-os }
 
     -- after the costs are written
-    module _ (hs zs' os' : List ℕ) (h : Headed m r hs) (k : Costed m n row zs' os') (lz : length zs' ≡ length zs) (lo : length os' ≡ length os) where
+    module _ {hs zs' os' : List ℕ} (h : Headed m r hs) (k : Costed m n row zs' os') (lz : length zs' ≡ length zs) (lo : length os' ≡ length os) where
       pub layers-ok : Layers q size top hs zs' os'
       layers-ok = record {
         some = z .some;
@@ -69,9 +69,4 @@ module _ (c m r q n size count : ℕ) (row : List ℤ) (cs : List ℕ) (z : Inpu
           }
 
       pub spelt-ok : Spelt (width c) (roots c) row hs zs' os'
-      spelt-ok = rw (← z .m-is, ← z .r-is) (record {
-        count = h .count;
-        heads = h .heads;
-        zeros = λ i j l lj. k .zeros i j (omega (arith, z .n-is)) lj;
-        ones = λ i j l lj. k .ones i j (omega (arith, z .n-is)) lj;
-      })
+      spelt-ok = rw (← z .m-is, ← z .r-is) (record { columns = h; costs = rw (z .n-is) at k })

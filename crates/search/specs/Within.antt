@@ -40,13 +40,6 @@ zero-cost m rs i j = costZero (reliability m rs i j)
 abbrev pub one-cost : (m : ℕ) → (row : List ℤ) → (i j : ℕ) → ℕ
 one-cost m rs i j = costOne (reliability m rs i j)
 
--- the trellis of a row: hs, zs and os spell the columns of its layers
-pub record Spelt (m r : ℕ) (rs : List ℤ) (hs zs os : List ℕ) : Type 0 where
-  pub count : length hs ≡ long m
-  pub heads : (i : ℕ) → i < long m → getD hs i 0 ≡ column m r i
-  pub zeros : (i j : ℕ) → i < long m → j < 4 → entry zs i j ≡ zero-cost m rs i j
-  pub ones : (i j : ℕ) → i < long m → j < 4 → entry os i j ≡ one-cost m rs i j
-
 -- hs is the columns of a code
 pub record Headed (m r : ℕ) (hs : List ℕ) : Type 0 where
   pub count : length hs ≡ long m
@@ -77,6 +70,11 @@ pub record CostRows (m n : ℕ) (row : List ℤ) (zs os : List ℕ) : Type 0 whe
 pub record Costed (m n : ℕ) (row : List ℤ) (zs os : List ℕ) : Type 0 where
   pub zeros : (i j : ℕ) → i < n → j < 4 → entry zs i j ≡ zero-cost m row i j
   pub ones : (i j : ℕ) → i < n → j < 4 → entry os i j ≡ one-cost m row i j
+
+-- the trellis of a row: hs, zs and os spell the columns of its layers
+pub record Spelt (m r : ℕ) (rs : List ℤ) (hs zs os : List ℕ) : Type 0 where
+  pub columns : Headed m r hs
+  pub costs : Costed m (long m) rs zs os
 
 -- what a word's symbols cost by themselves, from position i on
 abbrev pub symbol-cost : (zs os : List ℕ) → (i c : ℕ) → ℕ
