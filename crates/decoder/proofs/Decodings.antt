@@ -35,7 +35,7 @@ module _ (c m r q n size count : ℕ) (row : List ℤ) (cs : List ℕ) (z : Inpu
 
   pub rows-ok : (za oa : List ℕ) (soft : List ℤ) → length za ≡ n * 2 * 4 → length oa ≡ n * 2 * 4 → length soft ≡ n * m → Softs c m n row za oa → SoftRows m n za oa soft
   rows-ok za oa soft lz lo ls s = record {
-    width = width-ok c m r q n size count row cs z;
+    width = width-ok z;
     length-zero = lz;
     length-one = lo;
     length-soft = ls;
@@ -55,7 +55,7 @@ module _ (c m r q n size count : ℕ) (row : List ℤ) (cs : List ℕ) (z : Inpu
       row-is = z .length-row ∙ ap (λ (a : ℕ). a * m) (sym (z .n-is))
 
       three : 3 ≤ m
-      three = widths (λ (m : ℕ). 3 ≤ m) (omega arith) (omega arith) m (width-ok c m r q n size count row cs z)
+      three = widths (λ (m : ℕ). 3 ≤ m) (omega arith) (omega arith) m (width-ok z)
 
       each : (k : ℕ) → k < length row →
           Least-with (width c) (is-codeword (width c) (roots c)) row k 0 (folded za (k / m) (k % m)) × Least-with (width c) (is-codeword (width c) (roots c)) row k 1 (folded oa (k / m) (k % m))

@@ -41,40 +41,40 @@ module _ (c m r q n size count : ℕ) (row : List ℤ) (cs hs zs os t : List ℕ
   g = z .code-is
 
   abbrev l : length row ≡ row-long (width c)
-  l = A.l c m r q n size count row cs hs zs os t z b
+  l = A.l z b
 
   abbrev y : Spelt (width c) (roots c) row hs zs os
   y = b .spelt
 
   n-is : length hs ≡ n
-  n-is = A.n-is c m r q n size count row cs hs zs os t z b
+  n-is = A.n-is z b
 
   few : length hs ≤ 15
-  few = A.few c m r q n size count row cs hs zs os t z b
+  few = A.few z b
 
   size-is : size ≡ cosets (width c) (roots c)
-  size-is = A.size-is c m r q n size count row cs hs zs os t z b
+  size-is = A.size-is z b
 
   abbrev light : weight-of row < big
-  light = A.light c m r q n size count row cs hs zs os t z b
+  light = A.light z b
 
   abbrev F : ℕ → ℕ → ℕ
   F = table c g row l hs zs os y big (λ j. free)
 
   first : (s j : ℕ) → s < size → j < 4 → entry t s j ≡ F j s
-  first = A.first c m r q n size count row cs hs zs os t z b
+  first = A.first z b
 
   F-le : (j s : ℕ) → j < 4 → F j s ≤ big + 1905
-  F-le = A.F-le c m r q n size count row cs hs zs os t z b
+  F-le = A.F-le z b
 
   conf-is : (k j : ℕ) → k < count → j < 4 → W.conf cs k j ≡ conf c k j
-  conf-is = A.conf-is c m r q n size count row cs hs zs os t z b
+  conf-is = A.conf-is z b
 
   conf-lt : (k j : ℕ) → k < count → j < 4 → W.conf cs k j < size
-  conf-lt = A.conf-lt c m r q n size count row cs hs zs os t z b
+  conf-lt = A.conf-lt z b
 
   total-is : (k : ℕ) → k < count → total t (tuple cs k) ≡ over F (conf c k)
-  total-is = A.total-is c m r q n size count row cs hs zs os t z b
+  total-is = A.total-is z b
 
   -- after the walk
   module _ (x : ℕ) (at : List ℕ) (w : Walked count cap t cs x at) where
@@ -106,7 +106,7 @@ module _ (c m r q n size count : ℕ) (row : List ℤ) (cs hs zs os t : List ℕ
         record {
           codeword = ap (is-codeword (width c) (roots c)) e ∙ p .0;
           costs = ap (cost (width c) row) e ∙ p .1 ∙ o;
-          is-least = rw (w .least) (least-is c m r q n size count row cs hs zs os t z b);
+          is-least = rw (w .least) (least-is z b);
           marginals = mg;
         }
 
@@ -157,7 +157,7 @@ module _ (c m r q n size count : ℕ) (row : List ℤ) (cs hs zs os t : List ℕ
       pub softs-ok : (za oa : List ℕ) → Passed size big cap t' hs zs os 0 (length hs) za → Passed size big cap t' hs zs os 1 (length hs) oa → Softs c m n row za oa
       softs-ok za oa p0 p1 i j li lj =
           let hj : j < width c = rw (z .m-is) at lj in
-          let hi : i < long (width c) = omega (arith, n-is, y .count) in
+          let hi : i < long (width c) = omega (arith, n-is, y .columns .count) in
           let l4 : j < 4 = below-4 j hj in
           let hn : i < length hs = omega (arith, n-is) in
           let inside : (k : ℕ) → k < configurations c → conf c k j < size = (λ k lk. rw size-is (conf-in c g k lk j)) in
@@ -172,7 +172,7 @@ module _ (c m r q n size count : ℕ) (row : List ℤ) (cs hs zs os t : List ℕ
           )
         where
           below-4 : (j : ℕ) → j < width c → j < 4
-          below-4 j h = widths (λ (m : ℕ). j < m → j < 4) (λ u. omega arith) (λ u. omega arith) (width c) (rw (z .m-is) at (width-ok c m r q n size count row cs z)) h
+          below-4 j h = widths (λ (m : ℕ). j < m → j < 4) (λ u. omega arith) (λ u. omega arith) (width c) (rw (z .m-is) at (width-ok z)) h
 
           same : (i j v : ℕ) → j < 4 → meet cap size (at-table t' (size * 4) 0 j) (back (holding i v) (layer hs zs os j) (final big) 0 (length hs))
               ≡ meet cap size (λ s. marginal F (conf c) cap (configurations c) j s - F j s) (back (holding i v) (layer hs zs os j) (final big) 0 (length hs))

@@ -41,7 +41,7 @@ module _ (c m r q n size count : ℕ) (row : List ℤ) (cs hs zs os t : List ℕ
   p = codeword-parts (width c) (roots c) word cw
 
   long-is : length word ≡ length hs
-  long-is = p .count ∙ sym (b .spelt .count)
+  long-is = p .count ∙ sym (b .spelt .columns .count)
 
   pub own-ok : Own top zs os word
   own-ok = record {
@@ -49,12 +49,12 @@ module _ (c m r q n size count : ℕ) (row : List ℤ) (cs hs zs os t : List ℕ
     length-os = b .layers .length-os ∙ ap (λ (x : ℕ). x * 4) (sym long-is);
     cost-zs = λ i j li lj. b .layers .cost-zs i j (omega (arith, long-is)) lj;
     cost-os = λ i j li lj. b .layers .cost-os i j (omega (arith, long-is)) lj;
-    room = omega (arith, long-is, few c m r q n size count row cs hs zs os t z b);
+    room = omega (arith, long-is, few z b);
   }
 
   module _ (least own : ℕ) (e : least ≡ least-total cap t cs count) (f : own ≡ word-cost zs os 0 word) where
     is-least : Least (width c) (is-codeword (width c) (roots c)) row least
-    is-least = rw e (least-is c m r q n size count row cs hs zs os t z b)
+    is-least = rw e (least-is z b)
 
     own-is : own ≡ cost (width c) row word
     unfolding Codes-inside

@@ -1,62 +1,47 @@
 -- From tables to codewords: over the configurations of a code, the least sum of the layers' tables is the least cost of a codeword, with bits held or not.
 -- Assumes nothing.
-use mathlib.Core.Path.{_≡_, refl, sym, ap, ap₂, _∙_, subst}
-use mathlib.Core.Bool.{Bool, true, false, cond, _&&_}
-use mathlib.Core.List.{List, [], _∷_, _++_}
-use Prim.Native.Nat.{ℕ, zero, suc, _+_, _-_, _*_, _/_, _%_, _^_, _≤_, _<_}
-use native.Mathlib.Nat.{not-suc-le-zero, le-of-suc-le-suc, le-antisymm, div-eq-of-lt, lt-of-lt-of-le}
+use mathlib.Core.Path.{_≡_, refl, sym, ap, ap₂, _∙_}
+use mathlib.Core.Bool.{Bool, true, cond}
+use mathlib.Core.List.{List, [], _∷_}
+use Prim.Native.Nat.{ℕ, zero, suc, _+_, _-_, _*_, _/_, _^_, _≤_, _<_}
+use native.Mathlib.Nat.{div-eq-of-lt, lt-of-lt-of-le}
 use native.Mathlib.Omega.{arith}
 use native.Mathlib.Decide.{decLe}
 use lib.Pow.{pow-mono}
-use lib.Dec.{eqb, leb, ltb}
 use lib.ListN.{length, getD, replicate, length-replicate, List·getD-append}
 use lib.Seq.{ext-getD, getD-append-add}
 use lib.IntN.{ℤ, pos}
-use borrow.Author.Tests.{le-ltb}
+use borrow.Author.Tests.{le-ltb, ne-eqb}
 use Rattle.field.specs.Field.{width-good, xor}
-use Rattle.field.proofs.Tests.{widths, to-T}
+use Rattle.field.proofs.Tests.{widths}
 use Rattle.field.proofs.Xor as X
-use Rattle.code.specs.Code.{code-good, width, roots, long, symbols-good, is-codeword}
-use Rattle.code.specs.Bits.{bit-at, row-long}
+use Rattle.code.specs.Code.{code-good, width, roots, long, is-codeword}
+use Rattle.code.specs.Bits.{row-long}
 use Rattle.code.specs.Promise.{Codes-inside}
-use Rattle.code.proofs.Promise.{codes, codes-inside}
+use Rattle.code.proofs.Promise.{codes-inside}
 use Rattle.code.proofs.Words.{Below, good, Codeword-parts, codeword-parts}
-use Rattle.split.specs.Split.{layer, syndrome, syndromes, syndromes-from, cosets, padded}
-use Rattle.split.proofs.Layers.{layer-below, layer-length}
-use Rattle.configurations.specs.Configurations.{configurations, configuration, Configuration}
+use Rattle.split.specs.Split.{layer, syndrome, columns-from, syndromes, padded, Binary}
+use Rattle.split.specs.Promise.{Syndrome-columns}
+use Rattle.split.proofs.Layers.{all-of, layer-length, layer-binary}
+use Rattle.split.proofs.Syndromes.{place-at}
+use Rattle.split.proofs.Columns.{syndrome-columns}
+use Rattle.configurations.specs.Configurations.{configurations, configuration}
 use Rattle.configurations.specs.Promise.{Codewords-configured, Configurations}
 use Rattle.configurations.proofs.Valid.{codewords-configured, configurations-right, syndromes-length}
 use Rattle.metric.specs.Cost.{costZero, cost}
-use Rattle.trellis.specs.Trellis.{Columns, Choice, either, only, pick, back, syn, Held, free, final}
+use Rattle.trellis.specs.Trellis.{Columns, Choice, back, syn, Held, free, final}
 use Rattle.trellis.specs.Trellis as T
 use Rattle.trellis.specs.Rows as R
 use Rattle.trellis.proofs.Trellis.{Attains, attained, reaches, none-less}
 use Rattle.lanes.proofs.Rows.{four}
-use Rattle.glue.specs.Walk.{sum4}
 use Rattle.glue.proofs.Engine.{over}
 use Rattle.search.specs.Within.{Spelt}
-use Rattle.search.proofs.Heads.{adds}
 use Rattle.search.proofs.Layering.{by-layers}
 use Rattle.search.proofs.Weave.{weave, weave-long, weave-layer, weave-below}
-
--- at most four roots
-few : (c : ℕ) → code-good c ≡ true → roots c ≤ 4
-unfolding roots
-few = codes (λ c. roots c ≤ 4) (omega arith) (omega arith) (omega arith)
 
 -- place j of configuration k, 0 where m = 3 has none
 abbrev pub conf : (code k j : ℕ) → ℕ
 conf c k j = getD (padded (configuration c k)) j 0
-
-at-syndromes : (k j m r i : ℕ) (ws : List ℕ) → i < k → getD (syndromes-from k j m r ws) i 0 ≡ syndrome m r (layer (j + i) ws)
-unfolding syndromes-from
-at-syndromes zero j m r i ws h = absurd (not-suc-le-zero h)
-at-syndromes (suc k) j m r zero ws h = ap (λ (x : ℕ). syndrome m r (layer x ws)) (omega arith)
-at-syndromes (suc k) j m r (suc i) ws h = at-syndromes k (suc j) m r i ws (le-of-suc-le-suc h) ∙ ap (λ (x : ℕ). syndrome m r (layer x ws)) (omega arith)
-
-at-syndrome : (m r i : ℕ) (ws : List ℕ) → i < m → getD (syndromes m r ws) i 0 ≡ syndrome m r (layer i ws)
-unfolding syndromes
-at-syndrome m r i ws h = at-syndromes m 0 m r i ws h ∙ ap (λ (x : ℕ). syndrome m r (layer x ws)) (omega arith)
 
 zeros-at : (k i : ℕ) → _≡_ {A = ℕ} (getD (replicate k 0) i 0) 0
 zeros-at zero i = refl
@@ -93,6 +78,18 @@ pub two-free : (i : ℕ) (bs : List ℕ) → Below 2 bs → Held free i bs
 two-free i [] h = tt
 two-free i (b ∷ bs) h = (h .0, two-free (suc i) bs (h .1))
 
+-- what bits add up to in the trellis is their syndrome
+module _ {m r : ℕ} {rs : List ℤ} {hs zs os : List ℕ} (y : Spelt m r rs hs zs os) (j : ℕ) where
+  adds-from : (i : ℕ) (bs : List ℕ) → i + length bs ≤ long m → syn (R.layer hs zs os j) i bs ≡ columns-from m r i bs
+  unfolding syn columns-from
+  adds-from i [] h = refl
+  adds-from i (zero ∷ bs) h = ap (xor 0) (adds-from (suc i) bs (omega arith))
+  adds-from i (suc b ∷ bs) h = rw (ne-eqb (suc b) 0 (λ e. omega arith)) (ap₂ xor (y .columns .heads i (omega arith)) (adds-from (suc i) bs (omega arith)))
+
+  adds : width-good m ≡ true → (bs : List ℕ) → Binary m bs → syn (R.layer hs zs os j) 0 bs ≡ syndrome m r bs
+  unfolding Syndrome-columns
+  adds w bs b = adds-from 0 bs (omega (arith, b .count)) ∙ sym (syndrome-columns m r bs w b)
+
 -- a place above the width is 0
 pub conf-high : (c : ℕ) → code-good c ≡ true → (k : ℕ) → k < configurations c → (j : ℕ) → width c ≤ j → conf c k j ≡ 0
 unfolding Configurations
@@ -124,7 +121,7 @@ module _ (c : ℕ) (g : code-good c ≡ true) (rs : List ℤ) (l : length rs ≡
       omega (
         arith,
         lane-free j u lj (suc i) bs (b .1) (omega arith),
-        y .zeros i j (omega arith) lj,
+        y .costs .zeros i j (omega arith) lj,
         ap (λ (t : Bool). costZero (cond t (getD rs (i * width c + j) (pos 0)) (pos 0))) (le-ltb j (width c) u),
       )
   lane-free j u lj i (suc x ∷ bs) b e = absurd (omega (arith, b .0))
@@ -145,8 +142,8 @@ module _ (c : ℕ) (g : code-good c ≡ true) (rs : List ℤ) (l : length rs ≡
             ∙ sym (syn-zeros (L j) 0 (layer j ws) (high-layer (width c) j ws (pow-mono h) (p .symbols)))
         place ws p j (no h) =
             padded-in (syndromes (width c) (roots c) ws) j (omega (arith, syndromes-length (width c) (roots c) ws))
-            ∙ at-syndrome (width c) (roots c) j ws (omega arith)
-            ∙ sym (adds (width c) (roots c) w rs hs zs os y j (few c g) (layer j ws) (layer-below j ws) (layer-length j ws ∙ p .count))
+            ∙ place-at (width c) (roots c) j ws (omega arith)
+            ∙ sym (adds y j w (layer j ws) (layer-binary (width c) j ws (p .count)))
 
     -- NO CODEWORD WITH THE HELD BITS COSTS LESS than some configuration's tables
     pub lower : (ws : List ℕ) → is-codeword (width c) (roots c) ws ≡ true → ((j : ℕ) → j < 4 → Held (holds j) 0 (layer j ws)) →
@@ -160,7 +157,7 @@ module _ (c : ℕ) (g : code-good c ≡ true) (rs : List ℤ) (l : length rs ≡
             (f : (k : ℕ) × (k < configurations c) × ((j : ℕ) → j < 4 → conf c k j ≡ syn (L j) 0 (layer j ws))) →
             (j : ℕ) → j < 4 → table holds j (conf c (f .0) j) ≤ T.cost (L j) 0 (layer j ws)
         each ws p held f j lj =
-            let e : length hs ≡ length (layer j ws) = y .count ∙ sym (layer-length j ws ∙ p .count) in
+            let e : length hs ≡ length (layer j ws) = y .columns .count ∙ sym (layer-length j ws ∙ p .count) in
             rw (f .2 j lj, e) (none-less (L j) big (holds j) 0 (layer j ws) (held j lj))
 
     -- bits of layer j that have place j of configuration k and its table's cost
@@ -213,9 +210,9 @@ module _ (c : ℕ) (g : code-good c ≡ true) (rs : List ℤ) (l : length rs ≡
             let l4 : i < 4 = under i li in
             sym (padded-in (configuration c k) i h)
             ∙ sym (la i l4 .sum)
-            ∙ adds (width c) (roots c) w rs hs zs os y i (few c g) (b i) (la i l4 .two) (la i l4 .count)
+            ∙ adds y i w (b i) (record { count = la i l4 .count; bits = all-of 2 (b i) (la i l4 .two) })
             ∙ ap (syndrome (width c) (roots c)) (sym (lays i l4))
-            ∙ sym (at-syndrome (width c) (roots c) i (weave b) li))
+            ∙ sym (place-at (width c) (roots c) i (weave b) li))
 
     -- a lane that costs less than big has such bits
     lane-there : (k : ℕ) → k < configurations c → (j : ℕ) → j < 4 → table holds j (conf c k j) < big → (bs : List ℕ) × Lane k j bs
@@ -243,7 +240,7 @@ module _ (c : ℕ) (g : code-good c ≡ true) (rs : List ℤ) (l : length rs ≡
         go (no n) = (
           a .0,
           record {
-            count = a .1 .count ∙ y .count;
+            count = a .1 .count ∙ y .columns .count;
             two = binary j 0 (a .0) (a .1 .held);
             sum = s .0;
             held = a .1 .held;
@@ -269,7 +266,7 @@ module _ (c : ℕ) (g : code-good c ≡ true) (rs : List ℤ) (l : length rs ≡
             none-cost : (bs : List ℕ) → Below 1 bs → length bs ≡ long (width c) → T.cost (L j) 0 bs ≡ table holds j (conf c k j)
             none-cost bs b e =
                 let z : T.cost (L j) 0 bs ≡ 0 = lane-free j u lj 0 bs b (omega arith) in
-                let v : length hs ≡ length bs = y .count ∙ sym e in
+                let v : length hs ≡ length bs = y .columns .count ∙ sym e in
                 let x = none-less (L j) big (holds j) 0 bs (rw (above j u) (two-free 0 bs (wide bs b))) in
                 let q : table holds j (conf c k j) ≡ back (holds j) (L j) (final big) 0 (length bs) (syn (L j) 0 bs) =
                 ap₂ (λ (n s : ℕ). back (holds j) (L j) (final big) 0 n s) v (nothing ∙ sym (syn-zeros (L j) 0 bs b)) in

@@ -1,14 +1,13 @@
 -- THE SEARCH IS RIGHT: the least over the configurations is the least cost of a codeword; and where one layer's table with a bit held meets what the
 -- other layers cost, that is the least cost of a codeword with that bit.
 -- Assumes nothing.
-use mathlib.Core.Path.{_≡_, refl, sym, ap, ap₂, _∙_, subst}
+use mathlib.Core.Path.{_≡_, refl, sym, ap, _∙_, subst}
 use mathlib.Core.Bool.{Bool, true, false, cond}
 use mathlib.Core.List.{List, [], _∷_}
-use Prim.Native.Nat.{ℕ, zero, suc, _+_, _-_, _*_, _^_, _≤_, _<_}
-use native.Mathlib.Nat.{not-suc-le-zero, le-of-suc-le-suc, mul-le-mul-right}
+use Prim.Native.Nat.{ℕ, zero, suc, _+_, _-_, _*_, _≤_, _<_}
+use native.Mathlib.Nat.{not-suc-le-zero, le-of-suc-le-suc}
 use native.Mathlib.Omega.{arith}
-use native.Mathlib.Decide.{decLe}
-use borrow.Author.Tests.{eq-eqb, ne-eqb, eqb-true, eqb-false}
+use borrow.Author.Tests.{eq-eqb, ne-eqb, eqb-true}
 use lib.Arith.{digits-lt}
 use lib.Dec.{eqb}
 use lib.ListN.{length, getD}
@@ -26,10 +25,9 @@ use Rattle.split.proofs.Layers.{layer-below, layer-length}
 use Rattle.configurations.specs.Configurations.{configurations}
 use Rattle.metric.specs.Cost.{weight-of, cost, Least, Least-with}
 use Rattle.metric.proofs.Bounds.{cost-le}
-use Rattle.trellis.specs.Trellis.{Columns, Choice, either, only, May, back, Held, free, final, leastOf, holding, meet}
+use Rattle.trellis.specs.Trellis.{Choice, either, only, May, back, Held, free, final, leastOf, holding, meet}
 use Rattle.trellis.specs.Rows as R
 use Rattle.trellis.proofs.Least.{least-le, least-found}
-use Rattle.glue.specs.Walk.{sum4}
 use Rattle.glue.proofs.Engine.{over, replaced, marginal, soft-le, soft-found}
 use Rattle.search.specs.Within.{Spelt}
 use Rattle.search.proofs.Layering.{bit-layer}

@@ -3,7 +3,7 @@
 use mathlib.Core.Path.{_≡_, refl, sym, ap, ap₂, _∙_, fun-ext}
 use mathlib.Core.Bool.{Bool, true, false, cond}
 use mathlib.Core.List.{List, [], _∷_, _++_}
-use Prim.Native.Nat.{ℕ, zero, suc, _+_, _-_, _*_, _/_, _%_, _^_, _≤_, _<_}
+use Prim.Native.Nat.{ℕ, zero, suc, _+_, _*_, _/_, _%_, _^_, _≤_, _<_}
 use native.Mathlib.Nat.{not-suc-le-zero, le-of-suc-le-suc, suc-mul, zero-mul, mul-le-mul-right, div-one, div-div-eq-div-mul, pow-succ'}
 use native.Mathlib.Omega.{arith}
 use lib.Dec.{ltb}
@@ -21,7 +21,7 @@ use Rattle.trellis.specs.Trellis as T
 use Rattle.trellis.specs.Rows as R
 use Rattle.lanes.specs.Lanes as N
 use Rattle.glue.specs.Walk.{sum4}
-use Rattle.search.specs.Within.{zero-cost, one-cost, Spelt}
+use Rattle.search.specs.Within.{Spelt}
 
 -- f 0 + f 1 + .., so many of them
 total : ℕ → (ℕ → ℕ) → ℕ
@@ -79,7 +79,7 @@ module _ (m r : ℕ) (w : width-good m ≡ true) (rs : List ℤ) (hs zs os : Lis
   lane-part : (i j x : ℕ) → i < long m → j < 4 → pick (x / 2 ^ j % 2) (N.entry zs i j) (N.entry os i j) ≡ cond (ltb j m) (part x (drop (i * m) rs) j) 0
   unfolding part
   lane-part i j x li lj =
-      ap₂ (pick (x / 2 ^ j % 2)) (y .zeros i j li lj) (y .ones i j li lj)
+      ap₂ (pick (x / 2 ^ j % 2)) (y .costs .zeros i j li lj) (y .costs .ones i j li lj)
       ∙ picked (ltb j m) (x / 2 ^ j % 2) (getD rs (i * m + j) (pos 0))
       ∙ ap (λ (z : ℤ). cond (ltb j m) (choose (x / 2 ^ j % 2) (costZero z) (costOne z)) 0) (sym (getD-drop (i * m) rs j (pos 0)))
 

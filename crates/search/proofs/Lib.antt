@@ -1,4 +1,3 @@
-pub mod Heads
 pub mod Layering
 pub mod Weave
 pub mod Bridge

@@ -19,9 +19,10 @@ use mir.Facts.{toZ-ofZ}
 use Rattle.field.specs.Field.{width-good}
 use Rattle.field.proofs.Tests.{all, at, and-l, and-r, widths}
 use Rattle.code.specs.Code.{long}
+use Rattle.split.specs.Split.{column}
 use Rattle.metric.specs.Cost.{costZero, costOne}
 use Rattle.lanes.proofs.Rows.{four}
-use Rattle.search.specs.Within.{head, reliability, Headed, put-four, Spread, CostsTo, Costed}
+use Rattle.search.specs.Within.{reliability, Headed, put-four, Spread, CostsTo, Costed}
 
 -- ---- a reliability's costs, by its sign
 clash : {X : Type 0} → false ≡ true → X
@@ -77,14 +78,14 @@ through f x r z ok e q = e ∙ ap f (toZ-ofZ ok ∙ q)
 -- ---- columns
 -- a table of them, by one test that antt computes
 abbrev columns : (m r : ℕ) → List ℕ → Bool
-columns m r hs = eqb (length hs) (long m) && all (long m) (λ i. eqb (getD hs i 0) (head m r i))
+columns m r hs = eqb (length hs) (long m) && all (long m) (λ i. eqb (getD hs i 0) (column m r i))
 
 pub headed : (m r : ℕ) (hs : List ℕ) → T (columns m r hs) → Headed m r hs
 headed m r hs t =
-    let f : ℕ → Bool = (λ i. eqb (getD hs i 0) (head m r i)) in
+    let f : ℕ → Bool = (λ i. eqb (getD hs i 0) (column m r i)) in
     record {
       count = eqb→eq (length hs) (long m) (and-l (eqb (length hs) (long m)) (all (long m) f) t);
-      heads = λ i h. eqb→eq (getD hs i 0) (head m r i) (at (long m) f (and-r (eqb (length hs) (long m)) (all (long m) f) t) i h);
+      heads = λ i h. eqb→eq (getD hs i 0) (column m r i) (at (long m) f (and-r (eqb (length hs) (long m)) (all (long m) f) t) i h);
     }
 
 pub long-le : (m : ℕ) → width-good m ≡ true → long m ≤ 15

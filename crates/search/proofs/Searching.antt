@@ -20,7 +20,7 @@ use Rattle.configurations.specs.Configurations.{configurations, configuration, 
 use Rattle.configurations.specs.Promise.{Configurations}
 use Rattle.configurations.proofs.Valid.{configurations-right}
 use Rattle.configurations.proofs.Listed.{listed-at}
-use Rattle.metric.specs.Cost.{weight-of, cost, Least}
+use Rattle.metric.specs.Cost.{weight-of, Least}
 use Rattle.metric.proofs.Bounds.{weight-le}
 use Rattle.trellis.specs.Trellis.{back, free, final}
 use Rattle.lanes.specs.Lanes.{entry, lane}
@@ -33,7 +33,6 @@ use Rattle.glue.specs.Walk as W
 use Rattle.glue.proofs.Engine.{over}
 use Rattle.search.proofs.Bridge.{conf, table, conf-high, padded-in}
 use Rattle.search.proofs.Found as S
-use Rattle.search.proofs.Traced as TR
 use Rattle.search.specs.Within.{top, big, cap, Spelt, Input, Tabled}
 use Rattle.search.proofs.Tabling.{short}
 
@@ -68,7 +67,7 @@ pub row-le : (c : ℕ) → code-good c ≡ true → row-long (width c) ≤ 60
 unfolding width long row-long
 row-le = codes (λ c. row-long (width c) ≤ 60) (omega arith) (omega arith) (omega arith)
 
-module _ (c m r q n size count : ℕ) (row : List ℤ) (cs hs zs os t : List ℕ) (z : Input c m r q n size count row cs) (b : Tabled c q size row hs zs os t) where
+module _ {c m r q n size count : ℕ} {row : List ℤ} {cs hs zs os t : List ℕ} (z : Input c m r q n size count row cs) (b : Tabled c q size row hs zs os t) where
   abbrev g : code-good c ≡ true
   g = z .code-is
 
@@ -79,10 +78,10 @@ module _ (c m r q n size count : ℕ) (row : List ℤ) (cs hs zs os t : List ℕ
   y = b .spelt
 
   pub n-is : length hs ≡ n
-  n-is = y .count ∙ ap long (sym (z .m-is)) ∙ sym (z .n-is)
+  n-is = y .columns .count ∙ ap long (sym (z .m-is)) ∙ sym (z .n-is)
 
   pub few : length hs ≤ 15
-  few = omega (arith, n-is, short c m r q n size count row cs z)
+  few = omega (arith, n-is, short z)
 
   pub size-is : size ≡ cosets (width c) (roots c)
   size-is = z .cosets-is ∙ ap₂ cosets (z .m-is) (z .r-is)

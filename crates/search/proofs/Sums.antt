@@ -15,7 +15,6 @@ use Rattle.code.specs.Code.{long}
 use Rattle.code.specs.Bits.{row-long}
 use Rattle.split.specs.Split as P
 use Rattle.metric.specs.Cost.{costZero, costOne, weight-of, cost}
-use Rattle.metric.proofs.Bounds.{row-at}
 use Rattle.trellis.specs.Trellis as T
 use Rattle.trellis.specs.Trellis.{pick}
 use Rattle.trellis.specs.Rows as R
@@ -29,11 +28,31 @@ pub pick-one : (b z o : ℕ) → (b ≡ 0 → ⊥) → o ≡ pick b z o
 pick-one zero z o n = absurd (n refl)
 pick-one (suc b) z o n = refl
 
-pub pick-le : (top b z o : ℕ) → z ≤ top → o ≤ top → pick b z o ≤ top
+pick-le : (top b z o : ℕ) → z ≤ top → o ≤ top → pick b z o ≤ top
 pick-le top zero z o h k = h
 pick-le top (suc b) z o h k = k
 
-module _ (top : ℕ) (zs os word : List ℕ) (w : Own top zs os word) where
+pub symbol-le : {top : ℕ} {z o : List ℕ} → Symbol top z o → (b j : ℕ) → j < 4 → pick b (lane z j) (lane o j) ≤ top
+symbol-le {top} {z} {o} s b j h = pick-le top b (lane z j) (lane o j) (s .cost-z j h) (s .cost-o j h)
+
+-- a word's cost so far, and what is left
+pub record Adding (top : ℕ) (zs os word : List ℕ) (i sum : ℕ) : Type 0 where
+  pub split : sum + word-cost zs os i (drop i word) ≡ word-cost zs os 0 word
+  pub small : sum ≤ i * (top * 4)
+
+pub adding-more : {top : ℕ} {zs os word : List ℕ} {i sum x : ℕ} → Adding top zs os word i sum → i < length word → x ≡ symbol-cost zs os i (getD word i 0) → x ≤ top * 4 →
+    Adding top zs os word (i + 1) (sum + x)
+unfolding word-cost
+adding-more {top} {zs} {os} {word} {i} a l e h = record {
+  split = rw add-one (omega (arith, a .split, e, ap (word-cost zs os i) (drop-cons word i 0 l)));
+  small = rw add-one (omega (arith, a .small, suc-mul i (top * 4)));
+}
+
+pub adding-end : {top : ℕ} {zs os word : List ℕ} {i sum : ℕ} → Adding top zs os word i sum → i ≡ length word → sum ≡ word-cost zs os 0 word
+unfolding word-cost
+adding-end {zs = zs} {os = os} {word = word} {i = i} a e = omega (arith, a .split, ap (λ (k : ℕ). word-cost zs os i (drop k word)) e, ap (word-cost zs os i) (drop-length word))
+
+module _ {top : ℕ} {zs os word : List ℕ} (w : Own top zs os word) where
   pub own-in : (i : ℕ) → i < length word → (i * 4 + 4 ≤ length zs) × (i * 4 + 4 ≤ length os)
   own-in i l = (omega (arith, w .length-zs), omega (arith, w .length-os))
 
@@ -44,24 +63,8 @@ module _ (top : ℕ) (zs os word : List ℕ) (w : Own top zs os word) where
     room = omega (arith, w .room, mul-le-mul-right (top * 4) l, suc-mul i (top * 4));
   }
 
-  -- so far, and what is left
-  pub record Adding (i sum : ℕ) : Type 0 where
-    pub split : sum + word-cost zs os i (drop i word) ≡ word-cost zs os 0 word
-    pub small : sum ≤ i * (top * 4)
-
-  pub adding-fits : (i sum x : ℕ) → i < length word → Adding i sum → x ≤ top * 4 → sum + x < 2 ^ 32
-  adding-fits i sum x l a h = omega (arith, a .small, w .room, mul-le-mul-right (top * 4) l, suc-mul i (top * 4))
-
-  pub adding-more : (i sum x : ℕ) → i < length word → Adding i sum → x ≡ symbol-cost zs os i (getD word i 0) → x ≤ top * 4 → Adding (i + 1) (sum + x)
-  unfolding word-cost
-  adding-more i sum x l a e h = record {
-    split = rw add-one (omega (arith, a .split, e, ap (word-cost zs os i) (drop-cons word i 0 l)));
-    small = rw add-one (omega (arith, a .small, suc-mul i (top * 4)));
-  }
-
-  pub adding-end : (sum : ℕ) → Adding (length word) sum → sum ≡ word-cost zs os 0 word
-  unfolding word-cost
-  adding-end sum a = omega (arith, a .split, ap (word-cost zs os (length word)) (drop-length word))
+  pub adding-fits : {i sum x : ℕ} → Adding top zs os word i sum → i < length word → x ≤ top * 4 → sum + x < 2 ^ 32
+  adding-fits {i} a l h = omega (arith, a .small, w .room, mul-le-mul-right (top * 4) l, suc-mul i (top * 4))
 
 -- a symbol's cost, from the rows of its position
 pub from-rows : (zs os : List ℕ) (i c : ℕ) → sum4 (λ j. pick (c / 2 ^ j % 2) (lane (row zs i) j) (lane (row os i) j)) ≡ symbol-cost zs os i c
@@ -85,13 +88,13 @@ pub record Weighing (rs : List ℤ) (i sum : ℕ) : Type 0 where
   pub split : sum + weight-of (drop i rs) ≡ weight-of rs
   pub small : sum ≤ i * 127
 
-pub weighing-more : (rs : List ℤ) (i sum x : ℕ) → i < length rs → Weighing rs i sum → x ≡ costZero (getD rs i (pos 0)) + costOne (getD rs i (pos 0)) → x ≤ 127 → Weighing rs (i + 1) (sum + x)
+pub weighing-more : {rs : List ℤ} {i sum x : ℕ} → Weighing rs i sum → i < length rs → x ≡ costZero (getD rs i (pos 0)) + costOne (getD rs i (pos 0)) → x ≤ 127 → Weighing rs (i + 1) (sum + x)
 unfolding weight-of
-weighing-more rs i sum x l a e h = record {
+weighing-more {rs} {i} a l e h = record {
   split = rw add-one (omega (arith, a .split, e, ap weight-of (drop-cons rs i (pos 0) l)));
   small = omega (arith, a .small);
 }
 
-pub weighing-end : (rs : List ℤ) (sum : ℕ) → Weighing rs (length rs) sum → sum ≡ weight-of rs
+pub weighing-end : {rs : List ℤ} {i sum : ℕ} → Weighing rs i sum → i ≡ length rs → sum ≡ weight-of rs
 unfolding weight-of
-weighing-end rs sum a = omega (arith, a .split, ap weight-of (drop-length rs))
+weighing-end {rs} {i} a e = omega (arith, a .split, ap (λ (k : ℕ). weight-of (drop k rs)) e, ap weight-of (drop-length rs))

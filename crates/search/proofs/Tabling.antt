@@ -5,31 +5,22 @@ use mathlib.Core.Bool.{Bool, true, false, cond}
 use mathlib.Core.List.{List}
 use Prim.Native.Nat.{ℕ, _+_, _*_, _≤_, _<_}
 use native.Mathlib.Omega.{arith}
-use lib.Dec.{ltb, ltb→lt}
+use lib.Dec.{ltb}
 use lib.ListN.{length, getD}
 use lib.IntN.{ℤ, pos}
-use Rattle.field.specs.Field.{width-good, xor, doubled, alpha}
-use Rattle.field.proofs.Tests.{at}
-use Rattle.code.specs.Code.{code-good, width, roots, long}
+use Rattle.field.specs.Field.{width-good}
+use Rattle.code.specs.Code.{width, roots, long}
 use Rattle.code.specs.Bits.{row-long}
 use Rattle.code.specs.Promise.{Codes-inside}
-use Rattle.code.proofs.Promise.{codes, codes-inside}
-use Rattle.split.specs.Split.{cosets}
+use Rattle.code.proofs.Promise.{codes-inside}
+use Rattle.split.proofs.Cosets.{column-inside}
 use Rattle.metric.specs.Row.{bound, reliability-good}
 use Rattle.metric.proofs.Bounds.{row-at, cost-zero-le, cost-one-le}
 use Rattle.trellis.specs.Rows.{Layers, Make}
 use Rattle.search.proofs.Prepared.{long-le}
-use Rattle.search.specs.Within.{head, reliability, top, big, Spelt, Headed, CostRows, Costed, Input, Buffers}
+use Rattle.search.specs.Within.{reliability, top, big, Spelt, Headed, CostRows, Costed, Input, Buffers}
 
--- the columns' syndromes are syndromes, by a test of each code's
-heads-in : (c : ℕ) → code-good c ≡ true → (i : ℕ) → i < long (width c) → head (width c) (roots c) i < cosets (width c) (roots c)
-unfolding width roots long cosets alpha doubled xor
-heads-in =
-    codes (λ c. (i : ℕ) → i < long (width c) → head (width c) (roots c) i < cosets (width c) (roots c))
-    (λ i h. ltb→lt _ _ (at 7 (λ i. ltb (head 3 2 i) 8) tt i h)) (λ i h. ltb→lt _ _ (at 7 (λ i. ltb (head 3 4 i) 64) tt i h))
-    (λ i h. ltb→lt _ _ (at 15 (λ i. ltb (head 4 2 i) 16) tt i h))
-
-module _ (c m r q n size count : ℕ) (row : List ℤ) (cs : List ℕ) (z : Input c m r q n size count row cs) where
+module _ {c m r q n size count : ℕ} {row : List ℤ} {cs : List ℕ} (z : Input c m r q n size count row cs) where
   pub width-ok : width-good m ≡ true
   unfolding Codes-inside
   width-ok = rw (z .m-is) (codes-inside c (z .code-is) .0)
@@ -49,12 +40,12 @@ module _ (c m r q n size count : ℕ) (row : List ℤ) (cs : List ℕ) (z : Inpu
       go true = row-at row (i * m + j) (z .good-row)
       go false = refl
 
-  module _ (zs os t : List ℕ) (b : Buffers n size zs os t) where
+  module _ {zs os t : List ℕ} (b : Buffers n size zs os t) where
     pub costs-ok : CostRows m n row zs os
     costs-ok = record { width = width-ok; few = omega (arith, z .n-is, long-le m width-ok); length-row = row-is; length-zs = b .length-zs; length-os = b .length-os }
 
     -- after the costs are written
-    module _ (hs zs' os' : List ℕ) (h : Headed m r hs) (k : Costed m n row zs' os') (lz : length zs' ≡ length zs) (lo : length os' ≡ length os) where
+    module _ {hs zs' os' : List ℕ} (h : Headed m r hs) (k : Costed m n row zs' os') (lz : length zs' ≡ length zs) (lo : length os' ≡ length os) where
       pub layers-ok : Layers q size top hs zs' os'
       layers-ok = record {
         some = z .some;
@@ -63,7 +54,7 @@ module _ (c m r q n size count : ℕ) (row : List ℤ) (cs : List ℕ) (z : Inpu
         length-os = lo ∙ b .length-os ∙ ap (λ (x : ℕ). x * 4) (z .n-is ∙ sym (h .count));
         inside = λ i l.
             let li : i < long m = omega (arith, h .count) in
-            rw (h .heads i li, z .cosets-is) (rw (z .m-is, z .r-is) (heads-in c (z .code-is) i (rw (z .m-is) at li)));
+            rw (h .heads i li, z .cosets-is) (column-inside m r i width-ok);
         cost-zs = λ i j l lj. rw (k .zeros i j (omega (arith, h .count, z .n-is)) lj) (cost-zero-le (reliability m row i j) (rel-good i j));
         cost-os = λ i j l lj. rw (k .ones i j (omega (arith, h .count, z .n-is)) lj) (cost-one-le (reliability m row i j) (rel-good i j));
       }
@@ -78,9 +69,4 @@ module _ (c m r q n size count : ℕ) (row : List ℤ) (cs : List ℕ) (z : Inpu
           }
 
       pub spelt-ok : Spelt (width c) (roots c) row hs zs' os'
-      spelt-ok = rw (← z .m-is, ← z .r-is) (record {
-        count = h .count;
-        heads = h .heads;
-        zeros = λ i j l lj. k .zeros i j (omega (arith, z .n-is)) lj;
-        ones = λ i j l lj. k .ones i j (omega (arith, z .n-is)) lj;
-      })
+      spelt-ok = rw (← z .m-is, ← z .r-is) (record { columns = h; costs = rw (z .n-is) at k })

@@ -1,11 +1,10 @@
 -- The traced word: its layers are the traces of each layer, so it is a codeword that has the cost of its configuration.
 -- Assumes nothing.
-use mathlib.Core.Path.{_≡_, refl, sym, ap, ap₂, _∙_, subst}
-use mathlib.Core.Bool.{Bool, true, false, cond}
-use mathlib.Core.List.{List, [], _∷_}
-use Prim.Native.Nat.{ℕ, zero, suc, _+_, _-_, _*_, _^_, _≤_, _<_, min}
+use mathlib.Core.Path.{_≡_, refl, ap, ap₂, _∙_}
+use mathlib.Core.Bool.{Bool, true, cond}
+use mathlib.Core.List.{List, _∷_}
+use Prim.Native.Nat.{ℕ, zero, suc, _+_, _*_, _≤_, _<_}
 use native.Mathlib.Omega.{arith}
-use native.Mathlib.Decide.{decLe}
 use borrow.Author.Tests.{le-leb, le-ltb}
 use lib.Dec.{leb}
 use lib.ListN.{length, getD}
@@ -17,10 +16,10 @@ use Rattle.code.specs.Bits.{row-long}
 use Rattle.code.proofs.Words.{Below}
 use Rattle.configurations.specs.Configurations.{configurations}
 use Rattle.metric.specs.Cost.{costZero, cost}
-use Rattle.trellis.specs.Trellis.{Column, Columns, pick, step, either, back, free, final, bit, choice, trace}
+use Rattle.trellis.specs.Trellis.{Columns, pick, step, back, free, final, bit, choice, trace}
 use Rattle.trellis.specs.Rows as R
 use Rattle.lanes.specs.Lanes.{lane, lanes}
-use Rattle.trellis.specs.Rows.{chosen, symbol, traced}
+use Rattle.trellis.specs.Rows.{chosen, traced}
 use Rattle.trellis.proofs.Trellis.{Attains, reaches}
 use Rattle.trellis.proofs.Trellis as TT
 use Rattle.glue.proofs.Engine.{over}
@@ -78,17 +77,17 @@ module _ (c : ℕ) (g : code-good c ≡ true) (rs : List ℤ) (l : length rs ≡
       small (suc (suc (suc (suc j)))) lj = absurd (omega arith)
 
       costless : (j : ℕ) → j < 4 → width c ≤ j → (p : ℕ) → p < long (width c) → L j p .c0 ≡ 0
-      costless j lj u p lp = y .zeros p j lp lj ∙ ap (λ (t : Bool). costZero (cond t (getD rs (p * width c + j) (pos 0)) (pos 0))) (le-ltb j (width c) u)
+      costless j lj u p lp = y .costs .zeros p j lp lj ∙ ap (λ (t : Bool). costZero (cond t (getD rs (p * width c + j) (pos 0)) (pos 0))) (le-ltb j (width c) u)
 
       each : (j : ℕ) → j < 4 → Lane c g rs l hs zs os y big (λ j. free) (λ j. free-two) (λ j u. refl) k j (trace (L j) (final big) 0 (length hs) (lane s j))
       each j lj =
           let a : Attains (L j) (final big) free 0 (length hs) (conf c k j) (trace (L j) (final big) 0 (length hs) (conf c k j)) = TT.traced (L j) (final big) 0 (length hs) (conf c k j) in
           let r = reaches (L j) big free 0 (length hs) (conf c k j) (trace (L j) (final big) 0 (length hs) (conf c k j)) a (small j lj) in
           rw (e j lj) (record {
-            count = a .count ∙ y .count;
+            count = a .count ∙ y .columns .count;
             two = free-two 0 (trace (L j) (final big) 0 (length hs) (conf c k j)) (a .held);
             sum = r .0;
             held = a .held;
             costs = r .1;
-            high = λ u. rw (conf-high c g k lk j u) (trace-zero (L j) big (long (width c)) (costless j lj u) 0 (length hs) (omega (arith, y .count)));
+            high = λ u. rw (conf-high c g k lk j u) (trace-zero (L j) big (long (width c)) (costless j lj u) 0 (length hs) (omega (arith, y .columns .count)));
           })

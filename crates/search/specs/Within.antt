@@ -4,13 +4,13 @@ use mathlib.Core.Path.{_≡_}
 use mathlib.Core.Bool.{true, cond}
 use mathlib.Core.List.{List, [], _∷_}
 use Prim.Native.Nat.{ℕ, suc, _+_, _*_, _/_, _%_, _^_, _≤_, _<_}
-use lib.Dec.{leb, ltb}
+use lib.Dec.{ltb}
 use lib.ListN.{length, getD, set}
 use lib.IntN.{ℤ, pos}
-use Rattle.field.specs.Field.{width-good, alpha}
+use Rattle.field.specs.Field.{width-good}
 use Rattle.code.specs.Code.{code-good, width, roots, long}
 use Rattle.code.specs.Bits.{row-long}
-use Rattle.split.specs.Split.{cosets}
+use Rattle.split.specs.Split.{column, cosets}
 use Rattle.configurations.specs.Configurations.{configurations, listed}
 use Rattle.metric.specs.Row.{row-good}
 use Rattle.metric.specs.Cost.{costZero, costOne}
@@ -29,14 +29,6 @@ big = 7621
 abbrev pub cap : ℕ
 cap = 17147
 
--- a syndrome from the values at α and α^3
-abbrev pub pack : (m r : ℕ) → (a b : ℕ) → ℕ
-pack m r a b = a + 2 ^ m * cond (leb 3 r) b 0
-
--- the syndrome that a 1 at position i adds
-abbrev pub head : (m r i : ℕ) → ℕ
-head m r i = pack m r (alpha m (i * 1)) (alpha m (i * 3))
-
 -- the reliability at position i of layer j; the fourth layer of m = 3 has none, and costs nothing
 abbrev pub reliability : (m : ℕ) → (row : List ℤ) → (i j : ℕ) → ℤ
 reliability m rs i j = cond (ltb j m) (getD rs (i * m + j) (pos 0)) (pos 0)
@@ -48,17 +40,10 @@ zero-cost m rs i j = costZero (reliability m rs i j)
 abbrev pub one-cost : (m : ℕ) → (row : List ℤ) → (i j : ℕ) → ℕ
 one-cost m rs i j = costOne (reliability m rs i j)
 
--- the trellis of a row: hs, zs and os spell the columns of its layers
-pub record Spelt (m r : ℕ) (rs : List ℤ) (hs zs os : List ℕ) : Type 0 where
-  pub count : length hs ≡ long m
-  pub heads : (i : ℕ) → i < long m → getD hs i 0 ≡ head m r i
-  pub zeros : (i j : ℕ) → i < long m → j < 4 → entry zs i j ≡ zero-cost m rs i j
-  pub ones : (i j : ℕ) → i < long m → j < 4 → entry os i j ≡ one-cost m rs i j
-
 -- hs is the columns of a code
 pub record Headed (m r : ℕ) (hs : List ℕ) : Type 0 where
   pub count : length hs ≡ long m
-  pub heads : (i : ℕ) → i < long m → getD hs i 0 ≡ head m r i
+  pub heads : (i : ℕ) → i < long m → getD hs i 0 ≡ column m r i
 
 -- four places written from `at` on
 unfoldable pub put-four : List ℤ → (at : ℕ) → (ℕ → ℤ) → List ℤ
@@ -85,6 +70,11 @@ pub record CostRows (m n : ℕ) (row : List ℤ) (zs os : List ℕ) : Type 0 whe
 pub record Costed (m n : ℕ) (row : List ℤ) (zs os : List ℕ) : Type 0 where
   pub zeros : (i j : ℕ) → i < n → j < 4 → entry zs i j ≡ zero-cost m row i j
   pub ones : (i j : ℕ) → i < n → j < 4 → entry os i j ≡ one-cost m row i j
+
+-- the trellis of a row: hs, zs and os spell the columns of its layers
+pub record Spelt (m r : ℕ) (rs : List ℤ) (hs zs os : List ℕ) : Type 0 where
+  pub columns : Headed m r hs
+  pub costs : Costed m (long m) rs zs os
 
 -- what a word's symbols cost by themselves, from position i on
 abbrev pub symbol-cost : (zs os : List ℕ) → (i c : ℕ) → ℕ

@@ -1,18 +1,19 @@
--- Cosets: a syndrome is below their number, and two words with the same syndrome have a sum with syndrome 0.
+-- Cosets: a syndrome is below their number, as is a column, and two words with the same syndrome have a sum with syndrome 0.
 -- Assumes nothing.
-use mathlib.Core.Path.{ap, _∙_}
+use mathlib.Core.Path.{_≡_, ap, _∙_}
 use mathlib.Core.Bool.{Bool, true, false, _&&_, cond}
 use Prim.Native.Nat.{ℕ, _+_, _*_, _^_, _<_}
 use native.Mathlib.Nat.{mul-le-mul-left, mul-suc}
 use native.Mathlib.Omega.{arith}
 use lib.Dec.{T, eqb, leb, leb→le, le→leb, lit<}
 use lib.Pow.{pow-add}
-use Rattle.field.specs.Field.{xor}
+use Rattle.field.specs.Field.{width-good, alpha, xor}
 use Rattle.code.specs.Code.{value-at}
-use Rattle.split.specs.Split.{number, syndrome, cosets}
+use Rattle.split.specs.Split.{number, syndrome, column, cosets}
 use Rattle.split.specs.Promise.{Syndrome-inside, Sum-is-bch}
 use Rattle.field.proofs.Tests.{and-l}
 use Rattle.field.proofs.Xor as X
+use Rattle.field.proofs.Field as F
 use Rattle.code.proofs.Words.{Below}
 use Rattle.split.proofs.Layers as L
 use Rattle.split.proofs.Columns.{syndrome-sum}
@@ -34,12 +35,22 @@ upper false false m a b i ha hb = omega arith
 fifth-third : (r : ℕ) (b : Bool) → T (leb 5 r && b) → T (leb 3 r)
 fifth-third r b t = le→leb 3 r (omega (arith, leb→le 5 r (and-l (leb 5 r) b t)))
 
+-- a number from the values at α, α^3 and α^5
+parts-inside : (m r x y z : ℕ) → x < 2 ^ m → y < 2 ^ m → x + 2 ^ m * (cond (leb 3 r) y 0 + 2 ^ m * cond (leb 5 r && eqb m 4) (number z) 0) < cosets m r
+unfolding cosets
+parts-inside m r x y z hx hy =
+    digit m (cond (leb 3 r) m 0 + cond (leb 5 r && eqb m 4) 2 0) x _ hx
+    (upper (leb 3 r) (leb 5 r && eqb m 4) m y (number z) (fifth-third r (eqb m 4)) hy (number-lt z))
+
+pub column-inside : (m r i : ℕ) → width-good m ≡ true → column m r i < cosets m r
+unfolding column
+column-inside m r i w = parts-inside m r (alpha m (i * 1)) (alpha m (i * 3)) (alpha m (i * 5)) (F.alpha-lt m w (i * 1)) (F.alpha-lt m w (i * 3))
+
 pub syndrome-inside : Syndrome-inside
-unfolding Syndrome-inside syndrome cosets
+unfolding Syndrome-inside syndrome
 syndrome-inside m r bs w b =
     let p : Below 2 bs = L.bits m bs b in
-    digit m (cond (leb 3 r) m 0 + cond (leb 5 r && eqb m 4) 2 0) (value-at m 1 bs) _ (L.at-lt m w 1 bs p)
-    (upper (leb 3 r) (leb 5 r && eqb m 4) m (value-at m 3 bs) (number (value-at m 5 bs)) (fifth-third r (eqb m 4)) (L.at-lt m w 3 bs p) (number-lt (value-at m 5 bs)))
+    parts-inside m r (value-at m 1 bs) (value-at m 3 bs) (value-at m 5 bs) (L.at-lt m w 1 bs p) (L.at-lt m w 3 bs p)
 
 pub sum-is-bch : Sum-is-bch
 unfolding Sum-is-bch

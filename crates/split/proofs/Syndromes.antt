@@ -12,7 +12,7 @@ use lib.Seq.{take-all}
 use borrow.Author.Tests.{le-leb, lt-leb}
 use Rattle.field.specs.Field.{width-good, alpha}
 use Rattle.code.specs.Code.{value-at}
-use Rattle.split.specs.Split.{layer, syndrome, column, syndromes, syndromes-from, padded}
+use Rattle.split.specs.Split.{layer, syndrome, syndromes, syndromes-from, padded}
 use Rattle.field.proofs.Tests.{widths}
 
 pub one-value : (m r : ℕ) (bs : List ℕ) → r < 3 → value-at m 1 bs ≡ syndrome m r bs
@@ -28,21 +28,6 @@ two-values m r bs l h =
     let p : leb 3 r ≡ true = le-leb 3 r l in
     let q : leb 5 r ≡ false = lt-leb 5 r (omega arith) in
     rw (p, q) (simp (mul-zero, add-zero))
-
--- the same of a column
-pub one-power : (m r i : ℕ) → r < 3 → alpha m i ≡ column m r i
-unfolding column
-one-power m r i h =
-    let p : leb 3 r ≡ false = lt-leb 3 r h in
-    let q : leb 5 r ≡ false = lt-leb 5 r (omega arith) in
-    rw (p, q) (simp (mul-zero, add-zero, mul-one))
-
-pub two-powers : (m r i : ℕ) → 3 ≤ r → r ≤ 4 → alpha m i + 2 ^ m * alpha m (i * 3) ≡ column m r i
-unfolding column
-two-powers m r i l h =
-    let p : leb 3 r ≡ true = le-leb 3 r l in
-    let q : leb 5 r ≡ false = lt-leb 5 r (omega arith) in
-    rw (p, q) (simp (mul-zero, add-zero, mul-one))
 
 -- a pair of values fits sixteen bits
 pub size-small : (m : ℕ) → width-good m ≡ true → 2 ^ m ≤ 16

@@ -14,12 +14,6 @@ pub record Coset (code s : ℕ) : Type 0 where
   pub code-is : code-good code ≡ true
   pub inside : s < cosets (width code) (roots code)
 
--- a position, and a number of roots for which a syndrome has the values at α and α^3 alone
-pub record Position-of (m r i : ℕ) : Type 0 where
-  pub width-is : width-good m ≡ true
-  pub few : r ≤ 4
-  pub inside : i < long m
-
 -- a word of n symbols and one of its layers
 pub record Layer-of (m j : ℕ) (word : List ℕ) : Type 0 where
   pub width-is : width-good m ≡ true

@@ -1,6 +1,6 @@
 // A word as m binary layers: their syndromes, the leaders of their cosets, and the split of a codeword.
 // `split` is offered to callers: it takes any input and promises what specs/Calls.antt says, by the definitions of
-// specs/Split.antt. `leader`, `column_of` and `syndromes_of` are for the crates above. Which configurations are valid, and all of them by
+// specs/Split.antt. `leader` and `syndromes_of` are for the crates above. Which configurations are valid, and all of them by
 // number, is left to the crate `configurations`; words and codes are the crate `code`'s.
 mod tables;
 
@@ -14,8 +14,8 @@ ghost use lib.ListN.{length};
 ghost use Rattle.field.specs.Field.{width-good};
 ghost use Rattle.code.specs.Code.{width, roots, long, value-at};
 ghost use Rattle.code.specs.Bits.{bits-of};
-ghost use Rattle.split.specs.Split.{layer, syndrome, column, syndromes, padded, Leader, sum};
-ghost use Rattle.split.specs.Within.{Coset, Position-of, Layer-of, Layers-of, Layered};
+ghost use Rattle.split.specs.Split.{layer, syndrome, syndromes, padded, Leader, sum};
+ghost use Rattle.split.specs.Within.{Coset, Layer-of, Layers-of, Layered};
 ghost use Rattle.split.specs.Calls.{split-refusal, Split-right, Split-says};
 
 // The number of a refusal, or 0 with the configuration of the word.
@@ -76,18 +76,6 @@ fn size(m: u32) -> u16
     ensures { λ r. ⌜ r ≡ 2 ^ m ⌝ }
 {
     if m == 3 { 8 } else { 16 }
-}
-
-// What a 1 at position i adds to the syndrome.
-pub fn column_of(m: u32, r: u32, i: u32) -> u16
-    requires { ⌜ Position-of m r i ⌝ }
-    ensures { λ x. ⌜ x ≡ column m r i ⌝ }
-{
-    let first = wide(field::power(m, i));
-    if r < 3 {
-        return first;
-    }
-    first + size(m) * wide(field::power(m, i * 3))
 }
 
 // The syndrome of layer j of a word.

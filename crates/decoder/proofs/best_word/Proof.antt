@@ -16,7 +16,7 @@ walk-requires c κs = let s = c .before .before .before .before .before .before 
     let a = s .args in
     let p = s .pre in
     let e = c .before .before .before .clear .ensures .0 ∙ p .1 .1 .0 in
-    (tuples-ok (a .code) (a .m) (a .r) (a .q) (a .n) (a .size) (a .count) (a .row .now) (a .cs .now) (a .hs .now) (a .zs .now) (a .os .now) (a .t .now) (p .0) (p .1 .0), (e, λ i h. c .before .before .before .clear .ensures .1 i (omega arith)))
+    (tuples-ok (p .0) (p .1 .0), (e, λ i h. c .before .before .before .clear .ensures .1 i (omega arith)))
 
 trace-word-requires : tie.Need-trace-word-requires
 trace-word-requires c κs = let s = c .before .before .before .before .before .before .before .before .before .before .before .before .before .before .before .before .before in

@@ -17,7 +17,7 @@ least-of-requires c κs = let s = c .before .before .before .before .before .bef
     let a = s .args in
     let p = s .pre in
     let t = c .before .before .before .before .before .before .before .of-row in
-    tuples-ok (a .code) (a .m) (a .r) (a .q) (a .n) (a .size) (a .count) (a .row .now) (a .cs .now) (a .hs .now) (t .last .1 .1 .1 .1 .1 .1 .1 .1 .1 .1 .0) (t .last .1 .1 .1 .1 .1 .1 .1 .1 .1 .1 .1 .0) (t .last .1 .1 .1 .1 .1 .1 .1 .1 .1 .1 .1 .1 .0) (p .0) (t .ensures)
+    tuples-ok (p .0) (t .ensures)
 
 word-cost-requires : tie.Need-word-cost-requires
 word-cost-requires c κs = let s = c .before .before .before .before .before .before .before .before .before .before .before .before .before .before .before .before .before .before .before .before in

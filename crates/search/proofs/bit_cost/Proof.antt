@@ -1,7 +1,6 @@
 -- `search::bit_cost` meets its contract.
 -- Assumes nothing.
 use Rattle.search.proofs.Sums.{pick-one}
-use borrow.Author.Needs.{needs}
 use Rattle.search.proofs.bit_cost.Statement.{statement}
 use Rattle.search.proofs.bit_cost.Tie as tie
 

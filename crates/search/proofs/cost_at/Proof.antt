@@ -2,29 +2,14 @@
 -- Assumes nothing.
 use borrow.Author.Needs.{needs}
 use mathlib.Core.Path.{_∙_}
-use native.Mathlib.Omega.{arith}
 use lib.ListN.{getD}
 use Rattle.search.proofs.Sums.{own-in, symbol-ok, from-rows}
 use Rattle.search.proofs.cost_at.Statement.{statement}
 use Rattle.search.proofs.cost_at.Tie as tie
 
-shared-slice-read-symbol-cost : tie.Need-shared-slice-read-symbol-cost
-shared-slice-read-symbol-cost c = search needs
-
-load-requires : tie.Need-load-requires
-load-requires c κs = let s = c .before .before .before .before in
-    let a = s .args in
-    own-in (a .top) (a .zs .now) (a .os .now) (a .word .now) (s .pre .0) (a .i) (s .pre .1) .0
-
-load-requires-2 : tie.Need-load-requires-2
-load-requires-2 c κs = let s = c .before .before .before .before .before in
-    let a = s .args in
-    own-in (a .top) (a .zs .now) (a .os .now) (a .word .now) (s .pre .0) (a .i) (s .pre .1) .1
-
 symbol-cost-requires : tie.Need-symbol-cost-requires
 symbol-cost-requires c κs = let s = c .before .before .before .before .before .before in
-    let a = s .args in
-    rw (c .before .load .ensures, c .load2 .ensures) (symbol-ok (a .top) (a .zs .now) (a .os .now) (a .word .now) (s .pre .0) (a .i) (s .pre .1))
+    rw (c .before .load .ensures, c .load2 .ensures) (symbol-ok (s .pre .0) (s .args .i) (s .pre .1))
 
 returns : tie.Need-returns
 returns c = let a = c .before .before .before .before .before .before .before .args in
@@ -35,8 +20,8 @@ pub cost-at-spec : {M : Type 1} → statement M
 cost-at-spec =
     tie.close
     (tie.spec
-    shared-slice-read-symbol-cost
-    load-requires
-    load-requires-2
+    (λ c. search needs)
+    (λ c κs. let s = c .before .before .before .before in own-in (s .pre .0) (s .args .i) (s .pre .1) .0)
+    (λ c κs. let s = c .before .before .before .before .before in own-in (s .pre .0) (s .args .i) (s .pre .1) .1)
     symbol-cost-requires
     returns)

@@ -2,8 +2,8 @@
 -- Assumes nothing.
 use native.Mathlib.Omega.{arith}
 use borrow.Author.Needs.{needs}
-use mathlib.Core.Path.{_≡_, refl, sym, ap, _∙_}
-use Prim.Native.Nat.{ℕ, _+_, _-_, _*_, _≤_, _<_}
+use mathlib.Core.Path.{_≡_, refl, sym, _∙_}
+use Prim.Native.Nat.{_-_, _≤_, _<_}
 use lib.ListN.{length, getD, length-set}
 use lib.IntN.{pos}
 use mir.Syntax.{w16}
@@ -23,36 +23,6 @@ abbrev μ-loop : tie.MeasureT-loop
 loop-holds : tie.Need-loop-holds Inv-loop μ-loop
 loop-holds c = let s = c .before .before in (omega arith, refl, sym (s .pre .0), record { zeros = λ k h. absurd (omega arith); ones = λ k h. absurd (omega arith) })
 
-mul-r : tie.Need-mul-r Inv-loop μ-loop
-mul-r c = search needs
-
-shared-slice-copy-out-r : tie.Need-shared-slice-copy-out-r Inv-loop μ-loop
-shared-slice-copy-out-r c = search needs
-
-cost-of-zero-requires : tie.Need-cost-of-zero-requires Inv-loop μ-loop
-cost-of-zero-requires c κs = search needs
-
-mul-zs : tie.Need-mul-zs Inv-loop μ-loop
-mul-zs c = search needs
-
-slice-write-zs : tie.Need-slice-write-zs Inv-loop μ-loop
-slice-write-zs c = search needs
-
-cost-of-one-requires : tie.Need-cost-of-one-requires Inv-loop μ-loop
-cost-of-one-requires c κs = search needs
-
-mul-os : tie.Need-mul-os Inv-loop μ-loop
-mul-os c = search needs
-
-slice-write-os : tie.Need-slice-write-os Inv-loop μ-loop
-slice-write-os c = search needs
-
-add-b : tie.Need-add-b Inv-loop μ-loop
-add-b c = search needs
-
-loop-less : tie.Need-loop-less Inv-loop μ-loop
-loop-less c = search needs
-
 loop-again : tie.Need-loop-again Inv-loop μ-loop
 loop-again c = let n = c .before .before .before in
     let t = n .before .loop in
@@ -64,12 +34,6 @@ loop-again c = let n = c .before .before .before in
     let ez = through costZero (c .before .cost-of-zero .result) x x k (c .before .cost-of-zero .ensures) refl in
     let eo = through costOne (c .cost-of-one .result) x x k (c .cost-of-one .ensures) refl in
     (omega (arith, t .inv .1), length-set (t .zs) (t .b) (c .before .cost-of-zero .result) ∙ t .inv .1, length-set (t .os) (t .b) (c .cost-of-one .result) ∙ t .inv .2, costs-more (a .wide .now) (t .zs) (t .os) (t .b) (c .before .cost-of-zero .result) (c .cost-of-one .result) l (omega (arith, t .inv .1, t .inv .2)) ez eo (t .inv .3))
-
-same-length : tie.Need-same-length Inv-loop μ-loop
-same-length c = search needs
-
-same-length-2 : tie.Need-same-length-2 Inv-loop μ-loop
-same-length-2 c = search needs
 
 returns : tie.Need-returns Inv-loop μ-loop
 returns c = let t = c .before .loop in
@@ -83,17 +47,17 @@ costs-spec =
     Inv-loop
     μ-loop
     loop-holds
-    mul-r
-    shared-slice-copy-out-r
-    cost-of-zero-requires
-    mul-zs
-    slice-write-zs
-    cost-of-one-requires
-    mul-os
-    slice-write-os
-    add-b
-    loop-less
+    (λ c. search needs)
+    (λ c. search needs)
+    (λ c κs. search needs)
+    (λ c. search needs)
+    (λ c. search needs)
+    (λ c κs. search needs)
+    (λ c. search needs)
+    (λ c. search needs)
+    (λ c. search needs)
+    (λ c. search needs)
     loop-again
-    same-length
-    same-length-2
+    (λ c. search needs)
+    (λ c. search needs)
     returns)

@@ -2,12 +2,7 @@
 -- Assumes nothing.
 use mir.Facts.{toZ-ofZ}
 use borrow.Author.Tests.{lt-ltb, le-ltb}
-use lib.ListN.{length, getD}
 use native.Mathlib.Omega.{arith}
-use Prim.Native.Nat.{ℕ, suc, _<_, _≤_, _-_, _+_, _*_, _^_}
-use mathlib.Core.List.{List}
-use mathlib.Core.Path.{_≡_, sym, ap, ap₂, _∙_, subst, refl}
-use borrow.Author.Needs.{needs}
 use Rattle.search.proofs.reliability_at.Statement.{statement}
 use Rattle.search.proofs.reliability_at.Tie as tie
 

@@ -1,9 +1,8 @@
 -- `search::spread` meets its contract.
 -- Assumes nothing.
 use native.Mathlib.Omega.{arith}
-use borrow.Author.Needs.{needs}
-use mathlib.Core.Path.{_≡_, refl, sym, ap, _∙_}
-use Prim.Native.Nat.{ℕ, _+_, _-_, _*_, _≤_, _<_}
+use mathlib.Core.Path.{_≡_, refl, ap, _∙_}
+use Prim.Native.Nat.{_-_, _*_, _≤_, _<_}
 use lib.ListN.{length}
 use Rattle.search.specs.Within.{reliability, Spread}
 use Rattle.search.proofs.Prepared.{length-four, spread-more, inside}
@@ -27,12 +26,6 @@ spread-at-requires c κs = let n = c .before in
     let l : t .i < a .n = n .loop-test .taken in
     (s .pre .0, omega (arith, s .pre .1, inside (a .m) (a .n) (t .i) l), omega (arith, s .pre .2, t .inv .1))
 
-add-i : tie.Need-add-i Inv-loop μ-loop
-add-i c = omega arith
-
-loop-less : tie.Need-loop-less Inv-loop μ-loop
-loop-less c = omega arith
-
 loop-again : tie.Need-loop-again Inv-loop μ-loop
 loop-again c = let n = c .before .before .before in
     let t = n .before .loop in
@@ -41,9 +34,6 @@ loop-again c = let n = c .before .before .before in
     let l : t .i < a .n = n .loop-test .taken in
     let e = c .before .spread-at .ensures in
     (omega arith, ap length e ∙ length-four (t .wide) (t .i * 4) (reliability (a .m) (a .row .now) (t .i)) ∙ t .inv .1, spread-more (a .m) (t .i) (a .row .now) (t .wide) _ (omega (arith, s .pre .2, t .inv .1)) (t .inv .2) e)
-
-same-length : tie.Need-same-length Inv-loop μ-loop
-same-length c = c .before .loop .inv .1
 
 returns : tie.Need-returns Inv-loop μ-loop
 returns c = let e : c .before .loop .i ≡ c .before .before .args .n = omega arith in
@@ -57,8 +47,8 @@ spread-spec =
     μ-loop
     loop-holds
     spread-at-requires
-    add-i
-    loop-less
+    (λ c. omega arith)
+    (λ c. omega arith)
     loop-again
-    same-length
+    (λ c. c .before .loop .inv .1)
     returns)
