@@ -10,7 +10,7 @@ use lib.ListN.{length}
 use lib.IntN.{ℤ}
 use Rattle.code.specs.Code.{width, roots, long, is-codeword}
 use Rattle.code.specs.Bits.{row-long}
-use Rattle.refusal.specs.Refusal.{Outcome}
+use Rattle.refusal.specs.Refusal.{unless, Outcome}
 use Rattle.metric.specs.Metric.{Greatest, Marked}
 use Rattle.metric.proofs.Promise.{decoded-greatest}
 use Rattle.decoder.specs.declared.Decoding.{Decoding}
@@ -34,7 +34,7 @@ done (suc n) r D K e o = absurd (omega arith)
 pub answered :
     (c n : ℕ) (rs : List ℤ) (ws : List ℕ) (d : Decoding) (b us : List ℕ) (s so : List ℤ) → question-good (question c n rs ws) ≡ true →
     length b ≡ length ws → length s ≡ length rs → Decode-says c rs d b us s so → Answered c rs (d .metric) so
-unfolding Decode-says decode-refusal
+unfolding Decode-says decode-refusal unless
 answered c n rs ws d b us s so q lb ls x =
     let g = good-parts (question c n rs ws) q in
     let m = width c in
@@ -65,7 +65,7 @@ found c rs g so x = decoded-greatest (width c) (is-codeword (width c) (roots c))
 pub said :
     (c n : ℕ) (rs : List ℤ) (ws : List ℕ) (k : Mark) (g : ℤ) (so : List ℤ) → question-good (question c n rs ws) ≡ true → Answered c rs g so →
     Mark-says c rs ws k → Said c n rs ws g so (k .verdict) (k .shortfall)
-unfolding question Mark-says
+unfolding Mark-says
 said c n rs ws k best so q x y =
     let g = good-parts (question c n rs ws) q in
     record {
