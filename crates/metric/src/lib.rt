@@ -1,6 +1,6 @@
 // Reliabilities and metrics: the definitions that the decoder, the marker and the sheets share, with their laws, and the tests of a reliability
-// and of a row. The search for a best word is left to the crates above. Its functions are for them, and promise `reliability-good` and
-// `row-good` of specs/Row.antt.
+// and of a row, and the metric of a word. The search for a best word is left to the crates above. Its functions are for them, and promise
+// `reliability-good` and `row-good` of specs/Row.antt and `metric` of specs/Metric.antt.
 ghost use mathlib.Core.Path.{_≡_};
 ghost use mathlib.Core.Bool.{true, _&&_, cond};
 ghost use mathlib.Core.List.{List, _++_};
