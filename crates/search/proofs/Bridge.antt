@@ -19,7 +19,7 @@ use Rattle.code.specs.Code.{code-good, width, roots, long, is-codeword}
 use Rattle.code.specs.Bits.{row-long}
 use Rattle.code.specs.Promise.{Codes-inside}
 use Rattle.code.proofs.Promise.{codes-inside}
-use Rattle.code.proofs.Words.{Below, good, Codeword-parts, codeword-parts}
+use Rattle.code.proofs.Words.{Below, widen, good, Codeword-parts, codeword-parts}
 use Rattle.split.specs.Split.{layer, syndrome, columns-from, syndromes, padded, Binary}
 use Rattle.split.specs.Promise.{Syndrome-columns}
 use Rattle.split.proofs.Layers.{all-of, layer-length, layer-binary}
@@ -78,7 +78,7 @@ pub two-free : (i : ℕ) (bs : List ℕ) → Below 2 bs → Held free i bs
 two-free i [] h = tt
 two-free i (b ∷ bs) h = (h .0, two-free (suc i) bs (h .1))
 
--- what bits add up to in the trellis is their syndrome
+-- the trellis of a row
 module _ {m r : ℕ} {rs : List ℤ} {hs zs os : List ℕ} (y : Spelt m r rs hs zs os) (j : ℕ) where
   adds-from : (i : ℕ) (bs : List ℕ) → i + length bs ≤ long m → syn (R.layer hs zs os j) i bs ≡ columns-from m r i bs
   unfolding syn columns-from
@@ -86,6 +86,11 @@ module _ {m r : ℕ} {rs : List ℤ} {hs zs os : List ℕ} (y : Spelt m r rs hs 
   adds-from i (zero ∷ bs) h = ap (xor 0) (adds-from (suc i) bs (omega arith))
   adds-from i (suc b ∷ bs) h = rw (ne-eqb (suc b) 0 (λ e. omega arith)) (ap₂ xor (y .columns .heads i (omega arith)) (adds-from (suc i) bs (omega arith)))
 
+  -- a layer above the width costs nothing
+  pub costless : m ≤ j → j < 4 → (i : ℕ) → i < long m → R.layer hs zs os j i .c0 ≡ 0
+  costless u lj i li = y .costs .zeros i j li lj ∙ ap (λ (t : Bool). costZero (cond t (getD rs (i * m + j) (pos 0)) (pos 0))) (le-ltb j m u)
+
+  -- what bits add up to is their syndrome
   adds : width-good m ≡ true → (bs : List ℕ) → Binary m bs → syn (R.layer hs zs os j) 0 bs ≡ syndrome m r bs
   unfolding Syndrome-columns
   adds w bs b = adds-from 0 bs (omega (arith, b .count)) ∙ sym (syndrome-columns m r bs w b)
@@ -113,17 +118,10 @@ module _ (c : ℕ) (g : code-good c ≡ true) (rs : List ℤ) (l : length rs ≡
   abbrev pub table : (holds : ℕ → ℕ → Choice) → ℕ → ℕ → ℕ
   table holds j = back (holds j) (L j) (final big) 0 (length hs)
 
-  -- a layer above the width costs nothing
   lane-free : (j : ℕ) → width c ≤ j → j < 4 → (i : ℕ) (bs : List ℕ) → Below 1 bs → i + length bs ≤ long (width c) → T.cost (L j) i bs ≡ 0
   unfolding T.cost
   lane-free j u lj i [] b e = refl
-  lane-free j u lj i (zero ∷ bs) b e =
-      omega (
-        arith,
-        lane-free j u lj (suc i) bs (b .1) (omega arith),
-        y .costs .zeros i j (omega arith) lj,
-        ap (λ (t : Bool). costZero (cond t (getD rs (i * width c + j) (pos 0)) (pos 0))) (le-ltb j (width c) u),
-      )
+  lane-free j u lj i (zero ∷ bs) b e = omega (arith, lane-free j u lj (suc i) bs (b .1) (omega arith), costless y j u lj i (omega arith))
   lane-free j u lj i (suc x ∷ bs) b e = absurd (omega (arith, b .0))
 
   module _ (holds : ℕ → ℕ → Choice) (binary : (j i : ℕ) (bs : List ℕ) → Held (holds j) i bs → Below 2 bs)
@@ -232,10 +230,6 @@ module _ (c : ℕ) (g : code-good c ≡ true) (rs : List ℤ) (l : length rs ≡
         below zero = tt
         below (suc n) = (omega arith, below n)
 
-        wide : (bs : List ℕ) → Below 1 bs → Below 2 bs
-        wide [] b = tt
-        wide (x ∷ xs) b = (omega (arith, b .0), wide xs (b .1))
-
         go : Dec (width c ≤ j) → (bs : List ℕ) × Lane k j bs
         go (no n) = (
           a .0,
@@ -252,14 +246,17 @@ module _ (c : ℕ) (g : code-good c ≡ true) (rs : List ℤ) (l : length rs ≡
           zeros,
           record {
             count = length-replicate (long (width c)) 0;
-            two = wide zeros (below (long (width c)));
+            two = two;
             sum = syn-zeros (L j) 0 zeros (below (long (width c))) ∙ sym nothing;
-            held = rw (above j u) (two-free 0 zeros (wide zeros (below (long (width c)))));
+            held = rw (above j u) (two-free 0 zeros two);
             costs = none-cost zeros (below (long (width c))) (length-replicate (long (width c)) 0);
             high = λ v. below (long (width c));
           },
         )
           where
+            two : Below 2 zeros
+            two = widen (omega arith) zeros (below (long (width c)))
+
             nothing : conf c k j ≡ 0
             nothing = conf-high c g k lk j u
 
@@ -267,7 +264,7 @@ module _ (c : ℕ) (g : code-good c ≡ true) (rs : List ℤ) (l : length rs ≡
             none-cost bs b e =
                 let z : T.cost (L j) 0 bs ≡ 0 = lane-free j u lj 0 bs b (omega arith) in
                 let v : length hs ≡ length bs = y .columns .count ∙ sym e in
-                let x = none-less (L j) big (holds j) 0 bs (rw (above j u) (two-free 0 bs (wide bs b))) in
+                let x = none-less (L j) big (holds j) 0 bs (rw (above j u) (two-free 0 bs (widen {n = 1} {p = 2} (omega arith) bs b))) in
                 let q : table holds j (conf c k j) ≡ back (holds j) (L j) (final big) 0 (length bs) (syn (L j) 0 bs) =
                 ap₂ (λ (n s : ℕ). back (holds j) (L j) (final big) 0 n s) v (nothing ∙ sym (syn-zeros (L j) 0 bs b)) in
                 omega arith

@@ -21,7 +21,8 @@ use Rattle.code.proofs.Promise.{codes-inside}
 use Rattle.code.proofs.Both.{both-there}
 use Rattle.code.proofs.Words.{Below, Codeword-parts, codeword-parts}
 use Rattle.split.specs.Split.{layer}
-use Rattle.split.proofs.Layers.{layer-below, layer-length}
+use Rattle.split.specs.Promise.{Layer-bits}
+use Rattle.split.proofs.Layers.{layer-below, layer-length, layer-bits}
 use Rattle.configurations.specs.Configurations.{configurations}
 use Rattle.metric.specs.Cost.{weight-of, cost, Least, Least-with}
 use Rattle.metric.proofs.Bounds.{cost-le}
@@ -30,7 +31,6 @@ use Rattle.trellis.specs.Rows as R
 use Rattle.trellis.proofs.Least.{least-le, least-found}
 use Rattle.glue.proofs.Engine.{over, replaced, marginal, soft-le, soft-found}
 use Rattle.search.specs.Within.{Spelt}
-use Rattle.search.proofs.Layering.{bit-layer}
 use Rattle.search.proofs.Bridge.{conf, table, lower, attains, free-two, two-free}
 
 -- bits with the one at i held
@@ -135,11 +135,11 @@ module _ (c : ℕ) (g : code-good c ≡ true) (rs : List ℤ) (l : length rs ≡
     over-same u = omega (arith, same 0 (u 0), same 1 (u 1), same 2 (u 2), same 3 (u 3))
 
     all-held : (ws : List ℕ) → is-codeword (width c) (roots c) ws ≡ true → bit-at (width c) (i * width c + j) ws ≡ v → (k : ℕ) → k < 4 → Held (holds k) 0 (layer k ws)
-    unfolding holds
+    unfolding holds Layer-bits
     all-held ws cw e k lk = go (eqb k j) refl
       where
         here : getD (layer j ws) i 0 ≡ v
-        here = sym (bit-layer (width c) j i ws hj) ∙ e
+        here = sym (layer-bits (width c) j i ws hj) ∙ e
 
         go : (x : Bool) → eqb k j ≡ x → Held (cond x (holding i v) free) 0 (layer k ws)
         go true f = rw (eqb-true k j f) (at-held i v 0 (layer j ws) (layer-below j ws) (λ n a b. rw (sym (zero-plus n) ∙ a) here))
@@ -164,12 +164,12 @@ module _ (c : ℕ) (g : code-good c ≡ true) (rs : List ℤ) (l : length rs ≡
           omega (arith, low-with (p .0) (p .1) (p .2), cost-le (width c) rs (p .0))
 
       pub least-with : Least-with (width c) (is-codeword (width c) (roots c)) rs (i * width c + j) v soft
-      unfolding holds
+      unfolding holds Layer-bits
       least-with =
           let f = soft-found F t cap (configurations c) j lj H size big e room le soft-small in
           let a = attains c g rs l hs zs os y big holds binary above (f .0) (f .1) (omega (arith, over-same (t (f .0)), f .2, soft-small)) in
           record {
-            met = (a .0, a .1, bit-layer (width c) j i (a .0) hj ∙ held-here (a .0) (a .1) (a .2 j lj), a .3 ∙ over-same (t (f .0)) ∙ f .2);
+            met = (a .0, a .1, layer-bits (width c) j i (a .0) hj ∙ held-here (a .0) (a .1) (a .2 j lj), a .3 ∙ over-same (t (f .0)) ∙ f .2);
             all = low-with;
           }
         where

@@ -9,7 +9,6 @@ use lib.ListN.{length, getD}
 use lib.IntN.{ℤ}
 use Rattle.code.specs.Code.{code-good, width, roots, long}
 use Rattle.code.specs.Bits.{row-long}
-use Rattle.code.proofs.Promise.{codes}
 use Rattle.split.specs.Split.{cosets}
 use Rattle.configurations.specs.Configurations.{configurations, listed}
 use Rattle.configurations.proofs.Listed.{listed-length}
@@ -46,7 +45,3 @@ module _ (row : List ℤ) (w : row-good row ≡ true) where
   pub input-3 : length row ≡ row-long (width 3) → (cs : List ℕ) → cs ≡ listed 3 → Input 3 4 2 4 15 16 256 row cs
   unfolding code-good width roots long cosets configurations
   input-3 l cs e = input 3 4 2 4 15 16 256 refl refl refl refl (omega arith) refl refl refl row l w cs e
-
--- the code that is neither
-pub third : (c : ℕ) → code-good c ≡ true → (c ≡ 1 → ⊥) → (c ≡ 2 → ⊥) → c ≡ 3
-third = codes (λ c. (c ≡ 1 → ⊥) → (c ≡ 2 → ⊥) → c ≡ 3) (λ a b. absurd (a refl)) (λ a b. absurd (b refl)) (λ a b. refl)

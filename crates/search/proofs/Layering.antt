@@ -1,19 +1,19 @@
--- The cost of a word is the sum of its layers' costs, and a bit of the word is a bit of its layer.
+-- The cost of a word is the sum of its layers' costs.
 -- Assumes nothing.
 use mathlib.Core.Path.{_≡_, refl, sym, ap, ap₂, _∙_, fun-ext}
 use mathlib.Core.Bool.{Bool, true, false, cond}
 use mathlib.Core.List.{List, [], _∷_, _++_}
 use Prim.Native.Nat.{ℕ, zero, suc, _+_, _*_, _/_, _%_, _^_, _≤_, _<_}
-use native.Mathlib.Nat.{not-suc-le-zero, le-of-suc-le-suc, suc-mul, zero-mul, mul-le-mul-right, div-one, div-div-eq-div-mul, pow-succ'}
+use native.Mathlib.Nat.{suc-mul, zero-mul, mul-le-mul-right, div-one, div-div-eq-div-mul, pow-succ'}
 use native.Mathlib.Omega.{arith}
 use lib.Dec.{ltb}
-use lib.ListN.{length, getD, drop, length-drop, List·getD-append}
-use lib.Seq.{getD-drop, drop-drop, getD-append-add}
+use lib.ListN.{length, getD, drop, length-drop}
+use lib.Seq.{getD-drop, drop-drop}
 use lib.IntN.{ℤ, pos}
 use Rattle.field.specs.Field.{width-good}
 use Rattle.field.proofs.Tests.{widths}
 use Rattle.code.specs.Code.{long}
-use Rattle.code.specs.Bits.{bits-of, all-bits, bit-at, row-long}
+use Rattle.code.specs.Bits.{bits-of, all-bits, row-long}
 use Rattle.split.specs.Split.{layer}
 use Rattle.metric.specs.Cost.{costZero, costOne, choose, discrepancy, cost}
 use Rattle.trellis.specs.Trellis.{pick}
@@ -36,11 +36,6 @@ first x = rw (div-one x)
 
 total-same : (k : ℕ) {f g : ℕ → ℕ} → ((i : ℕ) → f i ≡ g i) → total k f ≡ total k g
 total-same k h = ap (total k) (fun-ext h)
-
-length-bits : (k x : ℕ) → length (bits-of k x) ≡ k
-unfolding bits-of
-length-bits zero x = refl
-length-bits (suc k) x = ap suc (length-bits k (x / 2))
 
 -- what bit j of a symbol contradicts of a row's entries
 part : (x : ℕ) → List ℤ → (j : ℕ) → ℕ
@@ -105,20 +100,3 @@ module _ (m r : ℕ) (w : width-good m ≡ true) (rs : List ℤ) (hs zs os : Lis
   pub by-layers : (ws : List ℕ) → length ws ≡ long m → cost m rs ws ≡ sum4 (λ j. T.cost (R.layer hs zs os j) 0 (layer j ws))
   unfolding cost
   by-layers ws e = ap (λ (k : ℕ). discrepancy (drop k rs) (all-bits m ws)) (sym (zero-mul m)) ∙ cost-from 0 ws (omega arith)
-
--- BITS
-at-bits : (k j x : ℕ) → j < k → getD (bits-of k x) j 0 ≡ x / 2 ^ j % 2
-unfolding bits-of
-at-bits zero j x h = absurd (not-suc-le-zero h)
-at-bits (suc k) zero x h = sym (first x)
-at-bits (suc k) (suc j) x h = at-bits k j (x / 2) (le-of-suc-le-suc h) ∙ sym (next x j)
-
-pub bit-layer : (m j i : ℕ) (ws : List ℕ) → j < m → bit-at m (i * m + j) ws ≡ getD (layer j ws) i 0
-unfolding bit-at all-bits layer
-bit-layer m j i [] h = refl
-bit-layer m j zero (x ∷ xs) h =
-    let e : 0 * m + j ≡ j = omega arith in
-    rw e (List·getD-append (bits-of m x) (all-bits m xs) 0 j (omega (arith, length-bits m x)) ∙ at-bits m j x h)
-bit-layer m j (suc i) (x ∷ xs) h =
-    let e : suc i * m + j ≡ length (bits-of m x) + (i * m + j) = omega (arith, length-bits m x) in
-    rw e (getD-append-add (bits-of m x) (all-bits m xs) (i * m + j) 0 ∙ bit-layer m j i xs h)

@@ -28,7 +28,7 @@ use Rattle.search.specs.Within.{reliability, Headed, put-four, Spread, C
 clash : {X : Type 0} → false ≡ true → X
 clash e = absurd (subst T (sym e) tt)
 
-wider : (r : ℤ) → SFits w16 r → SFits w32 r
+pub wider : (r : ℤ) → SFits w16 r → SFits w32 r
 wider r f = record { sfits = omega (arith, f .sfits) }
 
 pub above-cast : (r : ℤ) → SFits w16 r → ltZ (pos 0) r ≡ true → T (nonNeg r) × Fits w16 (natAbs r)
@@ -51,9 +51,6 @@ cost-fits : (r : ℤ) → SFits w16 r → costZero r ≤ 32768
 cost-fits (pos n) f = omega arith
 cost-fits (negsuc n) f = omega (arith, f .sfits)
 
-pub below-wide : (r : ℤ) → SFits w16 r → SFits w32 r
-below-wide = wider
-
 pub below-fits : (r : ℤ) → SFits w16 r → ltZ r (pos 0) ≡ true → SFits w32 (pos 0 -ℤ toZ w32 (ofZ w32 r))
 below-fits r f e = rw (negated r f e) (record { sfits = omega (arith, cost-fits r f) })
 
@@ -72,8 +69,8 @@ not-below (pos n) e = refl
 not-below (negsuc n) e = clash (sym e)
 
 -- a signed number that was passed on
-pub through : (f : ℤ → ℕ) (x : ℕ) (r z : ℤ) → SFits w16 r → x ≡ f (toZ w16 (ofZ w16 r)) → r ≡ z → x ≡ f z
-through f x r z ok e q = e ∙ ap f (toZ-ofZ ok ∙ q)
+pub through : (f : ℤ → ℕ) {x : ℕ} {r : ℤ} → SFits w16 r → x ≡ f (toZ w16 (ofZ w16 r)) → x ≡ f r
+through f ok e = e ∙ ap f (toZ-ofZ ok)
 
 -- ---- columns
 -- a table of them, by one test that antt computes
@@ -150,16 +147,16 @@ follow f wide xs b x l e p k h = go (decLe b k)
     go (yes a) = let q : k ≡ b = omega arith in rw q (getD-set-same xs b x 0 l ∙ e)
     go (no a) = getD-set-other xs b k x 0 (λ q. omega arith) ∙ p k (omega arith)
 
-pub costs-more : (wide : List ℤ) (zs os : List ℕ) (b x y : ℕ) → b < length zs → b < length os → x ≡ costZero (getD wide b (pos 0)) → y ≡ costOne (getD wide b (pos 0)) →
-    CostsTo b wide zs os → CostsTo (b + 1) wide (set zs b x) (set os b y)
-costs-more wide zs os b x y lz lo ex ey d = record {
+pub costs-more : {wide : List ℤ} {zs os : List ℕ} {b x y : ℕ} → CostsTo b wide zs os → b < length zs → b < length os → x ≡ costZero (getD wide b (pos 0)) → y ≡ costOne (getD wide b (pos 0)) →
+    CostsTo (b + 1) wide (set zs b x) (set os b y)
+costs-more {wide} {zs} {os} {b} {x} {y} d lz lo ex ey = record {
   zeros = follow costZero wide zs b x lz ex (d .zeros);
   ones = follow costOne wide os b y lo ey (d .ones);
 }
 
 -- the costs of all places are those of all positions
-pub costed : (m n k : ℕ) (row wide : List ℤ) (zs os : List ℕ) → k ≡ n * 4 → Spread m n row wide → CostsTo k wide zs os → Costed m n row zs os
-costed m n k row wide zs os e s d = record {
+pub costed : {k : ℕ} {wide : List ℤ} {zs os : List ℕ} (m n : ℕ) (row : List ℤ) → CostsTo k wide zs os → k ≡ n * 4 → Spread m n row wide → Costed m n row zs os
+costed m n row d e s = record {
   zeros = λ i j li lj. d .zeros (i * 4 + j) (omega arith) ∙ ap costZero (s i j li lj);
   ones = λ i j li lj. d .ones (i * 4 + j) (omega arith) ∙ ap costOne (s i j li lj);
 }

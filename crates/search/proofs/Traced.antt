@@ -1,21 +1,21 @@
 -- The traced word: its layers are the traces of each layer, so it is a codeword that has the cost of its configuration.
 -- Assumes nothing.
 use mathlib.Core.Path.{_≡_, refl, ap, ap₂, _∙_}
-use mathlib.Core.Bool.{Bool, true, cond}
+use mathlib.Core.Bool.{true}
 use mathlib.Core.List.{List, _∷_}
 use Prim.Native.Nat.{ℕ, zero, suc, _+_, _*_, _≤_, _<_}
 use native.Mathlib.Omega.{arith}
-use borrow.Author.Tests.{le-leb, le-ltb}
+use borrow.Author.Tests.{le-leb}
 use lib.Dec.{leb}
 use lib.ListN.{length, getD}
-use lib.IntN.{ℤ, pos}
+use lib.IntN.{ℤ}
 use Rattle.field.specs.Field.{xor}
 use Rattle.field.proofs.Xor as X
 use Rattle.code.specs.Code.{code-good, width, roots, long, is-codeword}
 use Rattle.code.specs.Bits.{row-long}
 use Rattle.code.proofs.Words.{Below}
 use Rattle.configurations.specs.Configurations.{configurations}
-use Rattle.metric.specs.Cost.{costZero, cost}
+use Rattle.metric.specs.Cost.{cost}
 use Rattle.trellis.specs.Trellis.{Columns, pick, step, back, free, final, bit, choice, trace}
 use Rattle.trellis.specs.Rows as R
 use Rattle.lanes.specs.Lanes.{lane, lanes}
@@ -23,9 +23,10 @@ use Rattle.trellis.specs.Rows.{chosen, traced}
 use Rattle.trellis.proofs.Trellis.{Attains, reaches}
 use Rattle.trellis.proofs.Trellis as TT
 use Rattle.glue.proofs.Engine.{over}
+use Rattle.lanes.proofs.Rows.{four}
 use Rattle.search.specs.Within.{Spelt}
 use Rattle.search.proofs.Weave.{merge, weave}
-use Rattle.search.proofs.Bridge.{conf, table, Lane, woven, free-two, conf-high}
+use Rattle.search.proofs.Bridge.{conf, table, costless, Lane, woven, free-two, conf-high}
 
 -- the four layers' traces, woven
 pub traced-weave : (big : ℕ) (hs zs os : List ℕ) (i k : ℕ) (s : List ℕ) →
@@ -70,14 +71,7 @@ module _ (c : ℕ) (g : code-good c ≡ true) (rs : List ℤ) (l : length rs ≡
       rw (traced-weave big hs zs os 0 (length hs) s) (t .0, t .2)
     where
       small : (j : ℕ) → j < 4 → F j (conf c k j) < big
-      small zero lj = omega arith
-      small (suc zero) lj = omega arith
-      small (suc (suc zero)) lj = omega arith
-      small (suc (suc (suc zero))) lj = omega arith
-      small (suc (suc (suc (suc j)))) lj = absurd (omega arith)
-
-      costless : (j : ℕ) → j < 4 → width c ≤ j → (p : ℕ) → p < long (width c) → L j p .c0 ≡ 0
-      costless j lj u p lp = y .costs .zeros p j lp lj ∙ ap (λ (t : Bool). costZero (cond t (getD rs (p * width c + j) (pos 0)) (pos 0))) (le-ltb j (width c) u)
+      small = four (λ j. F j (conf c k j) < big) (omega arith) (omega arith) (omega arith) (omega arith)
 
       each : (j : ℕ) → j < 4 → Lane c g rs l hs zs os y big (λ j. free) (λ j. free-two) (λ j u. refl) k j (trace (L j) (final big) 0 (length hs) (lane s j))
       each j lj =
@@ -89,5 +83,5 @@ module _ (c : ℕ) (g : code-good c ≡ true) (rs : List ℤ) (l : length rs ≡
             sum = r .0;
             held = a .held;
             costs = r .1;
-            high = λ u. rw (conf-high c g k lk j u) (trace-zero (L j) big (long (width c)) (costless j lj u) 0 (length hs) (omega (arith, y .columns .count)));
+            high = λ u. rw (conf-high c g k lk j u) (trace-zero (L j) big (long (width c)) (costless y j u lj) 0 (length hs) (omega (arith, y .columns .count)));
           })

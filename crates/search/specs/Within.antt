@@ -33,13 +33,6 @@ cap = 17147
 abbrev pub reliability : (m : ℕ) → (row : List ℤ) → (i j : ℕ) → ℤ
 reliability m rs i j = cond (ltb j m) (getD rs (i * m + j) (pos 0)) (pos 0)
 
--- what a 0 and a 1 cost there
-abbrev pub zero-cost : (m : ℕ) → (row : List ℤ) → (i j : ℕ) → ℕ
-zero-cost m rs i j = costZero (reliability m rs i j)
-
-abbrev pub one-cost : (m : ℕ) → (row : List ℤ) → (i j : ℕ) → ℕ
-one-cost m rs i j = costOne (reliability m rs i j)
-
 -- hs is the columns of a code
 pub record Headed (m r : ℕ) (hs : List ℕ) : Type 0 where
   pub count : length hs ≡ long m
@@ -68,8 +61,8 @@ pub record CostRows (m n : ℕ) (row : List ℤ) (zs os : List ℕ) : Type 0 whe
 
 -- the costs of the first n positions are written
 pub record Costed (m n : ℕ) (row : List ℤ) (zs os : List ℕ) : Type 0 where
-  pub zeros : (i j : ℕ) → i < n → j < 4 → entry zs i j ≡ zero-cost m row i j
-  pub ones : (i j : ℕ) → i < n → j < 4 → entry os i j ≡ one-cost m row i j
+  pub zeros : (i j : ℕ) → i < n → j < 4 → entry zs i j ≡ costZero (reliability m row i j)
+  pub ones : (i j : ℕ) → i < n → j < 4 → entry os i j ≡ costOne (reliability m row i j)
 
 -- the trellis of a row: hs, zs and os spell the columns of its layers
 pub record Spelt (m r : ℕ) (rs : List ℤ) (hs zs os : List ℕ) : Type 0 where

@@ -1,6 +1,6 @@
 -- `decoder::decode` meets its contract.
 -- Assumes nothing.
-use Rattle.search.proofs.Inputs.{third}
+use Rattle.split.proofs.Leaders.{last-code}
 use Rattle.decoder.proofs.Joins.{decode-refused, good-code, accepted, decode-done}
 use mir.Facts.{toZ-ofZ}
 use borrow.Author.Needs.{needs}
@@ -56,7 +56,7 @@ decode-3-requires : tie.Need-decode-3-requires
 decode-3-requires c κs = let s = c .before .before .before .before .before .before .before in
     let a = s .args in
     let d = c .before .before .before .before .before .decode-refusal in
-    accepted (a .code) (a .row .now) (a .word .now) (a .soft .now) (d .result) (d .ensures) (c .before .before .before .before .if1 .left) 3 (third (a .code) (good-code (a .code) (a .row .now) (a .word .now) (a .soft .now) (d .result) (d .ensures) (c .before .before .before .before .if1 .left)) (c .before .before .before .if2 .left) (c .before .before .if3 .left))
+    accepted (a .code) (a .row .now) (a .word .now) (a .soft .now) (d .result) (d .ensures) (c .before .before .before .before .if1 .left) 3 (last-code (a .code) (good-code (a .code) (a .row .now) (a .word .now) (a .soft .now) (d .result) (d .ensures) (c .before .before .before .before .if1 .left)) (c .before .before .before .if2 .left) (c .before .before .if3 .left))
 
 same-length-5 : tie.Need-same-length-5
 same-length-5 c = search needs
@@ -68,7 +68,7 @@ returns-4 : tie.Need-returns-4
 returns-4 c = let s = c .before .before .before .before .before .before .before .before .before .before .before in
     let a = s .args in
     let d = c .before .before .before .before .before .before .before .before .before .decode-refusal in
-    decode-done (a .code) (a .row .now) (a .word .now) (a .soft .now) (d .result) (d .ensures) (c .before .before .before .before .before .before .before .before .if1 .left) 3 (third (a .code) (good-code (a .code) (a .row .now) (a .word .now) (a .soft .now) (d .result) (d .ensures) (c .before .before .before .before .before .before .before .before .if1 .left)) (c .before .before .before .before .before .before .before .if2 .left) (c .before .before .before .before .before .before .if3 .left)) (c .before .before .before .decode-3 .result) _ (c .before .before .before .decode-3 .last .1 .0) (c .before .before .before .decode-3 .last .1 .1 .0) (toZ-ofZ (record { sfits = c .before .before .before .decode-3 .ok })) (c .before .before .before .decode-3 .ensures)
+    decode-done (a .code) (a .row .now) (a .word .now) (a .soft .now) (d .result) (d .ensures) (c .before .before .before .before .before .before .before .before .if1 .left) 3 (last-code (a .code) (good-code (a .code) (a .row .now) (a .word .now) (a .soft .now) (d .result) (d .ensures) (c .before .before .before .before .before .before .before .before .if1 .left)) (c .before .before .before .before .before .before .before .if2 .left) (c .before .before .before .before .before .before .if3 .left)) (c .before .before .before .decode-3 .result) _ (c .before .before .before .decode-3 .last .1 .0) (c .before .before .before .decode-3 .last .1 .1 .0) (toZ-ofZ (record { sfits = c .before .before .before .decode-3 .ok })) (c .before .before .before .decode-3 .ensures)
 
 pub decode-spec : {M : Type 1} → statement M
 decode-spec =

@@ -1,6 +1,6 @@
 -- `marker::excess` meets its contract.
 -- Assumes nothing.
-use Rattle.search.proofs.Inputs.{third}
+use Rattle.split.proofs.Leaders.{last-code}
 use Rattle.marker.specs.Within.{Judged, Short}
 use native.Mathlib.Omega.{arith}
 use Prim.Native.Nat.{ℕ}
@@ -36,13 +36,13 @@ excess-3-requires : tie.Need-excess-3-requires
 excess-3-requires c κs = let s = c .before .before .before in
     let a = s .args in
     let p = s .pre in
-    subst (λ (x : ℕ). Judged x (a .row .now) (a .word .now)) (third (a .code) (p .0) (c .before .if1 .left) (c .if2 .left)) (p .1)
+    subst (λ (x : ℕ). Judged x (a .row .now) (a .word .now)) (last-code (a .code) (p .0) (c .before .if1 .left) (c .if2 .left)) (p .1)
 
 returns-3 : tie.Need-returns-3
 returns-3 c = let s = c .before .before .before .before in
     let a = s .args in
     let p = s .pre in
-    subst (λ (x : ℕ). Short x (a .row .now) (a .word .now) (c .excess-3 .result)) (sym (third (a .code) (p .0) (c .before .before .if1 .left) (c .before .if2 .left))) (c .excess-3 .ensures)
+    subst (λ (x : ℕ). Short x (a .row .now) (a .word .now) (c .excess-3 .result)) (sym (last-code (a .code) (p .0) (c .before .before .if1 .left) (c .before .if2 .left))) (c .excess-3 .ensures)
 
 pub excess-spec : {M : Type 1} → statement M
 excess-spec =

@@ -1,6 +1,6 @@
 -- `search::cost_of_zero` meets its contract.
 -- Assumes nothing.
-use Rattle.search.proofs.Prepared.{below-wide, below-fits, below-cast, below-cost, not-below}
+use Rattle.search.proofs.Prepared.{wider, below-fits, below-cast, below-cost, not-below}
 use mir.Facts.{toZ-ofZ}
 use Rattle.search.proofs.cost_of_zero.Statement.{statement}
 use Rattle.search.proofs.cost_of_zero.Tie as tie
@@ -8,7 +8,7 @@ use Rattle.search.proofs.cost_of_zero.Tie as tie
 cast-result : tie.Need-cast-result
 cast-result c = let s = c .before in
     let e = toZ-ofZ (s .fits .r) in
-    rw e (below-wide (s .args .r) (s .fits .r))
+    rw e (wider (s .args .r) (s .fits .r))
 
 sub-result : tie.Need-sub-result
 sub-result c = let s = c .before in

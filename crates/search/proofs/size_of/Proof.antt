@@ -1,27 +1,18 @@
 -- `search::size_of` meets its contract.
 -- Assumes nothing.
-use Rattle.search.proofs.Prepared.{through}
-use Rattle.metric.proofs.Bounds.{costs-le}
-use Rattle.metric.specs.Cost.{costZero, costOne}
-use native.Mathlib.Omega.{arith}
-use mathlib.Core.Path.{refl}
 use borrow.Author.Needs.{needs}
+use mathlib.Core.Path.{_≡_, ap₂}
+use Prim.Native.Nat.{ℕ, _+_}
+use native.Mathlib.Omega.{arith}
+use Rattle.metric.specs.Cost.{costZero, costOne}
+use Rattle.metric.proofs.Bounds.{costs-le}
+use Rattle.search.proofs.Prepared.{through}
 use Rattle.search.proofs.size_of.Statement.{statement}
 use Rattle.search.proofs.size_of.Tie as tie
 
-add-result : tie.Need-add-result
-add-result c = let s = c .before .before in
-    let r = s .args .r in
-    let e = through costZero (c .before .cost-of-zero .result) r r (s .fits .r) (c .before .cost-of-zero .ensures) refl in
-    let f = through costOne (c .cost-of-one .result) r r (s .fits .r) (c .cost-of-one .ensures) refl in
-    record { fits = omega (arith, costs-le r (s .pre)) }
-
-returns : tie.Need-returns
-returns c = let s = c .before .before in
-    let r = s .args .r in
-    let e = through costZero (c .before .cost-of-zero .result) r r (s .fits .r) (c .before .cost-of-zero .ensures) refl in
-    let f = through costOne (c .cost-of-one .result) r r (s .fits .r) (c .cost-of-one .ensures) refl in
-    (omega arith, omega (arith, costs-le r (s .pre)))
+sum-is : (c : tie.After-cost-of-one) → let r = c .before .before .args .r in c .before .cost-of-zero .result + c .cost-of-one .result ≡ costZero r + costOne r
+sum-is c = let k = c .before .before .fits .r in
+    ap₂ (λ (x y : ℕ). x + y) (through costZero k (c .before .cost-of-zero .ensures)) (through costOne k (c .cost-of-one .ensures))
 
 pub size-of-spec : {M : Type 1} → statement M
 size-of-spec =
@@ -29,6 +20,6 @@ size-of-spec =
     (tie.spec
     (λ c κs. search needs)
     (λ c κs. search needs)
-    add-result
+    (λ c. let s = c .before .before in record { fits = omega (arith, sum-is c, costs-le (s .args .r) (s .pre)) })
     (λ c. search needs)
-    returns)
+    (λ c. let s = c .before .before in (sum-is c, omega (arith, sum-is c, costs-le (s .args .r) (s .pre)))))

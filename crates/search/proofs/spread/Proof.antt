@@ -2,7 +2,7 @@
 -- Assumes nothing.
 use native.Mathlib.Omega.{arith}
 use mathlib.Core.Path.{_≡_, refl, ap, _∙_}
-use Prim.Native.Nat.{_-_, _*_, _≤_, _<_}
+use Prim.Native.Nat.{_-_, _*_, _≤_}
 use lib.ListN.{length}
 use Rattle.search.specs.Within.{reliability, Spread}
 use Rattle.search.proofs.Prepared.{length-four, spread-more, inside}
@@ -15,25 +15,16 @@ Inv-loop m n row wide₀ i₀ wide i = (i ≤ n) × (length wide ≡ length wide
 abbrev μ-loop : tie.MeasureT-loop
 μ-loop m n row wide₀ i₀ wide i = n - i
 
-loop-holds : tie.Need-loop-holds Inv-loop μ-loop
-loop-holds c = (omega arith, refl, λ i j h k. absurd (omega arith))
-
 spread-at-requires : tie.Need-spread-at-requires Inv-loop μ-loop
-spread-at-requires c κs = let n = c .before in
-    let t = n .before .loop in
-    let s = n .before .before in
-    let a = s .args in
-    let l : t .i < a .n = n .loop-test .taken in
-    (s .pre .0, omega (arith, s .pre .1, inside (a .m) (a .n) (t .i) l), omega (arith, s .pre .2, t .inv .1))
+spread-at-requires c κs = let t = c .before .before .loop in
+    let s = c .before .before .before in
+    (s .pre .0, omega (arith, s .pre .1, inside (s .args .m) (s .args .n) (t .i) (c .before .loop-test .taken)), omega (arith, s .pre .2, t .inv .1, c .before .loop-test .taken))
 
 loop-again : tie.Need-loop-again Inv-loop μ-loop
-loop-again c = let n = c .before .before .before in
-    let t = n .before .loop in
-    let s = n .before .before in
-    let a = s .args in
-    let l : t .i < a .n = n .loop-test .taken in
+loop-again c = let t = c .before .before .before .before .loop in
+    let s = c .before .before .before .before .before in
     let e = c .before .spread-at .ensures in
-    (omega arith, ap length e ∙ length-four (t .wide) (t .i * 4) (reliability (a .m) (a .row .now) (t .i)) ∙ t .inv .1, spread-more (a .m) (t .i) (a .row .now) (t .wide) _ (omega (arith, s .pre .2, t .inv .1)) (t .inv .2) e)
+    (omega arith, ap length e ∙ length-four (t .wide) (t .i * 4) (reliability (s .args .m) (s .args .row .now) (t .i)) ∙ t .inv .1, spread-more (s .args .m) (t .i) (s .args .row .now) (t .wide) _ (omega (arith, s .pre .2, t .inv .1, c .before .before .before .loop-test .taken)) (t .inv .2) e)
 
 returns : tie.Need-returns Inv-loop μ-loop
 returns c = let e : c .before .loop .i ≡ c .before .before .args .n = omega arith in
@@ -45,7 +36,7 @@ spread-spec =
     (tie.spec
     Inv-loop
     μ-loop
-    loop-holds
+    (λ c. (omega arith, refl, λ i j h k. absurd (omega arith)))
     spread-at-requires
     (λ c. omega arith)
     (λ c. omega arith)
