@@ -8,9 +8,6 @@ use borrow.Author.Needs.{needs}
 use Rattle.decoder.proofs.best_word.Statement.{statement}
 use Rattle.decoder.proofs.best_word.Tie as tie
 
-clear-requires : tie.Need-clear-requires
-clear-requires c κs = tt
-
 walk-requires : tie.Need-walk-requires
 walk-requires c κs = let s = c .before .before .before .before .before .before .before .before .before .before .before .before in
     let a = s .args in
@@ -24,17 +21,11 @@ trace-word-requires c κs = let s = c .before .before .before .before .before .b
     let p = s .pre in
     trace-ok (a .code) (a .m) (a .r) (a .q) (a .n) (a .size) (a .count) (a .row .now) (a .cs .now) (a .hs .now) (a .zs .now) (a .os .now) (a .t .now) (p .0) (p .1 .0) (c .before .before .before .before .walk .result .total) (c .before .before .before .before .walk .result .at) (c .before .before .before .before .walk .ensures .0) (a .word .now) (p .1 .1 .1)
 
-cast-result : tie.Need-cast-result
-cast-result c = search needs
-
 same-length : tie.Need-same-length
 same-length c = let s = c .before .before .before .before .before .before .before .before .before .before .before .before .before .before .before .before .before .before .before .before .before in
     let a = s .args in
     let p = s .pre in
     omega (arith, c .before .before .before .before .before .before .before .before .walk .kept .1 .1 .1 .1 .0, c .before .before .before .before .before .before .before .before .before .before .before .before .clear .kept .0)
-
-same-length-2 : tie.Need-same-length-2
-same-length-2 c = search needs
 
 returns : tie.Need-returns
 returns c = let s = c .before .before .before .before .before .before .before .before .before .before .before .before .before .before .before .before .before .before .before .before .before in
@@ -46,10 +37,10 @@ pub best-word-spec : {M : Type 1} → statement M
 best-word-spec =
     tie.close
     (tie.spec
-    clear-requires
+    (λ c κs. tt)
     walk-requires
     trace-word-requires
-    cast-result
+    (λ c. search needs)
     same-length
-    same-length-2
+    (λ c. search needs)
     returns)

@@ -16,17 +16,11 @@ Inv-loop g₀ i₀ g i = (length g ≡ length g₀) × ((k : ℕ) → k < i → 
 abbrev μ-loop : tie.MeasureT-loop
 μ-loop g₀ i₀ g i = length g₀ - i
 
-loop-holds : tie.Need-loop-holds Inv-loop μ-loop
-loop-holds c = (refl, λ k h. absurd (omega arith))
-
 mul-g : tie.Need-mul-g Inv-loop μ-loop
 mul-g c = let s = c .before .before in
     let t = c .before .loop in
     let l : t .i < length (t .g) = c .loop-test .taken in
     record { fits = omega (arith, s .good .0, t .inv .0) }
-
-slice-write-g : tie.Need-slice-write-g Inv-loop μ-loop
-slice-write-g c = omega arith
 
 add-i : tie.Need-add-i Inv-loop μ-loop
 add-i c = let s = c .before .before in
@@ -46,9 +40,6 @@ loop-again c = let s = c .before .before in
     let l : t .i < length (t .g) = c .loop-test .taken in
     (length-set (t .g) (t .i) cap ∙ t .inv .0, set-all (t .g) (t .i) l (t .inv .1))
 
-same-length : tie.Need-same-length Inv-loop μ-loop
-same-length c = c .before .loop .inv .0
-
 returns : tie.Need-returns Inv-loop μ-loop
 returns c = let t = c .before .loop in (t .inv .0, λ k h. t .inv .1 k (omega arith))
 
@@ -58,11 +49,11 @@ clear-spec =
     (tie.spec
     Inv-loop
     μ-loop
-    loop-holds
+    (λ c. (refl, λ k h. absurd (omega arith)))
     mul-g
-    slice-write-g
+    (λ c. omega arith)
     add-i
     loop-less
     loop-again
-    same-length
+    (λ c. c .before .loop .inv .0)
     returns)

@@ -7,9 +7,6 @@ use borrow.Author.Needs.{needs}
 use Rattle.decoder.proofs.decode.Statement.{statement}
 use Rattle.decoder.proofs.decode.Tie as tie
 
-decode-refusal-requires : tie.Need-decode-refusal-requires
-decode-refusal-requires c κs = search needs
-
 returns : tie.Need-returns
 returns c = let s = c .before .before .before in
     let a = s .args in
@@ -21,12 +18,6 @@ decode-1-requires c κs = let s = c .before .before .before .before .before .bef
     let a = s .args in
     let d = c .before .before .before .before .decode-refusal in
     accepted (a .code) (a .row .now) (a .word .now) (a .soft .now) (d .result) (d .ensures) (c .before .before .before .if1 .left) 1 (c .before .before .if2 .taken)
-
-same-length : tie.Need-same-length
-same-length c = search needs
-
-same-length-2 : tie.Need-same-length-2
-same-length-2 c = search needs
 
 returns-2 : tie.Need-returns-2
 returns-2 c = let s = c .before .before .before .before .before .before .before .before .before .before in
@@ -40,12 +31,6 @@ decode-2-requires c κs = let s = c .before .before .before .before .before .bef
     let d = c .before .before .before .before .before .decode-refusal in
     accepted (a .code) (a .row .now) (a .word .now) (a .soft .now) (d .result) (d .ensures) (c .before .before .before .before .if1 .left) 2 (c .before .before .if3 .taken)
 
-same-length-3 : tie.Need-same-length-3
-same-length-3 c = search needs
-
-same-length-4 : tie.Need-same-length-4
-same-length-4 c = search needs
-
 returns-3 : tie.Need-returns-3
 returns-3 c = let s = c .before .before .before .before .before .before .before .before .before .before .before in
     let a = s .args in
@@ -58,12 +43,6 @@ decode-3-requires c κs = let s = c .before .before .before .before .before .bef
     let d = c .before .before .before .before .before .decode-refusal in
     accepted (a .code) (a .row .now) (a .word .now) (a .soft .now) (d .result) (d .ensures) (c .before .before .before .before .if1 .left) 3 (last-code (a .code) (good-code (a .code) (a .row .now) (a .word .now) (a .soft .now) (d .result) (d .ensures) (c .before .before .before .before .if1 .left)) (c .before .before .before .if2 .left) (c .before .before .if3 .left))
 
-same-length-5 : tie.Need-same-length-5
-same-length-5 c = search needs
-
-same-length-6 : tie.Need-same-length-6
-same-length-6 c = search needs
-
 returns-4 : tie.Need-returns-4
 returns-4 c = let s = c .before .before .before .before .before .before .before .before .before .before .before in
     let a = s .args in
@@ -74,17 +53,17 @@ pub decode-spec : {M : Type 1} → statement M
 decode-spec =
     tie.close
     (tie.spec
-    decode-refusal-requires
+    (λ c κs. search needs)
     returns
     decode-1-requires
-    same-length
-    same-length-2
+    (λ c. search needs)
+    (λ c. search needs)
     returns-2
     decode-2-requires
-    same-length-3
-    same-length-4
+    (λ c. search needs)
+    (λ c. search needs)
     returns-3
     decode-3-requires
-    same-length-5
-    same-length-6
+    (λ c. search needs)
+    (λ c. search needs)
     returns-4)

@@ -6,12 +6,6 @@ use borrow.Author.Needs.{needs}
 use Rattle.decoder.proofs.minus.Statement.{statement}
 use Rattle.decoder.proofs.minus.Tie as tie
 
-cast-result : tie.Need-cast-result
-cast-result c = search needs
-
-cast-result-2 : tie.Need-cast-result-2
-cast-result-2 c = search needs
-
 sub-result : tie.Need-sub-result
 sub-result c = let a = c .args .a in
     let b = c .args .b in
@@ -27,4 +21,4 @@ returns c = let a = c .args .a in
     rw e (toZ-ofZ f)
 
 pub minus-spec : {M : Type 1} → statement M
-minus-spec = tie.close (tie.spec cast-result cast-result-2 sub-result returns)
+minus-spec = tie.close (tie.spec (λ c. search needs) (λ c. search needs) sub-result returns)

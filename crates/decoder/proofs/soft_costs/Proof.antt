@@ -18,15 +18,6 @@ pass-requires c κs = let s = c .before .before .before .before .before .before 
     let p = s .pre in
     pass-ok (a .code) (a .m) (a .r) (a .q) (a .n) (a .size) (a .count) (a .row .now) (a .cs .now) (a .hs .now) (a .zs .now) (a .os .now) (a .t .now) (p .0) (p .1 .0) (a .g .now) (p .1 .1 .0 .0) (p .1 .1 .0 .1) (c .before .before .before .before .before .subtract .last .1 .0) (c .before .before .before .before .before .subtract .ensures .0) (c .before .before .before .before .before .subtract .ensures .1 .0) (c .before .before .before .before .before .subtract .ensures .1 .1) (a .zero .now) (a .one .now) (p .1 .1 .1 .0) (p .1 .1 .1 .1)
 
-same-length : tie.Need-same-length
-same-length c = search needs
-
-same-length-2 : tie.Need-same-length-2
-same-length-2 c = search needs
-
-same-length-3 : tie.Need-same-length-3
-same-length-3 c = search needs
-
 returns : tie.Need-returns
 returns c = let s = c .before .before .before .before .before .before .before .before .before .before .before .before .before .before .before .before .before .before .before .before .before .before in
     let a = s .args in
@@ -36,4 +27,4 @@ returns c = let s = c .before .before .before .before .before .before .before .b
 pub soft-costs-spec : {M : Type 1} → statement M
 soft-costs-spec =
     tie.close
-    (tie.spec subtract-requires pass-requires same-length same-length-2 same-length-3 returns)
+    (tie.spec subtract-requires pass-requires (λ c. search needs) (λ c. search needs) (λ c. search needs) returns)

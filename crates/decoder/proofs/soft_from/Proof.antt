@@ -8,15 +8,6 @@ use borrow.Author.Needs.{needs}
 use Rattle.decoder.proofs.soft_from.Statement.{statement}
 use Rattle.decoder.proofs.soft_from.Tie as tie
 
-mul-minus : tie.Need-mul-minus
-mul-minus c = search needs
-
-mul-minus-2 : tie.Need-mul-minus-2
-mul-minus-2 c = search needs
-
-minus-requires : tie.Need-minus-requires
-minus-requires c κs = search needs
-
 cast-result : tie.Need-cast-result
 cast-result c = let s = c .before in
     let a = s .args in
@@ -32,4 +23,4 @@ returns c = let s = c .before in
     narrow-is (c .minus .result) (pos (2 * a .one) -ℤ pos (2 * a .zero)) (c .minus .ensures) h g
 
 pub soft-from-spec : {M : Type 1} → statement M
-soft-from-spec = tie.close (tie.spec mul-minus mul-minus-2 minus-requires cast-result returns)
+soft-from-spec = tie.close (tie.spec (λ c. search needs) (λ c. search needs) (λ c κs. search needs) cast-result returns)

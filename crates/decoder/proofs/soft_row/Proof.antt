@@ -10,12 +10,6 @@ use borrow.Author.Needs.{needs}
 use Rattle.decoder.proofs.soft_row.Statement.{statement}
 use Rattle.decoder.proofs.soft_row.Tie as tie
 
-array-read-soft-from : tie.Need-array-read-soft-from
-array-read-soft-from c = search needs
-
-array-read-soft-from-2 : tie.Need-array-read-soft-from-2
-array-read-soft-from-2 c = search needs
-
 soft-from-requires : tie.Need-soft-from-requires
 soft-from-requires c κs = let s = c in
     let a = s .args in
@@ -39,12 +33,6 @@ slice-set-from-soft c = let s = c .before in
     let a = s .args in
     let m : 3 ≤ a .m = at-least (a .m) (s .pre .width) in
     (omega (arith, s .pre .fits))
-
-array-read-soft-from-3 : tie.Need-array-read-soft-from-3
-array-read-soft-from-3 c = search needs
-
-array-read-soft-from-4 : tie.Need-array-read-soft-from-4
-array-read-soft-from-4 c = search needs
 
 soft-from-requires-2 : tie.Need-soft-from-requires-2
 soft-from-requires-2 c κs = let s = c .before in
@@ -70,12 +58,6 @@ slice-set-from-soft-2 c = let s = c .before .before in
     let m : 3 ≤ a .m = at-least (a .m) (s .pre .width) in
     simp length-set (omega (arith, s .pre .fits))
 
-array-read-soft-from-5 : tie.Need-array-read-soft-from-5
-array-read-soft-from-5 c = search needs
-
-array-read-soft-from-6 : tie.Need-array-read-soft-from-6
-array-read-soft-from-6 c = search needs
-
 soft-from-requires-3 : tie.Need-soft-from-requires-3
 soft-from-requires-3 c κs = let s = c .before .before in
     let a = s .args in
@@ -99,12 +81,6 @@ slice-set-from-soft-3 c = let s = c .before .before .before in
     let a = s .args in
     let m : 3 ≤ a .m = at-least (a .m) (s .pre .width) in
     simp length-set (omega (arith, s .pre .fits))
-
-array-read-soft-from-7 : tie.Need-array-read-soft-from-7
-array-read-soft-from-7 c = search needs
-
-array-read-soft-from-8 : tie.Need-array-read-soft-from-8
-array-read-soft-from-8 c = search needs
 
 soft-from-requires-4 : tie.Need-soft-from-requires-4
 soft-from-requires-4 c κs = let s = c .before .before .before .before in
@@ -130,16 +106,10 @@ slice-set-from-soft-4 c = let s = c .before .before .before .before .before in
     let m : a .m ≡ 4 = c .before .if1 .taken in
     simp length-set (omega (arith, s .pre .fits))
 
-same-length : tie.Need-same-length
-same-length c = simp length-set
-
 returns : tie.Need-returns
 returns c = let s = c .before .before .before .before .before in
     let a = s .args in
     width-4 (a .soft .now) (a .at) _ _ _ _ (a .m) (a .t2) (a .t3) (s .pre) (c .before .if1 .taken) (written-is _ (c .before .before .before .before .soft-from .result) _ (record { sfits = c .before .before .before .before .soft-from .ok }) (c .before .before .before .before .soft-from .ensures) refl) (written-is _ (c .before .before .before .soft-from2 .result) _ (record { sfits = c .before .before .before .soft-from2 .ok }) (c .before .before .before .soft-from2 .ensures) refl) (written-is _ (c .before .before .soft-from3 .result) _ (record { sfits = c .before .before .soft-from3 .ok }) (c .before .before .soft-from3 .ensures) refl) (written-is _ (c .soft-from4 .result) _ (record { sfits = c .soft-from4 .ok }) (c .soft-from4 .ensures) refl)
-
-same-length-2 : tie.Need-same-length-2
-same-length-2 c = simp length-set
 
 returns-2 : tie.Need-returns-2
 returns-2 c = let s = c .before .before .before .before in
@@ -150,31 +120,31 @@ pub soft-row-spec : {M : Type 1} → statement M
 soft-row-spec =
     tie.close
     (tie.spec
-    array-read-soft-from
-    array-read-soft-from-2
+    (λ c. search needs)
+    (λ c. search needs)
     soft-from-requires
     add-soft
     mul-soft
     slice-set-from-soft
-    array-read-soft-from-3
-    array-read-soft-from-4
+    (λ c. search needs)
+    (λ c. search needs)
     soft-from-requires-2
     add-soft-2
     mul-soft-2
     slice-set-from-soft-2
-    array-read-soft-from-5
-    array-read-soft-from-6
+    (λ c. search needs)
+    (λ c. search needs)
     soft-from-requires-3
     add-t15
     mul-t16
     slice-set-from-soft-3
-    array-read-soft-from-7
-    array-read-soft-from-8
+    (λ c. search needs)
+    (λ c. search needs)
     soft-from-requires-4
     add-t36
     mul-t37
     slice-set-from-soft-4
-    same-length
+    (λ c. simp length-set)
     returns
-    same-length-2
+    (λ c. simp length-set)
     returns-2)

@@ -49,12 +49,6 @@ add-at c = let s = c .before .before .before .before .before .before .before .be
     let l : t .i < a .n = c .before .before .before .before .before .loop-test .taken in
     record { fits = omega (arith, t .inv .1, row-ok (a .m) (a .n) (a .zero .now) (a .one .now) (a .soft .now) w (t .i) (t .soft) (t .inv .2) l .fits, t .inv .2 .long, s .good .1 .1 .1 .1 .0) }
 
-add-i : tie.Need-add-i Inv-loop μ-loop
-add-i c = omega arith
-
-loop-less : tie.Need-loop-less Inv-loop μ-loop
-loop-less c = omega arith
-
 loop-again : tie.Need-loop-again Inv-loop μ-loop
 loop-again c = let s = c .before .before .before .before .before .before .before .before .before in
     let a = s .args in
@@ -63,9 +57,6 @@ loop-again c = let s = c .before .before .before .before .before .before .before
     let l : t .i < a .n = c .before .before .before .before .before .loop-test .taken in
     let e = rw (t .inv .1, c .before .before .before .before .fold .ensures, c .before .before .before .fold2 .ensures) at (c .before .soft-row .ensures) in
     (omega arith, next (t .i) (a .m) (t .at) (t .inv .1), rows-more (a .m) (a .n) (a .zero .now) (a .one .now) (a .soft .now) w (t .i) (t .soft) (t .inv .2) l (c .before .soft-row .last .1 .1 .1 .1 .0) e)
-
-same-length : tie.Need-same-length Inv-loop μ-loop
-same-length c = c .before .loop .inv .2 .long
 
 returns : tie.Need-returns Inv-loop μ-loop
 returns c = let t = c .before .loop in
@@ -83,8 +74,8 @@ soft-rows-spec =
     fold-requires-2
     soft-row-requires
     add-at
-    add-i
-    loop-less
+    (λ c. omega arith)
+    (λ c. omega arith)
     loop-again
-    same-length
+    (λ c. c .before .loop .inv .2 .long)
     returns)

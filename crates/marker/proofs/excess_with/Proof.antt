@@ -26,9 +26,6 @@ word-cost-requires c κs = let s = c .before .before .before .before .before .be
     let t = c .before .before .before .before .before .before .before .before .before .before .of-row in
     own-ok (a .code) (a .m) (a .r) (a .q) (a .n) (a .size) (a .count) (a .row .now) (a .cs .now) (a .hs .now) (t .last .1 .1 .1 .1 .1 .1 .1 .1 .1 .1 .0) (t .last .1 .1 .1 .1 .1 .1 .1 .1 .1 .1 .1 .0) (t .last .1 .1 .1 .1 .1 .1 .1 .1 .1 .1 .1 .1 .0) (p .0) (t .ensures) (a .word .now) (p .1 .1 .1)
 
-cast-result : tie.Need-cast-result
-cast-result c = search needs
-
 sub-result : tie.Need-sub-result
 sub-result c = let s = c .before .before .before .before .before .before .before .before .before .before .before .before .before .before .before .before .before .before .before .before .before in
     let a = s .args in
@@ -36,15 +33,6 @@ sub-result c = let s = c .before .before .before .before .before .before .before
     let t = c .before .before .before .before .before .before .before .before .before .before .before .of-row in
     let l = c .before .before .before .least-of in
     excess-fits (a .code) (a .m) (a .r) (a .q) (a .n) (a .size) (a .count) (a .row .now) (a .cs .now) (a .hs .now) (t .last .1 .1 .1 .1 .1 .1 .1 .1 .1 .1 .0) (t .last .1 .1 .1 .1 .1 .1 .1 .1 .1 .1 .1 .0) (t .last .1 .1 .1 .1 .1 .1 .1 .1 .1 .1 .1 .1 .0) (p .0) (t .ensures) (a .word .now) (p .1 .1 .1) (l .result) (c .word-cost .result) (l .ensures) (c .word-cost .ensures)
-
-same-length : tie.Need-same-length
-same-length c = search needs
-
-same-length-2 : tie.Need-same-length-2
-same-length-2 c = search needs
-
-same-length-3 : tie.Need-same-length-3
-same-length-3 c = search needs
 
 returns : tie.Need-returns
 returns c = let s = c .before .before .before .before .before .before .before .before .before .before .before .before .before .before .before .before .before .before .before .before .before in
@@ -61,9 +49,9 @@ excess-with-spec =
     of-row-requires
     least-of-requires
     word-cost-requires
-    cast-result
+    (λ c. search needs)
     sub-result
-    same-length
-    same-length-2
-    same-length-3
+    (λ c. search needs)
+    (λ c. search needs)
+    (λ c. search needs)
     returns)

@@ -9,20 +9,11 @@ use borrow.Author.Needs.{needs}
 use Rattle.marker.proofs.judge_word.Statement.{statement}
 use Rattle.marker.proofs.judge_word.Tie as tie
 
-mark-refusal-requires : tie.Need-mark-refusal-requires
-mark-refusal-requires c κs = search needs
-
 returns : tie.Need-returns
 returns c = let s = c .before .before .before in
     let a = s .args in
     let d = c .before .mark-refusal in
     mark-refused (a .code) (a .row .now) (a .word .now) (d .result) (d .ensures) (c .if1 .taken)
-
-width-of-requires : tie.Need-width-of-requires
-width-of-requires c κs = search needs
-
-roots-of-requires : tie.Need-roots-of-requires
-roots-of-requires c κs = search needs
 
 is-codeword-requires : tie.Need-is-codeword-requires
 is-codeword-requires c κs = let s = c .before .before .before .before .before in
@@ -85,10 +76,10 @@ pub judge-word-spec : {M : Type 1} → statement M
 judge-word-spec =
     tie.close
     (tie.spec
-    mark-refusal-requires
+    (λ c κs. search needs)
     returns
-    width-of-requires
-    roots-of-requires
+    (λ c κs. search needs)
+    (λ c κs. search needs)
     is-codeword-requires
     returns-2
     excess-requires

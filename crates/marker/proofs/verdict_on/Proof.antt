@@ -8,17 +8,8 @@ use Rattle.marker.proofs.Marking.{best-verdict, short-verdict}
 use Rattle.marker.proofs.verdict_on.Statement.{statement}
 use Rattle.marker.proofs.verdict_on.Tie as tie
 
-returns : tie.Need-returns
-returns c = best-verdict (c .before .args .x) (c .if1 .taken)
-
-mul-t3 : tie.Need-mul-t3
-mul-t3 c = search needs
-
-cast-t4 : tie.Need-cast-t4
-cast-t4 c = search needs
-
 returns-2 : tie.Need-returns-2
 returns-2 c = short-verdict (c .before .args .x) (c .if1 .left) _ (toZ-pos w32 (omega (arith, c .before .pre)))
 
 pub verdict-on-spec : {M : Type 1} → statement M
-verdict-on-spec = tie.close (tie.spec returns mul-t3 cast-t4 returns-2)
+verdict-on-spec = tie.close (tie.spec (λ c. best-verdict (c .before .args .x) (c .if1 .taken)) (λ c. search needs) (λ c. search needs) returns-2)

@@ -15,12 +15,6 @@ use borrow.Author.Needs.{needs}
 use Rattle.marker.proofs.verdict_on_word.Statement.{statement}
 use Rattle.marker.proofs.verdict_on_word.Tie as tie
 
-width-of-requires : tie.Need-width-of-requires
-width-of-requires c κs = search needs
-
-roots-of-requires : tie.Need-roots-of-requires
-roots-of-requires c κs = search needs
-
 is-codeword-requires : tie.Need-is-codeword-requires
 is-codeword-requires c κs = let s = c .before .before .before in
     let a = s .args in
@@ -77,8 +71,8 @@ pub verdict-on-word-spec : {M : Type 1} → statement M
 verdict-on-word-spec =
     tie.close
     (tie.spec
-    width-of-requires
-    roots-of-requires
+    (λ c κs. search needs)
+    (λ c κs. search needs)
     is-codeword-requires
     returns
     word-metric-requires

@@ -18,27 +18,6 @@ Inv-loop row good₀ i₀ good i = (i ≤ length row) × Rowing row i good
 abbrev μ-loop : tie.MeasureT-loop
 μ-loop row good₀ i₀ good i = length row - i
 
-loop-holds : tie.Need-loop-holds Inv-loop μ-loop
-loop-holds c = (omega arith, refl)
-
-mul-r : tie.Need-mul-r Inv-loop μ-loop
-mul-r c = record { fits = omega (arith, c .before .before .good .0) }
-
-shared-slice-copy-out-r : tie.Need-shared-slice-copy-out-r Inv-loop μ-loop
-shared-slice-copy-out-r c = omega arith
-
-is-reliability-requires : tie.Need-is-reliability-requires Inv-loop μ-loop
-is-reliability-requires c κs = tt
-
-both-requires : tie.Need-both-requires Inv-loop μ-loop
-both-requires c κs = tt
-
-add-i : tie.Need-add-i Inv-loop μ-loop
-add-i c = omega arith
-
-loop-less : tie.Need-loop-less Inv-loop μ-loop
-loop-less c = omega arith
-
 loop-again : tie.Need-loop-again Inv-loop μ-loop
 loop-again c = let row = c .before .before .before .before .before .args .row .now in
     let t = c .before .before .before .before .loop in
@@ -59,12 +38,12 @@ is-row-spec =
     (tie.spec
     Inv-loop
     μ-loop
-    loop-holds
-    mul-r
-    shared-slice-copy-out-r
-    is-reliability-requires
-    both-requires
-    add-i
-    loop-less
+    (λ c. (omega arith, refl))
+    (λ c. record { fits = omega (arith, c .before .before .good .0) })
+    (λ c. omega arith)
+    (λ c κs. tt)
+    (λ c κs. tt)
+    (λ c. omega arith)
+    (λ c. omega arith)
     loop-again
     returns)

@@ -31,12 +31,6 @@ loop-holds c = let a = c .args in
     let z : a .m - a .m ≡ 0 = omega arith in
     (omega arith, rw (toZ-ofZ (c .fits .sum)) (omega (arith, c .pre .small)), λ bs e. rw z e)
 
-sub-j : tie.Need-sub-j Inv-loop μ-loop
-sub-j c = search needs
-
-cast-r : tie.Need-cast-r Inv-loop μ-loop
-cast-r c = search needs
-
 mul-r : tie.Need-mul-r Inv-loop μ-loop
 mul-r c = record { fits = omega (arith, c .before .before .pre .width, c .before .loop .inv .0) }
 
@@ -53,9 +47,6 @@ counted-requires : tie.Need-counted-requires Inv-loop μ-loop
 counted-requires c κs = let s = c .before .before .before in
     let t = c .before .before .loop in
     (omega (arith, s .pre .width, t .inv .0, t .inv .1), rw (toZ-ofZ (record { sfits = c .r .given })) (row-at (s .args .row .now) (t .j - 1) (s .pre .good)))
-
-loop-less : tie.Need-loop-less Inv-loop μ-loop
-loop-less c = search needs
 
 loop-again : tie.Need-loop-again Inv-loop μ-loop
 loop-again c = let s = c .before .before .before .before in
@@ -86,13 +77,13 @@ with-symbol-spec =
     Inv-loop
     μ-loop
     loop-holds
-    sub-j
-    cast-r
+    (λ c. search needs)
+    (λ c. search needs)
     mul-r
     shared-slice-copy-out-r
     cast-counted
     shr-counted
     counted-requires
-    loop-less
+    (λ c. search needs)
     loop-again
     returns)

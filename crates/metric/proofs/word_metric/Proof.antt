@@ -25,26 +25,11 @@ loop-holds : tie.Need-loop-holds Inv-loop μ-loop
 loop-holds c = let a = c .before .args in
     (omega arith, omega arith, c .before .pre .count, none (a .m) (a .row .now) (a .word .now))
 
-sub-i : tie.Need-sub-i Inv-loop μ-loop
-sub-i c = search needs
-
 sub-at : tie.Need-sub-at Inv-loop μ-loop
 sub-at c = omega (arith, c .before .loop .inv .2, place (c .before .loop .i) (c .before .before .before .args .m) (omega arith))
 
 mul-with-symbol : tie.Need-mul-with-symbol Inv-loop μ-loop
 mul-with-symbol c = record { fits = omega (arith, c .before .loop .inv .1, c .before .before .before .pre .few) }
-
-sub-with-symbol : tie.Need-sub-with-symbol Inv-loop μ-loop
-sub-with-symbol c = omega (arith, c .before .loop .inv .1)
-
-part-with-symbol-start : tie.Need-part-with-symbol-start Inv-loop μ-loop
-part-with-symbol-start c = search needs
-
-part-with-symbol-end : tie.Need-part-with-symbol-end Inv-loop μ-loop
-part-with-symbol-end c = search needs
-
-shared-slice-read-with-symbol : tie.Need-shared-slice-read-with-symbol Inv-loop μ-loop
-shared-slice-read-with-symbol c = search needs
 
 with-symbol-requires : tie.Need-with-symbol-requires Inv-loop μ-loop
 with-symbol-requires c κs = let s = c .before .before .before .before .before in
@@ -53,9 +38,6 @@ with-symbol-requires c κs = let s = c .before .before .before .before .before i
     let e : t .at - a .m + a .m ≡ t .at = omega (arith, t .inv .2, place (t .i) (a .m) (omega arith)) in
     rw (tail-is (t .at - a .m) (a .row .now))
     (rest-ok (a .m) (t .at - a .m) (a .row .now) (all-bits (a .m) (drop (t .i) (a .word .now))) (toZ w32 (t .sum)) (s .pre .width) (omega (arith, t .inv .1)) (s .pre .few) (s .pre .good) (rw e (t .inv .3)))
-
-loop-less : tie.Need-loop-less Inv-loop μ-loop
-loop-less c = search needs
 
 loop-again : tie.Need-loop-again Inv-loop μ-loop
 loop-again c = let s = c .before .before .before .before .before .before in
@@ -81,14 +63,14 @@ word-metric-spec =
     Inv-loop
     μ-loop
     loop-holds
-    sub-i
+    (λ c. search needs)
     sub-at
     mul-with-symbol
-    sub-with-symbol
-    part-with-symbol-start
-    part-with-symbol-end
-    shared-slice-read-with-symbol
+    (λ c. omega (arith, c .before .loop .inv .1))
+    (λ c. search needs)
+    (λ c. search needs)
+    (λ c. search needs)
     with-symbol-requires
-    loop-less
+    (λ c. search needs)
     loop-again
     returns)

@@ -13,16 +13,10 @@ returns : tie.Need-returns
 returns c = let s = c .before .before .before in let bs = now (s .args .sheet) in let o = now (s .args .out) in
     wrong-length bs o (c .if1 .taken)
 
-judge-sheet-requires : tie.Need-judge-sheet-requires
-judge-sheet-requires c κs = search needs
-
 put-refused-requires : tie.Need-put-refused-requires
 put-refused-requires c κs = let s = c .before .before .before .before .before .before in let bs = now (s .args .sheet) in let o = now (s .args .out) in
     let e : length o ≡ 19058 = c .before .before .before .if1 .left in
     refused-room _ _ (c .before .if2 .taken) e
-
-same-length : tie.Need-same-length
-same-length c = search needs
 
 returns-2 : tie.Need-returns-2
 returns-2 c = let s = c .before .before .before .before .before .before .before .before .before in let bs = now (s .args .sheet) in let o = now (s .args .out) in
@@ -34,9 +28,6 @@ put-header-requires : tie.Need-put-header-requires
 put-header-requires c κs = let s = c .before .before .before .before .before .before in let bs = now (s .args .sheet) in let o = now (s .args .out) in
     let e : length o ≡ 19058 = c .before .before .before .if1 .left in
     header-room _ e
-
-cast-put-lines : tie.Need-cast-put-lines
-cast-put-lines c = search needs
 
 put-lines-requires : tie.Need-put-lines-requires
 put-lines-requires c κs = let s = c .before .before .before .before .before .before .before .before .before .before in let bs = now (s .args .sheet) in let o = now (s .args .out) in
@@ -54,9 +45,6 @@ put-count-requires c κs = let s = c .before .before .before .before .before .be
     let k = counted bs (j .result) b (j .ensures) (c .before .before .before .before .before .before .before .before .before .if2 .left) in
     count-room bs _ _ _ o _ _ k e (c .before .before .before .before .before .before .before .put-header .ensures) (c .before .before .before .put-lines .ensures)
 
-same-length-2 : tie.Need-same-length-2
-same-length-2 c = search needs
-
 returns-3 : tie.Need-returns-3
 returns-3 c = let s = c .before .before .before .before .before .before .before .before .before .before .before .before .before .before .before .before .before in let bs = now (s .args .sheet) in let o = now (s .args .out) in
     let e : length o ≡ 19058 = c .before .before .before .before .before .before .before .before .before .before .before .before .before .before .if1 .left in
@@ -70,13 +58,13 @@ list-spec =
     tie.close
     (tie.spec
     returns
-    judge-sheet-requires
+    (λ c κs. search needs)
     put-refused-requires
-    same-length
+    (λ c. search needs)
     returns-2
     put-header-requires
-    cast-put-lines
+    (λ c. search needs)
     put-lines-requires
     put-count-requires
-    same-length-2
+    (λ c. search needs)
     returns-3)

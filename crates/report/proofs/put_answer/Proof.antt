@@ -20,9 +20,6 @@ put-question-requires c κs = let s = c .before .before .before .before .before 
     let f = toZ-ofZ {w = w32} {z = k .result .shortfall} (record { sfits = c .before .struct-told .given .1 .1 .0 .1 }) in
     rw (e, f) (room (a .at) _ (said-fits x) (s .pre .1 .1))
 
-same-length : tie.Need-same-length
-same-length c = search needs
-
 returns : tie.Need-returns
 returns c = let s = c .before .before .before .before .before .before .before .before in let a = s .args in
     let k = c .before .before .before .before .before .verdict-on-word in
@@ -32,4 +29,4 @@ returns c = let s = c .before .before .before .before .before .before .before .b
     put-line x (rw (e, f) at (c .before .before .put-question .ensures))
 
 pub put-answer-spec : {M : Type 1} → statement M
-put-answer-spec = tie.close (tie.spec verdict-on-word-requires put-question-requires same-length returns)
+put-answer-spec = tie.close (tie.spec verdict-on-word-requires put-question-requires (λ c. search needs) returns)

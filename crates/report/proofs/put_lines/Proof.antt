@@ -36,18 +36,12 @@ put-next-requires c κs = let l = c .before .before in let s = l .before .before
 add-i : tie.Need-add-i Inv-loop μ-loop
 add-i c = omega (arith, c .before .before .before .before .before .before .before .before .fits .count)
 
-loop-less : tie.Need-loop-less Inv-loop μ-loop
-loop-less c = omega arith
-
 loop-again : tie.Need-loop-again Inv-loop μ-loop
 loop-again c = let l = c .before .before .before .before .before in let s = l .before .before .before in let bs = now (s .args .sheet) in let i = l .loop .i in
     let ok = bytes bs (λ j h. c .before .before .before .before .before .before .before .shared-slice-known .given j .fits) in
     let q = next bs i (l .loop .place .word) ok (omega (arith, s .pre .0 .count-is, c .before .before .before .before .loop-test .taken)) (l .loop .inv .1) in
     let r = c .before .before .put-next .ensures in
     (omega (arith, c .before .before .before .before .loop-test .taken), rw (add-one, r .next) (q .next), next-text _ (s .args .at) i (l .loop .inv .2) (r .line), more-lines bs i _ q (l .loop .inv .3) (r .line))
-
-same-length : tie.Need-same-length Inv-loop μ-loop
-same-length c = written-length (c .before .loop .inv .3 .written)
 
 returns : tie.Need-returns Inv-loop μ-loop
 returns c = let l = c .before in let s = l .before .before .before in all-lines (now (s .args .sheet)) (l .loop .i) (omega (arith, s .pre .0 .count-is, c .loop-test .left)) (l .loop .inv .3)
@@ -61,7 +55,7 @@ put-lines-spec =
     loop-holds
     put-next-requires
     add-i
-    loop-less
+    (λ c. omega arith)
     loop-again
-    same-length
+    (λ c. written-length (c .before .loop .inv .3 .written))
     returns)

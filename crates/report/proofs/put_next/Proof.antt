@@ -13,33 +13,6 @@ sized c =
     sizes _ _ _ _ _ _ _ (c .before .before .before .before .word-at .ensures) (c .before .before .before .head-code-of .ensures) (c .before .before .width-of .ensures)
     (c .row-long-of .ensures) (c .before .long-of .ensures)
 
-word-at-requires : tie.Need-word-at-requires
-word-at-requires c κs = search needs
-
-head-code-of-requires : tie.Need-head-code-of-requires
-head-code-of-requires c κs = search needs
-
-width-of-requires : tie.Need-width-of-requires
-width-of-requires c κs = search needs
-
-long-of-requires : tie.Need-long-of-requires
-long-of-requires c κs = rw (c .width-of .ensures) (width-fine _)
-
-row-long-of-requires : tie.Need-row-long-of-requires
-row-long-of-requires c κs = rw (c .before .width-of .ensures) (width-fine _)
-
-slice-aggregate-row : tie.Need-slice-aggregate-row
-slice-aggregate-row c = search needs
-
-slice-aggregate-word : tie.Need-slice-aggregate-word
-slice-aggregate-word c = search needs
-
-slice-aggregate-best : tie.Need-slice-aggregate-best
-slice-aggregate-best c = search needs
-
-slice-aggregate-soft : tie.Need-slice-aggregate-soft
-slice-aggregate-soft c = search needs
-
 slice-aggregate-put-read : tie.Need-slice-aggregate-put-read
 slice-aggregate-put-read c = let z = sized (c .before .before .before .before .before) in
     sym (part _ _ (z .row-most))
@@ -61,29 +34,23 @@ put-read-requires c κs = let z = sized (c .before .before .before .before .befo
     let s = c .before .before .before .before .before .before .before .before .before .before .before .before .before .before .before .before in
     (s .pre .0, (lengths (now (s .args .sheet)) (s .args .place .word) _ _ _ _ _ _ z (part _ _ (z .row-most)) (part _ _ (z .word-most)) (part _ _ (z .word-most)) (part _ _ (z .row-most)), s .pre .1))
 
-same-length : tie.Need-same-length
-same-length c = search needs
-
-returns : tie.Need-returns
-returns c = search needs
-
 pub put-next-spec : {M : Type 1} → statement M
 put-next-spec =
     tie.close
     (tie.spec
-    word-at-requires
-    head-code-of-requires
-    width-of-requires
-    long-of-requires
-    row-long-of-requires
-    slice-aggregate-row
-    slice-aggregate-word
-    slice-aggregate-best
-    slice-aggregate-soft
+    (λ c κs. search needs)
+    (λ c κs. search needs)
+    (λ c κs. search needs)
+    (λ c κs. rw (c .width-of .ensures) (width-fine _))
+    (λ c κs. rw (c .before .width-of .ensures) (width-fine _))
+    (λ c. search needs)
+    (λ c. search needs)
+    (λ c. search needs)
+    (λ c. search needs)
     slice-aggregate-put-read
     slice-aggregate-put-read-2
     slice-aggregate-put-read-3
     slice-aggregate-put-read-4
     put-read-requires
-    same-length
-    returns)
+    (λ c. search needs)
+    (λ c. search needs))

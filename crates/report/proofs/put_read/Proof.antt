@@ -10,20 +10,8 @@ use borrow.Author.Needs.{needs}
 use Rattle.report.proofs.put_read.Statement.{statement}
 use Rattle.report.proofs.put_read.Tie as tie
 
-word-at-requires : tie.Need-word-at-requires
-word-at-requires c κs = search needs
-
-head-code-of-requires : tie.Need-head-code-of-requires
-head-code-of-requires c κs = search needs
-
-low-of-requires : tie.Need-low-of-requires
-low-of-requires c κs = search needs
-
 question-at-requires : tie.Need-question-at-requires
 question-at-requires c κs = let s = c .before .before .before .before .before .before .before .before .before in (s .pre .0 .0, s .pre .0 .1 .stands)
-
-decode-requires : tie.Need-decode-requires
-decode-requires c κs = search needs
 
 put-answer-requires : tie.Need-put-answer-requires
 put-answer-requires c κs = let d = c .before .before .before .before .before .before .before .before in let y = d .before .before .before .before .before .before .before in let s = y .before .before .before .before .before .before .before .before .before .before in let bs = now (s .args .sheet) in let at = s .args .place .word in
@@ -33,21 +21,6 @@ put-answer-requires c κs = let d = c .before .before .before .before .before .b
     let e = toZ-ofZ {w = w32} {z = d .decode .result .metric} (record { sfits = c .before .before .before .before .struct-told .given .1 .0 .1 }) in
     let k = y .question-at .kept in
     (g, (rw e (answered _ _ _ _ (d .decode .result) _ _ _ _ g (s .pre .1 .0 .best-is ∙ sym (k .1 .1 .1 .0)) (s .pre .1 .0 .soft-is ∙ sym (k .1 .1 .0)) (d .decode .ensures)), s .pre .1 .1))
-
-same-length : tie.Need-same-length
-same-length c = search needs
-
-same-length-2 : tie.Need-same-length-2
-same-length-2 c = search needs
-
-same-length-3 : tie.Need-same-length-3
-same-length-3 c = search needs
-
-same-length-4 : tie.Need-same-length-4
-same-length-4 c = search needs
-
-same-length-5 : tie.Need-same-length-5
-same-length-5 c = search needs
 
 returns : tie.Need-returns
 returns c = let y = c .before .before .before .before .before .before .before .before .before .before .before .before .before .before .before .before .before .before in let s = y .before .before .before .before .before .before .before .before .before .before in let bs = now (s .args .sheet) in let at = s .args .place .word in
@@ -59,15 +32,15 @@ pub put-read-spec : {M : Type 1} → statement M
 put-read-spec =
     tie.close
     (tie.spec
-    word-at-requires
-    head-code-of-requires
-    low-of-requires
+    (λ c κs. search needs)
+    (λ c κs. search needs)
+    (λ c κs. search needs)
     question-at-requires
-    decode-requires
+    (λ c κs. search needs)
     put-answer-requires
-    same-length
-    same-length-2
-    same-length-3
-    same-length-4
-    same-length-5
+    (λ c. search needs)
+    (λ c. search needs)
+    (λ c. search needs)
+    (λ c. search needs)
+    (λ c. search needs)
     returns)

@@ -21,9 +21,6 @@ shared-slice-copy-out-result c = let s = c .before in omega (arith, s .pre .1)
 returns : tie.Need-returns
 returns c = rw (lt-ltb _ _ (c .before .if1 .taken)) (toZ-ofZ (record { sfits = c .result .given }))
 
-returns-2 : tie.Need-returns-2
-returns-2 c = rw (le-ltb _ _ (c .if1 .left))
-
 pub reliability-at-spec : {M : Type 1} → statement M
 reliability-at-spec =
-    tie.close (tie.spec mul-b add-b mul-result shared-slice-copy-out-result returns returns-2)
+    tie.close (tie.spec mul-b add-b mul-result shared-slice-copy-out-result returns (λ c. rw (le-ltb _ _ (c .if1 .left))))

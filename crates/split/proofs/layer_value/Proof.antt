@@ -28,14 +28,8 @@ unfolding value-at
 loop-holds c = let a = c .before .args in
     (search needs, sym (zero-mul (a .t)), search needs, X.zero-l (value-from (a .m) (a .t) 0 (layer (a .j) (a .word .now))))
 
-shared-slice-read-bit : tie.Need-shared-slice-read-bit Inv-loop μ-loop
-shared-slice-read-bit c = search needs
-
 bit-requires : tie.Need-bit-requires Inv-loop μ-loop
 bit-requires c κs = let a = c .before .before .before .before in omega (arith, L.width-small (a .args .m) (a .pre .1 .width-is), a .pre .1 .inside)
-
-power-requires : tie.Need-power-requires Inv-loop μ-loop
-power-requires c κs = search needs
 
 multiply-requires : tie.Need-multiply-requires Inv-loop μ-loop
 multiply-requires c κs = let a = c .before .before .before .before .before .before in
@@ -45,18 +39,9 @@ multiply-requires c κs = let a = c .before .before .before .before .before .bef
       second = rw (c .power .ensures) (F.alpha-lt (a .args .m) (a .pre .1 .width-is) (c .before .before .before .before .loop .e));
     }
 
-add-requires : tie.Need-add-requires Inv-loop μ-loop
-add-requires c κs = search needs
-
 add-e : tie.Need-add-e Inv-loop μ-loop
 add-e c = let a = c .before .before .before .before .before .before .before .before in
     omega (arith, long-small (a .args .m) (a .pre .1 .width-is), a .pre .0, a .pre .1 .count, c .before .before .before .before .before .before .loop .inv)
-
-add-i : tie.Need-add-i Inv-loop μ-loop
-add-i c = search needs
-
-loop-less : tie.Need-loop-less Inv-loop μ-loop
-loop-less c = search needs
 
 loop-again : tie.Need-loop-again Inv-loop μ-loop
 loop-again c = let s = c .before .before .before .before .before .before in
@@ -82,13 +67,13 @@ layer-value-spec =
     Inv-loop
     μ-loop
     loop-holds
-    shared-slice-read-bit
+    (λ c. search needs)
     bit-requires
-    power-requires
+    (λ c κs. search needs)
     multiply-requires
-    add-requires
+    (λ c κs. search needs)
     add-e
-    add-i
-    loop-less
+    (λ c. search needs)
+    (λ c. search needs)
     loop-again
     returns)

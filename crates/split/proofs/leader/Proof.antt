@@ -39,25 +39,16 @@ unfolding width roots long cosets number syndrome value-from value-at xor times 
 returns-3 c = let b = c .before .before in
     look-up (b .args .code) 3 (b .pre .code-is) (last-code (b .args .code) (b .pre .code-is) (c .before .if1 .left) (c .if2 .left)) (b .args .s) (b .pre .inside)
 
-mul-result : tie.Need-mul-result
-mul-result c = search needs
-
-mul-result-2 : tie.Need-mul-result-2
-mul-result-2 c = search needs
-
-mul-result-3 : tie.Need-mul-result-3
-mul-result-3 c = search needs
-
 pub leader-spec : {M : Type 1} → statement M
 leader-spec =
     tie.close
     (tie.spec
-    mul-result
+    (λ c. search needs)
     array-read-result
     returns
-    mul-result-2
+    (λ c. search needs)
     array-read-result-2
     returns-2
-    mul-result-3
+    (λ c. search needs)
     array-read-result-3
     returns-3)

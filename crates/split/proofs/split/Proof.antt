@@ -9,17 +9,8 @@ use Rattle.split.proofs.Refusals.{its-width, four-roots, accepted, refu
 use Rattle.split.proofs.split.Statement.{statement}
 use Rattle.split.proofs.split.Tie as tie
 
-split-refusal-requires : tie.Need-split-refusal-requires
-split-refusal-requires c κs = search needs
-
 returns : tie.Need-returns
 returns c = let s = c .before .before .before .before in refused-says (s .args .code) (s .args .word .now) (s .args .bch .now) (c .before .split-refusal .result) (c .before .split-refusal .ensures) (c .if1 .taken)
-
-width-of-requires : tie.Need-width-of-requires
-width-of-requires c κs = search needs
-
-roots-of-requires : tie.Need-roots-of-requires
-roots-of-requires c κs = search needs
 
 syndromes-of-requires : tie.Need-syndromes-of-requires
 syndromes-of-requires c κs = let s = c .before .before .before .before .before .before in
@@ -40,9 +31,6 @@ write-layers-requires c κs = let s = c .before .before .before .before .before 
       room = h .room;
     }
 
-same-length : tie.Need-same-length
-same-length c = search needs
-
 returns-2 : tie.Need-returns-2
 returns-2 c = let s = c .before .before .before .before .before .before .before .before .before .before .before in
     accepted-says (s .args .code) (s .args .word .now) (s .args .bch .now) _ _ (sym (c .before .before .before .before .before .before .before .before .split-refusal .ensures) ∙ c .before .before .before .before .before .before .before .if1 .left) (c .before .before .write-layers .ensures)
@@ -51,11 +39,11 @@ pub split-spec : {M : Type 1} → statement M
 split-spec =
     tie.close
     (tie.spec
-    split-refusal-requires
+    (λ c κs. search needs)
     returns
-    width-of-requires
-    roots-of-requires
+    (λ c κs. search needs)
+    (λ c κs. search needs)
     syndromes-of-requires
     write-layers-requires
-    same-length
+    (λ c. search needs)
     returns-2)

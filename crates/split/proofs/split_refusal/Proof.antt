@@ -6,9 +6,6 @@ use Rattle.split.specs.Calls.{split-refusal}
 use Rattle.split.proofs.split_refusal.Statement.{statement}
 use Rattle.split.proofs.split_refusal.Tie as tie
 
-row-long-of-requires : tie.Need-row-long-of-requires
-row-long-of-requires c κs = rw (c .width-of .ensures) (width-fine _)
-
 returns : tie.Need-returns
 unfolding split-refusal
 returns c = rw
@@ -19,6 +16,6 @@ split-refusal-spec =
     tie.close
     (tie.spec
     (λ c κs. search needs)
-    row-long-of-requires
+    (λ c κs. rw (c .width-of .ensures) (width-fine _))
     (λ c κs. search needs)
     returns)

@@ -8,24 +8,9 @@ use Rattle.split.proofs.Syndromes.{one-value, two-values, size-small, s
 use Rattle.split.proofs.syndrome_of.Statement.{statement}
 use Rattle.split.proofs.syndrome_of.Tie as tie
 
-layer-value-requires : tie.Need-layer-value-requires
-layer-value-requires c κs = search needs
-
-wide-requires : tie.Need-wide-requires
-wide-requires c κs = search needs
-
 returns : tie.Need-returns
 returns c = let s = c .before .before .before .before in
     rw (c .before .wide .ensures, c .before .before .layer-value .ensures) (one-value (s .args .m) (s .args .r) (layer (s .args .j) (s .args .word .now)) (c .if1 .taken))
-
-size-requires : tie.Need-size-requires
-size-requires c κs = search needs
-
-layer-value-requires-2 : tie.Need-layer-value-requires-2
-layer-value-requires-2 c κs = search needs
-
-wide-requires-2 : tie.Need-wide-requires-2
-wide-requires-2 c κs = search needs
 
 mul-result : tie.Need-mul-result
 mul-result c = let s = c .before .before .before .before .before .before .before in
@@ -51,12 +36,12 @@ pub syndrome-of-spec : {M : Type 1} → statement M
 syndrome-of-spec =
     tie.close
     (tie.spec
-    layer-value-requires
-    wide-requires
+    (λ c κs. search needs)
+    (λ c κs. search needs)
     returns
-    size-requires
-    layer-value-requires-2
-    wide-requires-2
+    (λ c κs. search needs)
+    (λ c κs. search needs)
+    (λ c κs. search needs)
     mul-result
     add-result
     returns-2)

@@ -19,15 +19,9 @@ Inv-loop m r word to₀ j₀ to j = (j ≤ m) × (to ≡ take j (syndromes m r w
 abbrev μ-loop : tie.MeasureT-loop
 μ-loop m r word to₀ j₀ to j = m - j
 
-loop-holds : tie.Need-loop-holds Inv-loop μ-loop
-loop-holds c = (search needs, refl)
-
 syndrome-of-requires : tie.Need-syndrome-of-requires Inv-loop μ-loop
 syndrome-of-requires c κs = let s = c .before .before .before in
     (s .pre .few, record { width-is = s .pre .width-is; count = s .pre .count; inside = c .loop-test .taken })
-
-cast-to : tie.Need-cast-to Inv-loop μ-loop
-cast-to c = search needs
 
 mul-to : tie.Need-mul-to Inv-loop μ-loop
 mul-to c = let s = c .before .before .before .before in omega (arith, L.width-small (s .args .m) (s .pre .width-is), c .before .loop-test .taken)
@@ -37,9 +31,6 @@ array-write-to c = let s = c .before .before .before .before in omega (arith, L.
 
 add-j : tie.Need-add-j Inv-loop μ-loop
 add-j c = let s = c .before .before .before .before in omega (arith, L.width-small (s .args .m) (s .pre .width-is), c .before .loop-test .taken)
-
-loop-less : tie.Need-loop-less Inv-loop μ-loop
-loop-less c = search needs
 
 loop-again : tie.Need-loop-again Inv-loop μ-loop
 loop-again c = let s = c .before .before .before .before in
@@ -61,12 +52,12 @@ syndromes-of-spec =
     (tie.spec
     Inv-loop
     μ-loop
-    loop-holds
+    (λ c. (search needs, refl))
     syndrome-of-requires
-    cast-to
+    (λ c. search needs)
     mul-to
     array-write-to
     add-j
-    loop-less
+    (λ c. search needs)
     loop-again
     returns)

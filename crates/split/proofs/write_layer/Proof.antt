@@ -26,27 +26,6 @@ loop-holds c = let a = c .before .before .args in
     let n : length (a .word .now) - 0 ≡ length (a .word .now) = omega arith in
     (search needs, search needs, refl, rw n refl)
 
-shared-slice-read-bit : tie.Need-shared-slice-read-bit Inv-loop μ-loop
-shared-slice-read-bit c = search needs
-
-bit-requires : tie.Need-bit-requires Inv-loop μ-loop
-bit-requires c κs = search needs
-
-cast-add : tie.Need-cast-add Inv-loop μ-loop
-cast-add c = search needs
-
-add-requires : tie.Need-add-requires Inv-loop μ-loop
-add-requires c κs = search needs
-
-slice-write-out : tie.Need-slice-write-out Inv-loop μ-loop
-slice-write-out c = search needs
-
-add-i : tie.Need-add-i Inv-loop μ-loop
-add-i c = search needs
-
-loop-less : tie.Need-loop-less Inv-loop μ-loop
-loop-less c = search needs
-
 loop-again : tie.Need-loop-again Inv-loop μ-loop
 loop-again c = let l = c .before .before .before .before .loop in
     let s = c .before .before .before .before .before .before .before in
@@ -78,13 +57,13 @@ write-layer-spec =
     Inv-loop
     μ-loop
     loop-holds
-    shared-slice-read-bit
-    bit-requires
-    cast-add
-    add-requires
-    slice-write-out
-    add-i
-    loop-less
+    (λ c. search needs)
+    (λ c κs. search needs)
+    (λ c. search needs)
+    (λ c κs. search needs)
+    (λ c. search needs)
+    (λ c. search needs)
+    (λ c. search needs)
     loop-again
     same-length
     returns)

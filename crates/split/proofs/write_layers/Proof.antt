@@ -23,15 +23,9 @@ Inv-loop code word bch₀ tuple m n at₀ j₀ bch at j =
 abbrev μ-loop : tie.MeasureT-loop
 μ-loop code word bch₀ tuple m n at₀ j₀ bch at j = m - j
 
-width-of-requires : tie.Need-width-of-requires Inv-loop μ-loop
-width-of-requires c κs = search needs
-
 loop-holds : tie.Need-loop-holds Inv-loop μ-loop
 loop-holds c = let a = c .before .before .before .args in
     (search needs, sym (zero-mul (length (a .word .now))), refl, refl)
-
-cast-leader : tie.Need-cast-leader Inv-loop μ-loop
-cast-leader c = search needs
 
 mul-leader : tie.Need-mul-leader Inv-loop μ-loop
 mul-leader c = let s = c .before .before .before .before .before in
@@ -54,12 +48,6 @@ add-write-layer c = let s = c .before .before .before .before .before .before in
     let l = c .before .before .loop in
     let r = fits (l .j) (v .result) (length (s .args .word .now)) (l .at) (length (l .bch)) (c .before .loop-test .taken) (l .inv .1) (l .inv .2 ∙ its-room _ _ _ _ (s .pre .room) (s .pre .count) (v .ensures)) in
     omega (arith, row-small (width (s .args .code)) (its-width (s .args .code) (width (s .args .code)) (s .pre .code-is) refl), s .pre .room, l .inv .2)
-
-sub-write-layer : tie.Need-sub-write-layer Inv-loop μ-loop
-sub-write-layer c = search needs
-
-part-write-layer-start : tie.Need-part-write-layer-start Inv-loop μ-loop
-part-write-layer-start c = search needs
 
 part-write-layer-end : tie.Need-part-write-layer-end Inv-loop μ-loop
 part-write-layer-end c = let s = c .before .before .before .before .before .before in
@@ -87,9 +75,6 @@ add-j c = let s = c .before .before .before .before .before .before .before .bef
     let v = c .before .before .before .before .before .before .before .width-of in
     omega (arith, L.width-small (v .result) (its-width (s .args .code) (v .result) (s .pre .code-is) (v .ensures)), c .before .before .before .before .before .loop-test .taken)
 
-loop-less : tie.Need-loop-less Inv-loop μ-loop
-loop-less c = search needs
-
 loop-again : tie.Need-loop-again Inv-loop μ-loop
 loop-again c = let s = c .before .before .before .before .before .before .before .before .before .before in
     let v = c .before .before .before .before .before .before .before .width-of in
@@ -104,9 +89,6 @@ loop-again c = let s = c .before .before .before .before .before .before .before
     let p = piece (a .code) ws (a .t3) (s .pre .code-is) (s .pre .count) (s .pre .tuple) (l .j) (f .result) (rw (← v .ensures) h) (f .ensures) in
     let t = turn (whole (a .code) ws) (a .bch .now) (l .bch) _ (l .at) (length ws) (whole-room (a .code) _ _ _ k (s .pre .room) (s .pre .count)) (omega (arith, whole-room (a .code) _ _ _ k (s .pre .room) (s .pre .count))) (l .inv .3) (ap (λ i. take (length ws) (drop i (whole (a .code) ws))) (l .inv .1) ∙ p ∙ sym (c .before .before .write-layer .ensures)) in
     (search needs, next-exponent (l .at) (l .j) (length ws) (l .inv .1), t .same, t .list)
-
-same-length : tie.Need-same-length Inv-loop μ-loop
-same-length c = c .before .loop .inv .2
 
 returns : tie.Need-returns Inv-loop μ-loop
 returns c = let s = c .before .before .before .before .before in
@@ -125,20 +107,20 @@ write-layers-spec =
     (tie.spec
     Inv-loop
     μ-loop
-    width-of-requires
+    (λ c κs. search needs)
     loop-holds
-    cast-leader
+    (λ c. search needs)
     mul-leader
     array-read-leader
     leader-requires
     add-write-layer
-    sub-write-layer
-    part-write-layer-start
+    (λ c. search needs)
+    (λ c. search needs)
     part-write-layer-end
     write-layer-requires
     add-at
     add-j
-    loop-less
+    (λ c. search needs)
     loop-again
-    same-length
+    (λ c. c .before .loop .inv .2)
     returns)

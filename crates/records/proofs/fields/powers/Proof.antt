@@ -12,53 +12,20 @@ Inv-loop m listed t₀ i₀ t i = i ≤ length listed
 abbrev μ-loop : tie.MeasureT-loop
 μ-loop m listed t₀ i₀ t i = length listed - i
 
-none-requires : tie.Need-none-requires Inv-loop μ-loop
-none-requires c κs = search needs
-
-loop-holds : tie.Need-loop-holds Inv-loop μ-loop
-loop-holds c = search needs
-
-shared-slice-read-is-next : tie.Need-shared-slice-read-is-next Inv-loop μ-loop
-shared-slice-read-is-next c = search needs
-
-add-at-or-one : tie.Need-add-at-or-one Inv-loop μ-loop
-add-at-or-one c = search needs
-
-at-or-one-requires : tie.Need-at-or-one-requires Inv-loop μ-loop
-at-or-one-requires c κs = search needs
-
-is-next-requires : tie.Need-is-next-requires Inv-loop μ-loop
-is-next-requires c κs = search needs
-
-with-requires : tie.Need-with-requires Inv-loop μ-loop
-with-requires c κs = search needs
-
-add-i : tie.Need-add-i Inv-loop μ-loop
-add-i c = search needs
-
-loop-less : tie.Need-loop-less Inv-loop μ-loop
-loop-less c = search needs
-
-loop-again : tie.Need-loop-again Inv-loop μ-loop
-loop-again c = search needs
-
-returns : tie.Need-returns Inv-loop μ-loop
-returns c = search needs
-
 pub powers-spec : {M : Type 1} → statement M
 powers-spec =
     tie.close
     (tie.spec
     Inv-loop
     μ-loop
-    none-requires
-    loop-holds
-    shared-slice-read-is-next
-    add-at-or-one
-    at-or-one-requires
-    is-next-requires
-    with-requires
-    add-i
-    loop-less
-    loop-again
-    returns)
+    (λ c κs. search needs)
+    (λ c. search needs)
+    (λ c. search needs)
+    (λ c. search needs)
+    (λ c κs. search needs)
+    (λ c κs. search needs)
+    (λ c κs. search needs)
+    (λ c. search needs)
+    (λ c. search needs)
+    (λ c. search needs)
+    (λ c. search needs))

@@ -11,16 +11,10 @@ use borrow.Author.Needs.{needs}
 use Rattle.records.proofs.samples.float_of.Statement.{statement}
 use Rattle.records.proofs.samples.float_of.Tie as tie
 
-returns : tie.Need-returns
-returns c = search needs
-
 float-from-bits-result : tie.Need-float-from-bits-result
 float-from-bits-result c =
     let b = c .before .args .bits in
     subst (λ (t : Bool). T (not t)) (sym (nanBits-above binary32 b ∙ le-ltb 2139095040 (b % 2147483648) (c .if1 .left))) tt
 
-returns-2 : tie.Need-returns-2
-returns-2 c = search needs
-
 pub float-of-spec : {M : Type 1} → statement M
-float-of-spec = tie.close (tie.spec returns float-from-bits-result returns-2)
+float-of-spec = tie.close (tie.spec (λ c. search needs) float-from-bits-result (λ c. search needs))
