@@ -1,13 +1,14 @@
 -- `search::cost_rows` meets its contract.
 -- Assumes nothing.
 use borrow.Author.Needs.{needs}
+use native.Mathlib.Omega.{arith}
 use Rattle.search.proofs.Prepared.{costed}
 use Rattle.search.proofs.cost_rows.Statement.{statement}
 use Rattle.search.proofs.cost_rows.Tie as tie
 
 returns : tie.Need-returns
 returns c = let s = c .before .before .before .before .before .before .before .before .before .before .before .before .before in
-    costed (s .args .m) (s .args .n) (s .args .row .now) (c .before .before .before .before .costs .ensures) (s .pre .length-zs) (c .before .before .before .before .before .before .before .before .before .spread .ensures)
+    costed (s .args .m) (s .args .n) (s .args .row .now) (c .before .before .before .before .costs .ensures) (omega (arith, s .pre .length-zs, s .pre .length-os)) (c .before .before .before .before .before .before .before .before .before .spread .ensures)
 
 pub cost-rows-spec : {M : Type 1} → statement M
 cost-rows-spec =
