@@ -4,7 +4,7 @@
 //!     bench call WHICH CALL CODE N    N calls on rows of one pool, for a count of instructions
 //!     bench time WHICH CALL CODE N    nanoseconds a call, the least of five runs of N calls
 //!
-//! WHICH is library, plain or wolf; CALL is decode or mark.
+//! WHICH is library, plain or wolf; CALL is decode or mark, or for the library list: a listing of the whole pool.
 
 mod codes;
 mod library;
@@ -99,8 +99,13 @@ fn calls(which: &str, call: &str, decoders: &mut Decoders, pool: &[(Vec<i16>, Ve
     let code = Code::of(decoders.number);
     let mut word = vec![0; code.n];
     let mut soft = vec![0; code.bits()];
+    let sheet = library::sheet(decoders.number, pool);
+    let mut text = vec![0; 19058];
     for (row, handed) in pool.iter().cycle().take(n) {
         match call {
+            "list" => {
+                black_box(library::list(black_box(&sheet), &mut text));
+            }
             "decode" => {
                 black_box(decoders.decode(which, black_box(row), &mut word, &mut soft));
                 black_box(&soft);

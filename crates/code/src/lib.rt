@@ -1,7 +1,7 @@
 // Reed-Solomon codes of 2^m - 1 symbols with roots α to α^r: encoder, message reader and codeword test.
 // `encode`, `read_word` and `check_word` are offered to callers: they take any input and promise what specs/Calls.antt says.
-// For the crates above: a code's numbers (`is_code`, `width_of`, `roots_of`, `long_of`, `row_long_of`, `message_long_of`), and
-// `symbols_good` and `is_codeword` on words that have the right length. Layers and syndromes are left to the crate `split`.
+// For the crates above: a code's numbers (`is_code`, `width_of`, `roots_of`, `long_of`, `row_long_of`, `message_long_of`), `member_refusal`,
+// and `symbols_good` and `is_codeword` on words that have the right length. Layers and syndromes are left to the crate `split`.
 ghost use mathlib.Core.Path.{_≡_};
 ghost use mathlib.Core.Bool.{true};
 ghost use mathlib.Core.List.{_++_};
