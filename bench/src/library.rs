@@ -1,4 +1,9 @@
-//! The library's calls, over its static archive. A slice is a pointer and a length.
+//! The library's calls, over its static archive. What is counted beside other programs is called as C calls it, a slice being a pointer and a
+//! length; sheets by the Rust package.
+
+#[allow(dead_code)]
+#[path = "../../bindings/rust/src/lib.rs"]
+mod package;
 
 #[repr(C)]
 pub struct Decoding {
@@ -13,12 +18,6 @@ pub struct Mark {
     pub shortfall: i32,
 }
 
-#[repr(C)]
-struct Listed {
-    number: u32,
-    long: usize,
-}
-
 extern "C" {
     fn tugzeck_decode(
         code: u32,
@@ -30,19 +29,6 @@ extern "C" {
         soft_length: usize,
     ) -> Decoding;
 
-    fn tugzeck_write_sheet(
-        codes: *const u32,
-        codes_length: usize,
-        numbers: *const u32,
-        numbers_length: usize,
-        rows: *const i16,
-        rows_length: usize,
-        words: *const u8,
-        words_length: usize,
-        output: *mut u8,
-        output_length: usize,
-    ) -> u32;
-    fn tugzeck_list(sheet: *const u8, sheet_length: usize, output: *mut u8, output_length: usize) -> Listed;
     fn tugzeck_mark(code: u32, row: *const i16, row_length: usize, word: *const u8, word_length: usize) -> Mark;
 }
 
@@ -68,30 +54,9 @@ pub fn sheet(code: u32, questions: &[(Vec<i16>, Vec<u8>)]) -> Vec<u8> {
     let numbers: Vec<u32> = (1..).take(questions.len()).collect();
     let rows: Vec<i16> = questions.iter().flat_map(|(row, _)| row.iter().copied()).collect();
     let words: Vec<u8> = questions.iter().flat_map(|(_, word)| word.iter().copied()).collect();
-    let mut output = vec![0; questions.len() * if code == 3 { 96 } else { 40 } + 4];
-    // SAFETY: each pointer is valid for its length, and the output is borrowed apart.
-    let number = unsafe {
-        tugzeck_write_sheet(
-            codes.as_ptr(),
-            codes.len(),
-            numbers.as_ptr(),
-            numbers.len(),
-            rows.as_ptr(),
-            rows.len(),
-            words.as_ptr(),
-            words.len(),
-            output.as_mut_ptr(),
-            output.len(),
-        )
-    };
-    assert_eq!(number, 0);
+    let mut output = vec![0; package::sheet_length(&codes)];
+    package::write_sheet(&codes, &numbers, &rows, &words, &mut output).expect("a sheet");
     output
 }
 
-/// The length of a sheet's listing.
-pub fn list(sheet: &[u8], output: &mut [u8]) -> usize {
-    // SAFETY: both pointers are valid for their lengths, and the output is borrowed apart.
-    let r = unsafe { tugzeck_list(sheet.as_ptr(), sheet.len(), output.as_mut_ptr(), output.len()) };
-    assert_eq!(r.number, 0);
-    r.long
-}
+pub use package::{list, LISTING};

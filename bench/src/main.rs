@@ -100,11 +100,11 @@ fn calls(which: &str, call: &str, decoders: &mut Decoders, pool: &[(Vec<i16>, Ve
     let mut word = vec![0; code.n];
     let mut soft = vec![0; code.bits()];
     let sheet = library::sheet(decoders.number, pool);
-    let mut text = vec![0; 19058];
+    let mut text = vec![0; library::LISTING];
     for (row, handed) in pool.iter().cycle().take(n) {
         match call {
             "list" => {
-                black_box(library::list(black_box(&sheet), &mut text));
+                black_box(library::list(black_box(&sheet), &mut text).expect("a listing"));
             }
             "decode" => {
                 black_box(decoders.decode(which, black_box(row), &mut word, &mut soft));
