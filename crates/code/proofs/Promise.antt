@@ -9,16 +9,17 @@ use lib.Dec.{leb, leb→le, lit<, lit≤}
 use lib.ListN.{length, drop, length-drop}
 use Rattle.field.specs.Field.{width-good}
 use Rattle.field.proofs.Tests.{and-l, and-r, to-T}
-use Rattle.code.specs.Code.{code-good, width, roots, long, message-long, symbols-good, is-codeword, message}
+use Rattle.code.specs.Code.{code-good, number-refusal, width, roots, long, message-long, symbols-good, is-codeword, message}
 use Rattle.code.specs.Promise.{Codes-inside, Encodes-once, Message-good, Encoded-read, Read-encoded}
 use Rattle.code.proofs.Words.{good, drop-below, Codeword-parts, codeword-parts}
-use Rattle.code.specs.Calls.{Encode-says, Read-says, encode-refusal, read-refusal}
+use Rattle.refusal.specs.Refusal.{first}
+use Rattle.refusal.proofs.Tests.{first-none, first-free}
+use Rattle.code.specs.Calls.{Encode-says, Read-says, encode-refusal, member-refusal}
 use Rattle.code.specs.Within.{Message-within}
 use Rattle.code.proofs.Accepted.{
   width-fine,
   roots-few,
   encode-accepts,
-  encode-code,
   encode-taken,
   Member,
   member-accepts,
@@ -60,28 +61,30 @@ message-good m r ws small g =
 
 -- the two calls undo each other: a codeword's message is encoded to it, and only to it
 pub encoded-read : Encoded-read
-unfolding Encoded-read Encode-says Read-says read-refusal
+unfolding Encoded-read Encode-says Read-says
 encoded-read c answer ms o ws q u e n r =
-    let f : (encode-refusal c ms (length o) ≡ 0) × ((is-codeword (width c) (roots c) ws ≡ true) × (message (roots c) ws ≡ ms)) = outcome-zero _ _ _ e in
-    let w : Message-within (width c) (roots c) ms (length o) = encode-accepts c ms (length o) (f .0) in
-    let p : Codeword-parts (width c) (roots c) ws = codeword-parts (width c) (roots c) ws (f .1 .0) in
-    let t : read-refusal c ws (length q) ≡ 0 =
-    member-taken c ws (length q) _ (record { code-is = encode-code c ms (length o) (f .0); count = p .count; room = n ∙ w .count; codeword = f .1 .0 }) (good (width c) ws (p .symbols)) in
-    let d : (answer ≡ 0) × (u ≡ message (roots c) ws) = outcome-taken _ answer _ _ t r in
+    let m = width c in
+    let k = roots c in
+    let f : (first (number-refusal c) (encode-refusal m k ms (length o)) ≡ 0) × ((is-codeword m k ws ≡ true) × (message k ws ≡ ms)) = outcome-zero _ _ _ e in
+    let g = first-none _ _ (f .0) in
+    let w : Message-within m k ms (length o) = encode-accepts m k (width-fine c) (roots-few c) ms (length o) (g .1) in
+    let p : Codeword-parts m k ws = codeword-parts m k ws (f .1 .0) in
+    let t = member-taken m k ws (length q) (message-long m k) (record { count = p .count; room = n ∙ w .count; codeword = f .1 .0 }) (good m ws (p .symbols)) in
+    let d : (answer ≡ 0) × (u ≡ message k ws) = outcome-taken _ answer _ _ (first-free _ _ (g .0) t) r in
     (d .0, d .1 ∙ f .1 .1)
 
 pub read-encoded : Read-encoded
-unfolding Read-encoded Encode-says Read-says read-refusal Message-good Encodes-once
+unfolding Read-encoded Encode-says Read-says Message-good Encodes-once
 read-encoded c answer ws o ms q u r n e =
-    let f : (read-refusal c ws (length o) ≡ 0) × (ms ≡ message (roots c) ws) = outcome-zero _ _ _ r in
-    let w : Member c ws (length o) (message-long (width c) (roots c)) = member-accepts c ws (length o) _ (f .0) in
-    let small : roots c ≤ long (width c) = omega (arith, roots-few c) in
-    let g : (length (message (roots c) ws) ≡ message-long (width c) (roots c)) × (symbols-good (width c) (message (roots c) ws) ≡ true) =
-    message-good (width c) (roots c) ws small (w .codeword) in
-    let count : length ms ≡ message-long (width c) (roots c) = ap length (f .1) ∙ g .0 in
-    let symbols : symbols-good (width c) ms ≡ true = ap (symbols-good (width c)) (f .1) ∙ g .1 in
-    let t : encode-refusal c ms (length q) ≡ 0 =
-    encode-taken c ms (length q) (w .code-is)
-    (record { width = width-fine c; few = roots-few c; count = count; room = n ∙ w .count; symbols = symbols }) in
-    let d : (answer ≡ 0) × ((is-codeword (width c) (roots c) u ≡ true) × (message (roots c) u ≡ ms)) = outcome-taken _ answer _ _ t e in
-    (d .0, encodes-once (width c) (roots c) ms (width-fine c) small count symbols .1 u ws (d .1 .0) (w .codeword) (d .1 .1) (sym (f .1)))
+    let m = width c in
+    let k = roots c in
+    let f : (first (number-refusal c) (member-refusal m k ws (length o) (message-long m k)) ≡ 0) × (ms ≡ message k ws) = outcome-zero _ _ _ r in
+    let h = first-none _ _ (f .0) in
+    let w : Member m k ws (length o) (message-long m k) = member-accepts m k ws (length o) _ (h .1) in
+    let small : k ≤ long m = omega (arith, roots-few c) in
+    let g : (length (message k ws) ≡ message-long m k) × (symbols-good m (message k ws) ≡ true) = message-good m k ws small (w .codeword) in
+    let count : length ms ≡ message-long m k = ap length (f .1) ∙ g .0 in
+    let symbols : symbols-good m ms ≡ true = ap (symbols-good m) (f .1) ∙ g .1 in
+    let t = encode-taken m k (width-fine c) (roots-few c) ms (length q) (record { width = width-fine c; few = roots-few c; count = count; room = n ∙ w .count; symbols = symbols }) in
+    let d : (answer ≡ 0) × ((is-codeword m k u ≡ true) × (message k u ≡ ms)) = outcome-taken _ answer _ _ (first-free _ _ (h .0) t) e in
+    (d .0, encodes-once m k ms (width-fine c) small count symbols .1 u ws (d .1 .0) (w .codeword) (d .1 .1) (sym (f .1)))

@@ -2,14 +2,19 @@
 -- Assumes nothing: these are definitions.
 use mathlib.Core.Bool.{Bool, true, _&&_, cond}
 use mathlib.Core.List.{List, [], _∷_}
-use Prim.Native.Nat.{ℕ, zero, suc, _*_, _-_, _^_}
+use Prim.Native.Nat.{ℕ, zero, suc, _+_, _*_, _-_, _^_}
 use lib.Dec.{ltb, leb, eqb}
 use lib.ListN.{length, drop}
 use Rattle.field.specs.Field.{xor, times, alpha}
+use Rattle.refusal.specs.Refusal.{unless}
 
 -- the code numbers: 1 is (7, 5), 2 is (7, 3), 3 is (15, 13)
 unfoldable pub code-good : (code : ℕ) → Bool
 code-good c = leb 1 c && leb c 3
+
+-- another number is refused by 1
+unfoldable pub number-refusal : (code : ℕ) → ℕ
+number-refusal c = unless (code-good c) 1 0
 
 -- m of a code
 unfoldable pub width : (code : ℕ) → ℕ
@@ -53,3 +58,8 @@ is-codeword m r ws = (eqb (length ws) (long m) && symbols-good m ws) && vanishes
 -- the message occupies positions n - k to n - 1, lowest position first
 unfoldable pub message : (r : ℕ) → (word : List ℕ) → List ℕ
 message r ws = drop r ws
+
+-- how many bits the syndrome of a binary word has: m for its value at α, from three roots on another m for that at α^3, and from five on, for
+-- m = 4, two more for that at α^5
+abbrev pub syndrome-long : (m r : ℕ) → ℕ
+syndrome-long m r = m + (cond (leb 3 r) m 0 + cond (leb 5 r && eqb m 4) 2 0)

@@ -5,7 +5,31 @@ use mathlib.Core.List.{List}
 use Prim.Native.Nat.{ℕ, _+_, _^_, _≤_, _<_}
 use lib.ListN.{length, drop}
 use Rattle.field.specs.Field.{width-good}
-use Rattle.code.specs.Code.{long, message-long, symbols-good, is-codeword, message}
+use Rattle.code.specs.declared.Shape.{Shape}
+use Rattle.code.specs.declared.Chosen.{Chosen}
+use Rattle.code.specs.Code.{code-good, number-refusal, width, roots, long, message-long, symbols-good, is-codeword, message, syndrome-long}
+use Rattle.code.specs.Bits.{row-long}
+
+-- m and r of a code, with the numbers that follow from them
+pub record Coded (s : Shape) : Type 0 where
+  pub code : ℕ
+  pub code-is : code-good code ≡ true
+  pub m-is : s .m ≡ width code
+  pub r-is : s .r ≡ roots code
+  pub width-is : width-good (s .m) ≡ true
+  pub few : s .r < long (s .m)
+  pub n-is : s .n ≡ long (s .m)
+  pub k-is : s .k ≡ message-long (s .m) (s .r)
+  pub bits-is : s .bits ≡ row-long (s .m)
+  pub q-is : s .q ≡ syndrome-long (s .m) (s .r)
+  pub size-is : s .size ≡ 2 ^ s .q
+
+-- a code's number gives its m and r; any other is refused, and has some code's
+pub record Chosen-says (c : ℕ) (a : Chosen) : Type 0 where
+  pub number-is : a .number ≡ number-refusal c
+  pub coded : Coded (a .shape)
+  pub m-is : a .shape .m ≡ width c
+  pub r-is : a .shape .r ≡ roots c
 
 -- a word of n symbols below 2^m, and a number of roots, or the exponent of one, below n
 pub record Word-within (m r : ℕ) (ws : List ℕ) : Type 0 where

@@ -1,18 +1,18 @@
 // Reed-Solomon codes of 2^m - 1 symbols with roots α to α^r: encoder, message reader and codeword test.
 // `encode`, `read_word` and `check_word` are offered to callers: they take any input and promise what specs/Calls.antt says.
-// For the crates above: a code's numbers (`is_code`, `width_of`, `roots_of`, `long_of`, `row_long_of`, `message_long_of`), `member_refusal`,
-// and `symbols_good` and `is_codeword` on words that have the right length. Layers and syndromes are left to the crate `split`.
+// For the crates above: `by_number`, which turns a code's number into its m and r or a refusal, `member_refusal`, and `symbols_good` and
+// `is_codeword` on words that have the right length. Layers and syndromes are left to the crate `split`.
 ghost use mathlib.Core.Path.{_≡_};
 ghost use mathlib.Core.Bool.{true};
 ghost use mathlib.Core.List.{_++_};
-ghost use Prim.Native.Nat.{_+_, _<_};
+ghost use Prim.Native.Nat.{ℕ, _+_, _<_};
 ghost use lib.ListN.{length, take, drop};
 ghost use Rattle.field.specs.Field.{width-good};
 ghost use Rattle.field.specs.Within.{Tables};
-ghost use Rattle.code.specs.Code.{code-good, width, roots, long, message-long, value-at, vanishes, symbols-good, is-codeword};
+ghost use Rattle.code.specs.Code.{code-good, width, roots, long, value-at, vanishes, symbols-good, is-codeword, syndrome-long};
 ghost use Rattle.code.specs.Division.{tails, product, spread, divided, multiplied};
-ghost use Rattle.code.specs.Calls.{encode-refusal, Encode-says, word-refusal, member-refusal, read-refusal, Read-says, check-refusal, checked};
-ghost use Rattle.code.specs.Within.{Word-within, Part-within, Place-within, Quotient-within, Message-within, Carries};
+ghost use Rattle.code.specs.Calls.{encode-refusal, Encode-says, member-refusal, Read-says, check-refusal, checked};
+ghost use Rattle.code.specs.Within.{Coded, Chosen-says, Word-within, Part-within, Place-within, Quotient-within, Message-within, Carries};
 ghost use Rattle.code.specs.Bits.{row-long};
 
 pub enum Membership {
@@ -21,15 +21,44 @@ pub enum Membership {
     Refused(u32),
 }
 
+// A code: m bits to a symbol and roots α to α^r, with the numbers that follow from them: n symbols to a word, k of them its message, `bits` = n·m bits
+// to a word and entries to a row, q bits to a layer's syndrome, and `size` = 2^q syndromes.
+pub struct Shape {
+    pub m: u32,
+    pub r: u32,
+    pub n: usize,
+    pub k: usize,
+    pub bits: usize,
+    pub q: u32,
+    pub size: usize,
+}
+
+// 0 and a code, or the number of a refusal and any code.
+pub struct Chosen {
+    pub number: u32,
+    pub shape: Shape,
+}
+
+// The code with a number.
+pub fn by_number(code: u32) -> Chosen
+    ensures { λ r. ⌜ Chosen-says code r ⌝ }
+{
+    let number = refusal::unless(is_code(code), 1, 0);
+    let shape = shape_of(width_of(code), roots_of(code));
+    Chosen { number, shape }
+}
+
 // Writes the codeword of a message into `output` and answers 0, or answers the number of a refusal and writes nothing.
 pub fn encode(code: u32, message: &[u8], output: &mut [u8]) -> u32
     ensures { λ r. ⌜ Encode-says code (now (message .entry)) r (now (output .entry)) (now (output .exit)) ⌝ }
 {
-    let number = encode_refusal(code, message, output.len());
+    let chosen = by_number(code);
+    let shape = chosen.shape;
+    let number = refusal::first(chosen.number, encode_refusal(shape, message, output.len()));
     if number != 0 {
         return number;
     }
-    write_codeword(width_of(code), roots_of(code), message, output);
+    write_codeword(shape.m, shape.r, message, output);
     0
 }
 
@@ -37,11 +66,16 @@ pub fn encode(code: u32, message: &[u8], output: &mut [u8]) -> u32
 pub fn read_word(code: u32, word: &[u8], output: &mut [u8]) -> u32
     ensures { λ r. ⌜ Read-says code (now (word .entry)) r (now (output .entry)) (now (output .exit)) ⌝ }
 {
-    let refusal = read_refusal(code, word, output.len());
-    if refusal != 0 {
-        return refusal;
+    let chosen = by_number(code);
+    let shape = chosen.shape;
+    let number = refusal::first(
+        chosen.number,
+        member_refusal(shape, word, output.len(), shape.k),
+    );
+    if number != 0 {
+        return number;
     }
-    let r = roots_of(code) as usize;
+    let r = shape.r as usize;
     copy(&word[r..], output);
     0
 }
@@ -50,11 +84,13 @@ pub fn read_word(code: u32, word: &[u8], output: &mut [u8]) -> u32
 pub fn check_word(code: u32, word: &[u8]) -> Membership
     ensures { λ r. ⌜ r ≡ checked code (now (word .entry)) ⌝ }
 {
-    let refusal = check_refusal(code, word);
-    if refusal != 0 {
-        return Membership::Refused(refusal);
+    let chosen = by_number(code);
+    let shape = chosen.shape;
+    let number = refusal::first(chosen.number, check_refusal(shape, word));
+    if number != 0 {
+        return Membership::Refused(number);
     }
-    if is_codeword(width_of(code), roots_of(code), word) {
+    if is_codeword(shape.m, shape.r, word) {
         Membership::Codeword
     } else {
         Membership::NoCodeword
@@ -62,55 +98,36 @@ pub fn check_word(code: u32, word: &[u8]) -> Membership
 }
 
 // What encoding is refused by, 0 for nothing.
-fn encode_refusal(code: u32, message: &[u8], output: usize) -> u32
-    ensures { λ r. ⌜ r ≡ encode-refusal code (now (message .entry)) output ⌝ }
+fn encode_refusal(shape: Shape, message: &[u8], output: usize) -> u32
+    requires { ⌜ Coded shape ⌝ }
+    ensures { λ r. ⌜ r ≡ encode-refusal (shape .m) (shape .r) (now (message .entry)) output ⌝ }
 {
-    let m = width_of(code);
-    let k = message_long_of(m, roots_of(code));
-    let contents = refusal::unless(symbols_good(m, message), 6, 0);
-    let room = refusal::unless(output == long_of(m), 4, contents);
-    let lengths = refusal::unless(message.len() == k, 3, room);
-    refusal::unless(is_code(code), 1, lengths)
-}
-
-// What a word and an output are refused by before the word is tested at the roots, 0 for nothing.
-fn word_refusal(code: u32, word: &[u8], output: usize, needed: usize) -> u32
-    ensures { λ r. ⌜ r ≡ word-refusal code (now (word .entry)) output needed ⌝ }
-{
-    let m = width_of(code);
-    let contents = refusal::unless(symbols_good(m, word), 6, 0);
-    let room = refusal::unless(output == needed, 4, contents);
-    let lengths = refusal::unless(word.len() == long_of(m), 3, room);
-    refusal::unless(is_code(code), 1, lengths)
+    let symbols = refusal::unless(symbols_good(shape.m, message), 6, 0);
+    let room = refusal::unless(output == shape.n, 4, symbols);
+    refusal::unless(message.len() == shape.k, 3, room)
 }
 
 // What a word that is to be a codeword is refused by, with an output that needs so many places; 0 for nothing.
-pub fn member_refusal(code: u32, word: &[u8], output: usize, needed: usize) -> u32
-    ensures { λ r. ⌜ r ≡ member-refusal code (now (word .entry)) output needed ⌝ }
+pub fn member_refusal(shape: Shape, word: &[u8], output: usize, needed: usize) -> u32
+    requires { ⌜ Coded shape ⌝ }
+    ensures { λ r. ⌜ r ≡ member-refusal (shape .m) (shape .r) (now (word .entry)) output needed ⌝ }
 {
-    let e = word_refusal(code, word, output, needed);
-    if e != 0 {
-        return e;
+    let symbols = refusal::unless(symbols_good(shape.m, word), 6, 0);
+    let room = refusal::unless(output == needed, 4, symbols);
+    let number = refusal::unless(word.len() == shape.n, 3, room);
+    if number != 0 {
+        return number;
     }
-    refusal::unless(is_codeword(width_of(code), roots_of(code), word), 8, 0)
-}
-
-// What reading is refused by, 0 for nothing.
-fn read_refusal(code: u32, word: &[u8], output: usize) -> u32
-    ensures { λ r. ⌜ r ≡ read-refusal code (now (word .entry)) output ⌝ }
-{
-    let k = message_long_of(width_of(code), roots_of(code));
-    member_refusal(code, word, output, k)
+    refusal::unless(is_codeword(shape.m, shape.r, word), 8, 0)
 }
 
 // What the codeword test is refused by, 0 for nothing.
-fn check_refusal(code: u32, word: &[u8]) -> u32
-    ensures { λ r. ⌜ r ≡ check-refusal code (now (word .entry)) ⌝ }
+fn check_refusal(shape: Shape, word: &[u8]) -> u32
+    requires { ⌜ Coded shape ⌝ }
+    ensures { λ r. ⌜ r ≡ check-refusal (shape .m) (now (word .entry)) ⌝ }
 {
-    let m = width_of(code);
-    let contents = refusal::unless(symbols_good(m, word), 6, 0);
-    let lengths = refusal::unless(word.len() == long_of(m), 3, contents);
-    refusal::unless(is_code(code), 1, lengths)
+    let symbols = refusal::unless(symbols_good(shape.m, word), 6, 0);
+    refusal::unless(word.len() == shape.n, 3, symbols)
 }
 
 // Whether a number is that of a code.
@@ -131,10 +148,42 @@ pub fn width_of(code: u32) -> u32
 }
 
 // How many roots a code has: r.
-pub fn roots_of(code: u32) -> u32
+fn roots_of(code: u32) -> u32
     ensures { λ r. ⌜ r ≡ roots code ⌝ }
 {
     if code == 2 { 4 } else { 2 }
+}
+
+// How many bits a layer's syndrome has.
+fn syndrome_long_of(m: u32, r: u32) -> u32
+    requires { ⌜ width-good m ≡ true ⌝ }
+    ensures { λ x. ⌜ x ≡ syndrome-long m r ⌝ }
+{
+    if r < 3 {
+        return m;
+    }
+    if r < 5 {
+        return m + m;
+    }
+    if m == 4 { m + m + 2 } else { m + m }
+}
+
+// The numbers that follow from m and r.
+fn shape_of(m: u32, r: u32) -> Shape
+    requires { ⌜ ((c : ℕ) × (m ≡ width c) × (r ≡ roots c)) ⌝ }
+    ensures { λ s. ⌜ Coded s × (s .m ≡ m) × (s .r ≡ r) ⌝ }
+{
+    let n = long_of(m);
+    let q = syndrome_long_of(m, r);
+    Shape {
+        m,
+        r,
+        n,
+        k: n - r as usize,
+        bits: row_long_of(m),
+        q,
+        size: 1 << q,
+    }
 }
 
 // How many symbols a word has: n.
@@ -151,14 +200,6 @@ pub fn row_long_of(m: u32) -> usize
     ensures { λ r. ⌜ r ≡ row-long m ⌝ }
 {
     if m == 3 { 21 } else { 60 }
-}
-
-// How many symbols a message has: k.
-pub fn message_long_of(m: u32, r: u32) -> usize
-    requires { ⌜ (width-good m ≡ true) × (r < long m) ⌝ }
-    ensures { λ x. ⌜ x ≡ message-long m r ⌝ }
-{
-    long_of(m) - r as usize
 }
 
 // Whether every symbol is below 2^m.

@@ -25,3 +25,7 @@ pub first-none : (n e : ℕ) → first n e ≡ 0 → (n ≡ 0) × (e ≡ 0)
 unfolding first
 first-none zero e h = (refl, h)
 first-none (suc n) e h = absurd (omega arith)
+
+pub first-free : (n e : ℕ) → n ≡ 0 → e ≡ 0 → first n e ≡ 0
+unfolding first
+first-free n e h k = rw (h, k)

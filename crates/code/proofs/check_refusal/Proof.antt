@@ -1,31 +1,13 @@
 -- `code::check_refusal` meets its contract.
 -- Assumes nothing.
-use mathlib.Core.Path.{_≡_}
-use mathlib.Core.Bool.{true}
 use borrow.Author.Needs.{needs}
-use Rattle.field.specs.Field.{width-good}
 use Rattle.code.specs.Calls.{check-refusal}
-use Rattle.code.proofs.Accepted.{width-fine}
 use Rattle.code.proofs.check_refusal.Statement.{statement}
 use Rattle.code.proofs.check_refusal.Tie as tie
 
-fine : (c : tie.After-width-of) → width-good (c .width-of .result) ≡ true
-fine c = rw (c .width-of .ensures) (width-fine _)
-
 returns : tie.Need-returns
 unfolding check-refusal
-returns c = rw
-    (c .unless3 .ensures, c .before .is-code .ensures, c .before .before .unless2 .ensures, c .before .before .before .long-of .ensures, c .before .before .before .before .unless .ensures, c .before .before .before .before .before .symbols-good .ensures, c .before .before .before .before .before .before .width-of .ensures)
+returns c = cc
 
 pub check-refusal-spec : {M : Type 1} → statement M
-check-refusal-spec =
-    tie.close
-    (tie.spec
-    (λ c κs. search needs)
-    (λ c κs. fine c)
-    (λ c κs. search needs)
-    (λ c κs. fine (c .before .before))
-    (λ c κs. search needs)
-    (λ c κs. search needs)
-    (λ c κs. search needs)
-    returns)
+check-refusal-spec = tie.close (tie.spec (λ c κs. search needs) (λ c κs. search needs) (λ c κs. search needs) returns)

@@ -8,29 +8,36 @@ use Rattle.code.proofs.Accepted.{word-accepts}
 use Rattle.code.proofs.member_refusal.Statement.{statement}
 use Rattle.code.proofs.member_refusal.Tie as tie
 
--- nothing is refused before the word is tested
-none : (c : tie.Else1) → let a = c .before .before .before .args in word-refusal (a .code) (a .word .now) (a .output) (a .needed) ≡ 0
-none c = sym (c .before .word-refusal .ensures) ∙ c .if1 .left
+-- what is refused before the word is tested
+abbrev start : tie.After-unless3 → tie.Start
+start c = c .before .before .before .before .before .before
+
+before : (c : tie.After-unless3) → let a = start c .args in c .unless3 .result ≡ word-refusal (a .shape .m) (a .word .now) (a .output) (a .needed)
+unfolding word-refusal
+before c = cc
 
 returns : tie.Need-returns
 unfolding member-refusal
-returns c = let e = c .before .word-refusal .ensures in e ∙ first-refuses _ _ (λ z. c .if1 .taken (e ∙ z))
+returns c = let e = before (c .before) in e ∙ first-refuses _ _ (λ z. c .if1 .taken (e ∙ z))
 
 is-codeword-requires : tie.Need-is-codeword-requires
-is-codeword-requires c κs = rw (c .before .width-of .ensures, c .roots-of .ensures) (word-accepts _ _ _ _ (none (c .before .before)) .1)
+is-codeword-requires c κs = let z = start (c .before) .pre in
+    word-accepts _ _ (z .width-is) (z .few) _ _ _ (sym (before (c .before)) ∙ c .if1 .left)
 
 returns-2 : tie.Need-returns-2
 unfolding member-refusal
-returns-2 c = let h = none (c .before .before .before .before) in rw (c .unless .ensures, c .before .is-codeword .ensures, c .before .before .before .width-of .ensures, c .before .before .roots-of .ensures) (first-passes _ _ h)
+returns-2 c = let e = c .before .before in
+    rw (c .unless4 .ensures, c .before .is-codeword .ensures) (first-passes _ _ (sym (before (e .before)) ∙ e .if1 .left))
 
 pub member-refusal-spec : {M : Type 1} → statement M
 member-refusal-spec =
     tie.close
     (tie.spec
     (λ c κs. search needs)
+    (λ c κs. search needs)
+    (λ c κs. search needs)
+    (λ c κs. search needs)
     returns
-    (λ c κs. search needs)
-    (λ c κs. search needs)
     is-codeword-requires
     (λ c κs. search needs)
     returns-2)
