@@ -15,7 +15,7 @@ use mir.Facts.{toZ-ofZ}
 use mir.Syntax.{w32}
 use mir.Val.{SFits, toZ, ofZ}
 use Rattle.code.specs.Bits.{bits-of, all-bits}
-use Rattle.metric.specs.Row.{bound, reliability-good, row-good}
+use Rattle.metric.specs.Row.{row-bound, reliability-good, row-good}
 use Rattle.metric.specs.Metric.{metric-of, metric}
 use Rattle.metric.specs.Within.{Symbol-more}
 use Rattle.metric.proofs.Integers.{plus-size, minus-size}
@@ -26,11 +26,11 @@ pub small-fits : (z : ℤ) → natAbs z ≤ 20000 → SFits w32 z
 small-fits (pos n) h = record { sfits = omega (arith, h) }
 small-fits (negsuc n) h = record { sfits = omega (arith, h) }
 
-reliable-size : (r : ℤ) → reliability-good r ≡ true → natAbs r ≤ 127
-unfolding reliability-good bound
+reliable-size : (r : ℤ) → reliability-good row-bound r ≡ true → natAbs r ≤ 127
+unfolding reliability-good
 reliable-size r g = leb-true (natAbs r) 127 g
 
-module _ (s r : ℤ) (h : natAbs s ≤ 10000) (g : reliability-good r ≡ true) where
+module _ (s r : ℤ) (h : natAbs s ≤ 10000) (g : reliability-good row-bound r ≡ true) where
   pub reliable-fits : SFits w32 r
   reliable-fits = small-fits r (omega (arith, reliable-size r g))
 
@@ -77,10 +77,10 @@ all-counted m j c rs bs s q e =
     rw (q, k, pow-zero 2, div-one c) at e
 
 -- ---- a row from a place on
-pub drop-good : (i : ℕ) (rs : List ℤ) → row-good rs ≡ true → row-good (drop i rs) ≡ true
+pub drop-good : (i : ℕ) (rs : List ℤ) → row-good row-bound rs ≡ true → row-good row-bound (drop i rs) ≡ true
 drop-good zero rs g = g
 drop-good (suc i) [] g = g
-drop-good (suc i) (r ∷ rs) g = drop-good i rs (row-rest r rs g)
+drop-good (suc i) (r ∷ rs) g = drop-good i rs (row-rest row-bound r rs g)
 
 pub tail-is : (at : ℕ) (rs : List ℤ) → take (length rs - at) (drop at rs) ≡ drop at rs
 tail-is at rs = take-all (length rs - at) (drop at rs) (omega (arith, length-drop at rs))
@@ -106,12 +106,12 @@ module _ (m i j at : ℕ) (rs : List ℤ) (ws : List ℕ) (s x : ℤ) (q : suc i
       let d : drop i ws ≡ getD ws i 0 ∷ drop j ws = drop-cons ws i 0 l ∙ ap (λ (y : ℕ). getD ws i 0 ∷ drop y ws) q in
       rw d (f (all-bits m (drop j ws)) (rw (drop-drop m at rs) e))
 
-pub rest-ok : (m at : ℕ) (rs : List ℤ) (bs : List ℕ) (s : ℤ) → m ≤ 4 → at + m ≤ length rs → length rs ≤ 60 → row-good rs ≡ true → s ≡ metric-of (drop (at + m) rs) bs → Symbol-more m (drop at rs) s
+pub rest-ok : (m at : ℕ) (rs : List ℤ) (bs : List ℕ) (s : ℤ) → m ≤ 4 → at + m ≤ length rs → length rs ≤ 60 → row-good row-bound rs ≡ true → s ≡ metric-of (drop (at + m) rs) bs → Symbol-more m (drop at rs) s
 rest-ok m at rs bs s w l n g e = record {
   width = w;
   count = rw (length-drop at rs) (omega arith);
   good = drop-good at rs g;
-  small = rw e (omega (arith, metric-size (drop (at + m) rs) bs (drop-good (at + m) rs g), length-drop (at + m) rs));
+  small = rw e (omega (arith, metric-size row-bound (drop (at + m) rs) bs (drop-good (at + m) rs g), length-drop (at + m) rs));
 }
 
 pub whole : (m i at : ℕ) (rs : List ℤ) (ws : List ℕ) (s : ℤ) → i ≡ 0 → at ≡ i * m → s ≡ metric-of (drop at rs) (all-bits m (drop i ws)) → s ≡ metric m rs ws

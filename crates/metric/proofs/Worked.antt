@@ -8,7 +8,7 @@ use lib.IntN.{ℤ, pos, negsuc}
 use lib.ListN.{replicate}
 use Rattle.code.specs.Code.{width, long}
 use Rattle.code.specs.Bits.{bits-of, all-bits, bit-at, row-long}
-use Rattle.metric.specs.Row.{bound, reliability-good, row-good}
+use Rattle.metric.specs.Row.{row-bound, reliability-good, row-good}
 use Rattle.metric.specs.Metric.{metric-of, metric, is-neg, decided}
 
 -- a row of one reliability, and a word of one symbol, of a code
@@ -42,13 +42,13 @@ in-bit-order = (refl, refl, refl)
 
 -- 'Row value 127 taken, -128 refused'
 pub edges :
-    (reliability-good (pos 127) ≡ true)
-    × (reliability-good (negsuc 126) ≡ true)
-    × (reliability-good (pos 128) ≡ false)
-    × (reliability-good (negsuc 127) ≡ false)
-    × (row-good (row 1 (pos 127)) ≡ true)
-    × (row-good (replicate 20 (pos 127) ++ (negsuc 127 ∷ [])) ≡ false)
-unfolding reliability-good row-good bound width long row-long
+    (reliability-good row-bound (pos 127) ≡ true)
+    × (reliability-good row-bound (negsuc 126) ≡ true)
+    × (reliability-good row-bound (pos 128) ≡ false)
+    × (reliability-good row-bound (negsuc 127) ≡ false)
+    × (row-good row-bound (row 1 (pos 127)) ≡ true)
+    × (row-good row-bound (replicate 20 (pos 127) ++ (negsuc 127 ∷ [])) ≡ false)
+unfolding reliability-good row-good width long row-long
 edges = (refl, refl, refl, refl, refl, refl)
 
 -- a soft output of 0 decides for 0

@@ -8,7 +8,7 @@ use lib.IntN.{ℤ, pos, negsuc, _-ℤ_}
 use Rattle.field.specs.Field.{width-good}
 use Rattle.code.specs.Code.{long, symbols-good, is-codeword}
 use Rattle.code.specs.Bits.{bit-at, row-long}
-use Rattle.metric.specs.Row.{row-good}
+use Rattle.metric.specs.Row.{row-bound, row-good}
 use Rattle.metric.specs.Metric.{at-most, Greatest, Greatest-with, Soft, Decoded, Marked}
 use Rattle.metric.specs.Right.{Soft-right, Decoded-right, Marked-right}
 
@@ -43,7 +43,7 @@ Greatest-with-one =
 -- soft outputs stay within -15,240 .. 15,240: no row is longer than 60
 unfoldable pub Soft-width : Type 0
 Soft-width =
-    (m : ℕ) (among : List ℕ → Bool) (rs : List ℤ) (b : ℕ) (g h : ℤ) → length rs ≤ 60 → row-good rs ≡ true →
+    (m : ℕ) (among : List ℕ → Bool) (rs : List ℤ) (b : ℕ) (g h : ℤ) → length rs ≤ 60 → row-good row-bound rs ≡ true →
     Greatest-with m among rs b 0 g → Greatest-with m among rs b 1 h →
     (at-most (g -ℤ h) (pos 15240) ≡ true) × (at-most (negsuc 15239) (g -ℤ h) ≡ true)
 

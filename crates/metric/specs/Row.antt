@@ -5,14 +5,14 @@ use Prim.Native.Nat.{ℕ}
 use lib.Dec.{leb}
 use lib.IntN.{ℤ, natAbs}
 
--- the greatest size of a reliability
-unfoldable pub bound : ℕ
-bound = 127
+-- a reliability of at most this size
+unfoldable pub reliability-good : (bound : ℕ) → ℤ → Bool
+reliability-good b r = leb (natAbs r) b
 
--- from -127 to 127
-unfoldable pub reliability-good : ℤ → Bool
-reliability-good r = leb (natAbs r) bound
+unfoldable pub row-good : (bound : ℕ) → (row : List ℤ) → Bool
+row-good b [] = true
+row-good b (r ∷ rs) = reliability-good b r && row-good b rs
 
-unfoldable pub row-good : (row : List ℤ) → Bool
-row-good [] = true
-row-good (r ∷ rs) = reliability-good r && row-good rs
+-- the greatest size in a row that is decoded or marked: from -127 to 127
+abbrev pub row-bound : ℕ
+row-bound = 127

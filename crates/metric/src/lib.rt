@@ -4,26 +4,28 @@
 ghost use mathlib.Core.Path.{_≡_};
 ghost use mathlib.Core.Bool.{true, _&&_, cond};
 ghost use mathlib.Core.List.{List, _++_};
-ghost use Prim.Native.Nat.{ℕ, _≤_};
+ghost use Prim.Native.Nat.{ℕ, _^_, _≤_, _<_};
 ghost use lib.Dec.{eqb};
 ghost use lib.ListN.{length, drop};
 ghost use lib.IntN.{natAbs, _+ℤ_, _-ℤ_};
 ghost use Rattle.code.specs.Bits.{bits-of};
-ghost use Rattle.metric.specs.Row.{reliability-good, row-good};
+ghost use Rattle.metric.specs.Row.{row-bound, reliability-good, row-good};
 ghost use Rattle.metric.specs.Metric.{metric-of, metric};
 ghost use Rattle.metric.specs.Within.{Symbol-more, Word-with};
 
-// The greatest size of a reliability.
-pub const BOUND: i16 = 127;
+// The greatest size in a row that is decoded or marked.
+pub const BOUND: u16 = 127;
 
-// Whether a number is a reliability.
-pub fn is_reliability(r: i16) -> bool
-    ensures { λ x. ⌜ x ≡ reliability-good r ⌝ }
+// Whether a number is a reliability of at most a size.
+fn is_reliability(bound: u16, r: i16) -> bool
+    requires { ⌜ bound < 2 ^ 15 ⌝ }
+    ensures { λ x. ⌜ x ≡ reliability-good bound r ⌝ }
 {
-    if r < 0 - BOUND {
+    let most = bound as i16;
+    if r < 0 - most {
         return false;
     }
-    r <= BOUND
+    r <= most
 }
 
 fn both(a: bool, b: bool) -> bool
@@ -32,15 +34,16 @@ fn both(a: bool, b: bool) -> bool
     if a { b } else { false }
 }
 
-// Whether every entry of a row is a reliability. It goes on past one that is not: so it can test several at a time.
-pub fn is_row(row: &[i16]) -> bool
-    ensures { λ r. ⌜ r ≡ row-good (now (row .entry)) ⌝ }
+// Whether every entry of a row is a reliability of at most a size. It goes on past one that is not: so it can test several at a time.
+pub fn is_row(bound: u16, row: &[i16]) -> bool
+    requires { ⌜ bound < 2 ^ 15 ⌝ }
+    ensures { λ r. ⌜ r ≡ row-good bound (now (row .entry)) ⌝ }
 {
     let mut good = true;
     let mut i = 0;
     while i < row.len() {
         let r = row[i];
-        good = both(good, is_reliability(r));
+        good = both(good, is_reliability(bound, r));
         i += 1;
     }
     good
@@ -48,7 +51,7 @@ pub fn is_row(row: &[i16]) -> bool
 
 // The metric with one bit more: a 0 counts its reliability, a 1 counts it against.
 fn counted(sum: i32, bit: u8, r: i16) -> i32
-    requires { ⌜ (natAbs sum ≤ 10000) × (reliability-good r ≡ true) ⌝ }
+    requires { ⌜ (natAbs sum ≤ 10000) × (reliability-good row-bound r ≡ true) ⌝ }
     ensures { λ x. ⌜ x ≡ cond (eqb bit 0) (sum +ℤ r) (sum -ℤ r) ⌝ }
 {
     if bit == 0 {

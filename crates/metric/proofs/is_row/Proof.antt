@@ -4,6 +4,7 @@ use mathlib.Core.Path.{_≡_, refl, ap, _∙_}
 use mathlib.Core.Bool.{Bool, _&&_}
 use Prim.Native.Nat.{_≤_, _-_}
 use native.Mathlib.Omega.{arith}
+use borrow.Author.Needs.{needs}
 use lib.ListN.{length, getD}
 use lib.IntN.{pos}
 use mir.Facts.{toZ-ofZ}
@@ -13,24 +14,24 @@ use Rattle.metric.proofs.is_row.Statement.{statement}
 use Rattle.metric.proofs.is_row.Tie as tie
 
 abbrev Inv-loop : tie.InvT-loop
-Inv-loop row good₀ i₀ good i = (i ≤ length row) × Rowing row i good
+Inv-loop bound row good₀ i₀ good i = (i ≤ length row) × Rowing bound row i good
 
 abbrev μ-loop : tie.MeasureT-loop
-μ-loop row good₀ i₀ good i = length row - i
+μ-loop bound row good₀ i₀ good i = length row - i
 
 loop-again : tie.Need-loop-again Inv-loop μ-loop
-loop-again c = let row = c .before .before .before .before .before .args .row .now in
+loop-again c = let a = c .before .before .before .before .before .args in let row = a .row .now in
     let t = c .before .before .before .before .loop in
     let e = toZ-ofZ {w = w16} {z = getD row (t .i) (pos 0)} (record { sfits = c .before .before .r .given }) in
     let f = rw e at (c .before .is-reliability .ensures) in
     let g = c .both .ensures ∙ ap (λ (b : Bool). t .good && b) f in
-    (omega arith, rw g (row-next row (t .i) (t .good) (c .before .before .before .loop-test .taken) (t .inv .1)))
+    (omega arith, rw g (row-next (a .bound) row (t .i) (t .good) (c .before .before .before .loop-test .taken) (t .inv .1)))
 
 returns : tie.Need-returns Inv-loop μ-loop
-returns c = let row = c .before .before .args .row .now in
+returns c = let a = c .before .before .args in let row = a .row .now in
     let t = c .before .loop in
     let e : t .i ≡ length row = omega arith in
-    row-end row (t .good) (rw e at (t .inv .1))
+    row-end (a .bound) row (t .good) (rw e at (t .inv .1))
 
 pub is-row-spec : {M : Type 1} → statement M
 is-row-spec =
@@ -41,7 +42,7 @@ is-row-spec =
     (λ c. (omega arith, refl))
     (λ c. record { fits = omega (arith, c .before .before .good .0) })
     (λ c. omega arith)
-    (λ c κs. tt)
+    (λ c κs. search needs)
     (λ c κs. tt)
     (λ c. omega arith)
     (λ c. omega arith)

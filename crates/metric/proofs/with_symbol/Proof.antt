@@ -12,6 +12,7 @@ use mir.Syntax.{w16, w32}
 use mir.Val.{toZ}
 use Rattle.code.specs.Bits.{bits-of}
 use Rattle.metric.specs.Metric.{metric-of}
+use Rattle.metric.specs.Row.{row-bound}
 use Rattle.metric.proofs.Bounds.{row-at}
 use Rattle.metric.proofs.Counting.{bit-more, all-counted, counted-size}
 use Rattle.metric.proofs.with_symbol.Statement.{statement}
@@ -46,7 +47,7 @@ shr-counted c = omega (arith, c .before .before .before .pre .width, c .before .
 counted-requires : tie.Need-counted-requires Inv-loop μ-loop
 counted-requires c κs = let s = c .before .before .before in
     let t = c .before .before .loop in
-    (omega (arith, s .pre .width, t .inv .0, t .inv .1), rw (toZ-ofZ (record { sfits = c .r .given })) (row-at (s .args .row .now) (t .j - 1) (s .pre .good)))
+    (omega (arith, s .pre .width, t .inv .0, t .inv .1), rw (toZ-ofZ (record { sfits = c .r .given })) (row-at row-bound (s .args .row .now) (t .j - 1) (s .pre .good)))
 
 loop-again : tie.Need-loop-again Inv-loop μ-loop
 loop-again c = let s = c .before .before .before .before in
@@ -55,7 +56,7 @@ loop-again c = let s = c .before .before .before .before in
     let r = toZ-ofZ {w = w16} {z = getD (a .row .now) (t .j - 1) (pos 0)} (record { sfits = c .before .r .given }) in
     let x = toZ-ofZ {w = w32} {z = c .counted .result} (record { sfits = c .counted .ok }) in
     let e = rw r at (c .counted .ensures) in
-    let g = row-at (a .row .now) (t .j - 1) (s .pre .good) in
+    let g = row-at row-bound (a .row .now) (t .j - 1) (s .pre .good) in
     let z = counted-size (toZ w32 (t .s)) (getD (a .row .now) (t .j - 1) (pos 0)) (omega (arith, s .pre .width, t .inv .0, t .inv .1)) g (a .c / 2 ^ (t .j - 1) % 2) in (
       omega arith,
       rw (x, e) (omega (arith, z, t .inv .1)),
