@@ -1,11 +1,11 @@
 -- The statements of specs/Promise.antt.
 -- Assumes nothing.
 use mathlib.Core.Path.{_≡_, refl, sym, ap, _∙_}
-use mathlib.Core.Bool.{true}
+use mathlib.Core.Bool.{true, cond}
 use Prim.Native.Nat.{ℕ, zero, suc, _-_, _^_, _≤_, _<_}
 use native.Mathlib.Omega.{arith}
 use native.Mathlib.Nat.{not-suc-le-zero}
-use lib.Dec.{leb, leb→le, lit<, lit≤}
+use lib.Dec.{leb, eqb, leb→le, lit<, lit≤}
 use lib.ListN.{length, drop, length-drop}
 use Rattle.field.specs.Field.{width-good}
 use Rattle.field.proofs.Tests.{and-l, and-r, to-T}
@@ -15,7 +15,8 @@ use Rattle.code.proofs.Words.{good, drop-below, Codeword-parts, codewor
 use Rattle.refusal.specs.Refusal.{first}
 use Rattle.refusal.proofs.Tests.{first-none, first-free}
 use Rattle.code.specs.Calls.{Encode-says, Read-says, encode-refusal, member-refusal}
-use Rattle.code.specs.Within.{Message-within}
+use Rattle.code.specs.declared.Shape.{Shape}
+use Rattle.code.specs.Within.{Coded, Message-within}
 use Rattle.code.proofs.Accepted.{
   width-fine,
   roots-few,
@@ -40,6 +41,45 @@ codes P a b d c g = go c (leb→le 1 c (and-l (leb 1 c) (leb c 3) (to-T g))) (le
     go (suc (suc zero)) l h = b
     go (suc (suc (suc zero))) l h = d
     go (suc (suc (suc (suc c)))) l h = absurd (omega arith)
+
+-- which code has its m and r
+pub code-3 : (c : ℕ) → code-good c ≡ true → width c ≡ 4 → c ≡ 3
+unfolding width
+code-3 = codes (λ c. width c ≡ 4 → c ≡ 3) (λ e. absurd (omega arith)) (λ e. absurd (omega arith)) (λ e. refl)
+
+pub code-1 : (c : ℕ) → code-good c ≡ true → (width c ≡ 4 → ⊥) → roots c ≡ 2 → c ≡ 1
+unfolding width roots
+code-1 = codes (λ c. (width c ≡ 4 → ⊥) → roots c ≡ 2 → c ≡ 1) (λ f e. refl) (λ f e. absurd (omega arith)) (λ f e. absurd (f refl))
+
+pub code-2 : (c : ℕ) → code-good c ≡ true → (width c ≡ 4 → ⊥) → (roots c ≡ 2 → ⊥) → c ≡ 2
+unfolding width roots
+code-2 = codes (λ c. (width c ≡ 4 → ⊥) → (roots c ≡ 2 → ⊥) → c ≡ 2) (λ f e. absurd (e refl)) (λ f e. refl) (λ f e. absurd (f refl))
+
+-- its number from m and r
+abbrev pub number-of : Shape → ℕ
+number-of s = cond (eqb (s .m) 4) 3 (cond (eqb (s .r) 2) 1 2)
+
+pub record Numbered-as (s : Shape) (c : ℕ) : Type 0 where
+  pub good : code-good c ≡ true
+  pub m-is : s .m ≡ width c
+  pub r-is : s .r ≡ roots c
+
+number-known : (c : ℕ) → code-good c ≡ true → cond (eqb (width c) 4) 3 (cond (eqb (roots c) 2) 1 2) ≡ c
+unfolding width roots
+number-known = codes (λ c. cond (eqb (width c) 4) 3 (cond (eqb (roots c) 2) 1 2) ≡ c) refl refl refl
+
+pub numbered : {s : Shape} → Coded s → Numbered-as s (number-of s)
+numbered {s} z =
+    let e : number-of s ≡ z .code = rw (z .m-is, z .r-is) (number-known (z .code) (z .code-is)) in
+    rw e (record { good = z .code-is; m-is = z .m-is; r-is = z .r-is })
+
+-- what holds of a code's m and r, and the other way round
+module _ (P : ℕ → ℕ → Type 0) {a b m r : ℕ} (m-is : a ≡ m) (r-is : b ≡ r) where
+  pub of-shape : P m r → P a b
+  of-shape x = rw (m-is, r-is) x
+
+  pub of-number : P a b → P m r
+  of-number x = rw (← m-is, ← r-is) x
 
 pub codes-inside : Codes-inside
 unfolding Codes-inside width roots long width-good

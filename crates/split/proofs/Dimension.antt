@@ -11,9 +11,9 @@ use lib.Dec.{T, eqb, leb, ltb, eqb→eq, leb→le}
 use lib.ListN.{length, take, replicate, length-append, take-append-drop}
 use lib.Seq.{drop-at, length-take-le}
 use Rattle.field.specs.Field.{xor, doubled, alpha, width-good}
-use Rattle.code.specs.Code.{width, roots, long}
+use Rattle.code.specs.Code.{width, roots, long, syndrome-long}
 use Rattle.code.specs.Bits.{bits-of}
-use Rattle.split.specs.Split.{number, column, columns-from, syndrome-long, bch-dimension, Binary, Bch-ending, sum}
+use Rattle.split.specs.Split.{number, column, columns-from, bch-dimension, Binary, Bch-ending, sum}
 use Rattle.split.specs.Promise.{Syndrome-columns, Bch-dimension, Bch-dimensions}
 use Rattle.field.proofs.Tests.{all, at, and-l, and-r, to-T, widths}
 use Rattle.field.proofs.Xor as X

@@ -13,6 +13,8 @@ use Rattle.field.specs.Field.{width-good, xor, times, times-from, doubled, alph
 use Rattle.code.specs.Code.{code-good, width, roots, long, value-from, value-at}
 use Rattle.code.specs.Promise.{Codes-inside}
 use Rattle.code.specs.Bits.{bits-of}
+use Rattle.code.specs.declared.Shape.{Shape}
+use Rattle.split.specs.Within.{Coset}
 use Rattle.split.specs.Split.{number, syndrome, cosets, Binary, Leader, weight}
 use Rattle.split.specs.Promise.{Syndrome-inside, Leader-there, One-leader}
 use Rattle.field.proofs.Tests.{all, at, and-l, and-r}
@@ -159,5 +161,14 @@ one-leader c s bs ds g p q = the-only-leader c s bs g p ∙ sym (the-only-leader
 pub look-up : (c d : ℕ) → code-good c ≡ true → c ≡ d → (s : ℕ) → s < cosets (width c) (roots c) → Leader (width c) (roots c) s (led (width c) (table d) s)
 look-up c d g e s h = rw (← e) (leader-at (width c) (roots c) (heaviest c) (table c) (all-perfect c g) s h)
 
-pub last-code : (c : ℕ) → code-good c ≡ true → (c ≡ 1 → ⊥) → (c ≡ 2 → ⊥) → c ≡ 3
-last-code = codes (λ c. (c ≡ 1 → ⊥) → (c ≡ 2 → ⊥) → c ≡ 3) (λ p q. absurd (p refl)) (λ p q. absurd (q refl)) (λ p q. refl)
+-- a code's syndromes are as many as its shape says
+pub in-coset : {h : Shape} {s : ℕ} → (z : Coset h s) → s < cosets (width (z .coded .code)) (roots (z .coded .code))
+unfolding cosets
+in-coset z = let d = z .coded in rw (← d .m-is, ← d .r-is, ← d .q-is, ← d .size-is) (z .inside)
+
+-- and by the code that it turns out to be
+pub in-code : {h : Shape} {s : ℕ} → (z : Coset h s) (d : ℕ) → z .coded .code ≡ d → s < cosets (width d) (roots d)
+in-code z d e = rw e at (in-coset z)
+
+pub looked-up : {h : Shape} {s : ℕ} → (z : Coset h s) (d x : ℕ) → z .coded .code ≡ d → x ≡ getD (table d) s 0 → Leader (h .m) (h .r) s (bits-of (long (h .m)) x)
+looked-up z d x e f = let c = z .coded in rw (c .m-is, c .r-is, f) (look-up (c .code) d (c .code-is) e _ (in-coset z))

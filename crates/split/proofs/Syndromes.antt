@@ -11,7 +11,10 @@ use lib.ListN.{length, getD, take, drop, replicate}
 use lib.Seq.{take-all}
 use borrow.Author.Tests.{le-leb, lt-leb}
 use Rattle.field.specs.Field.{width-good, alpha}
-use Rattle.code.specs.Code.{value-at}
+use Rattle.code.specs.Code.{value-at, roots}
+use Rattle.code.specs.declared.Shape.{Shape}
+use Rattle.code.specs.Within.{Coded}
+use Rattle.code.proofs.Promise.{codes}
 use Rattle.split.specs.Split.{layer, syndrome, syndromes, syndromes-from, padded}
 use Rattle.field.proofs.Tests.{widths}
 
@@ -28,6 +31,11 @@ two-values m r bs l h =
     let p : leb 3 r ≡ true = le-leb 3 r l in
     let q : leb 5 r ≡ false = lt-leb 5 r (omega arith) in
     rw (p, q) (simp (mul-zero, add-zero))
+
+-- the codes have four roots at most
+pub four-roots : {s : Shape} → (z : Coded s) → s .r ≤ 4
+unfolding roots
+four-roots z = rw (z .r-is) (codes (λ c. roots c ≤ 4) (lit≤ tt) (lit≤ tt) (lit≤ tt) (z .code) (z .code-is))
 
 -- a pair of values fits sixteen bits
 pub size-small : (m : ℕ) → width-good m ≡ true → 2 ^ m ≤ 16

@@ -16,7 +16,6 @@ use lib.Dec.{lit≤}
 use Rattle.code.specs.Bits.{bits-of, row-long}
 use Rattle.code.specs.Promise.{Codes-inside}
 use Rattle.split.specs.Split.{layer, syndrome, syndromes, cosets, padded, Binary, Leader, sum}
-use Rattle.split.specs.Within.{Coset}
 use Rattle.split.specs.Calls.{remainders, Split-right}
 use Rattle.split.specs.Promise.{Syndrome-inside, Sum-is-bch, Parts-are-bch}
 use Rattle.code.proofs.Promise.{codes-inside}
@@ -88,8 +87,8 @@ module _ (c : ℕ) (ws tuple : List ℕ) (g : code-good c ≡ true) (n : length 
   unfolding Syndrome-inside Codes-inside
   inside j = syndrome-inside (width c) (roots c) (layer j ws) (codes-inside c g .0) (L.layer-binary (width c) j ws n)
 
-  pub its-coset : (j : ℕ) → j < width c → Coset c (getD tuple j 0)
-  its-coset j h = record { code-is = g; inside = rw (its-place j h) (inside j) }
+  pub its-coset : (j : ℕ) → j < width c → getD tuple j 0 < cosets (width c) (roots c)
+  its-coset j h = rw (its-place j h) (inside j)
 
   leads-right : (j : ℕ) → Leader (width c) (roots c) (syndrome (width c) (roots c) (layer j ws)) (leads c ws j)
   unfolding leads
@@ -117,20 +116,19 @@ module _ (c : ℕ) (ws tuple : List ℕ) (g : code-good c ≡ true) (n : length 
   unfolding whole
   whole-right out e = record { tuple = t; leaders = leads c ws; lead = λ j h. leads-right j; left = e }
 
+pub right-as : {a b m r : ℕ} {ws t o : List ℕ} → a ≡ m → b ≡ r → Split-right a b ws t o → Split-right m r ws t o
+right-as e f x = rw (← e, ← f) x
+
 -- the next piece has room
-pub fits : (j m n at room : ℕ) → j < m → at ≡ j * n → room ≡ n * m → at + n ≤ room
-fits j m n at room h e r = omega (arith, mul-le-mul-right n h, suc-mul j n, mul-comm n m)
+pub fits : (j m n at room : ℕ) → j < m → at ≡ j * n → m * n ≡ room → at + n ≤ room
+fits j m n at room h e r = omega (arith, mul-le-mul-right n h, suc-mul j n)
 
-pub its-room : (c m o n : ℕ) → o ≡ row-long (width c) → n ≡ long (width c) → m ≡ width c → o ≡ n * m
+pub whole-room : (m k n o : ℕ) → k ≡ m * n → o ≡ row-long m → n ≡ long m → k ≡ o
 unfolding row-long
-its-room c m o n r l w = rw (l, w) r
+whole-room m k n o e r l = e ∙ mul-comm m n ∙ ap (λ (x : ℕ). x * m) l ∙ sym r
 
-pub whole-room : (c k n o : ℕ) → k ≡ width c * n → o ≡ row-long (width c) → n ≡ long (width c) → k ≡ o
-unfolding row-long
-whole-room c k n o e r l = e ∙ mul-comm (width c) n ∙ ap (λ (x : ℕ). x * width c) l ∙ sym r
-
-pub all-written : (k c n m j at : ℕ) → k ≡ c * n → m ≡ c → m ≤ j → at ≡ j * n → k ≤ at
-all-written k c n m j at e f h g = rw (e, ← f, g) (mul-le-mul-right n h)
+pub all-written : (k m n j at : ℕ) → k ≡ m * n → m ≤ j → at ≡ j * n → k ≤ at
+all-written k m n j at e h g = rw (e, g) (mul-le-mul-right n h)
 
 pub row-small : (m : ℕ) → width-good m ≡ true → row-long m ≤ 60
 unfolding row-long long

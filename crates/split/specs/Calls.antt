@@ -4,15 +4,12 @@ use mathlib.Core.Path.{_≡_}
 use mathlib.Core.List.{List, [], _∷_, _++_}
 use Prim.Native.Nat.{ℕ, zero, suc, _<_}
 use lib.ListN.{length}
-use Rattle.refusal.specs.Refusal.{Outcome}
-use Rattle.code.specs.Code.{width, roots}
+use Rattle.refusal.specs.Refusal.{first, Outcome}
+use Rattle.code.specs.Code.{number-refusal, width, roots}
 use Rattle.code.specs.Bits.{row-long}
 use Rattle.code.specs.Calls.{member-refusal}
 use Rattle.split.specs.declared.Splitting.{Splitting}
 use Rattle.split.specs.Split.{layer, syndrome, syndromes, padded, Leader, sum}
-
-unfoldable pub split-refusal : (code : ℕ) → (word : List ℕ) → (output : ℕ) → ℕ
-split-refusal c ws o = member-refusal c ws o (row-long (width c))
 
 -- each layer with a leader added, layer 1 first
 unfoldable pub remainders : (left j : ℕ) → (leaders : ℕ → List ℕ) → (word : List ℕ) → List ℕ
@@ -29,5 +26,5 @@ pub record Split-right (m r : ℕ) (word configuration output : List ℕ) : Type
 -- where the call is refused the configuration is all 0
 unfoldable pub Split-says : (code : ℕ) → (word : List ℕ) → (answer : Splitting) → (output output-now : List ℕ) → Type 0
 Split-says c ws a o p =
-    Outcome (split-refusal c ws (length o)) (a .number) (Split-right (width c) (roots c) ws (a .configuration) p)
+    Outcome (first (number-refusal c) (member-refusal (width c) (roots c) ws (length o) (row-long (width c)))) (a .number) (Split-right (width c) (roots c) ws (a .configuration) p)
     ((a .configuration ≡ 0 ∷ 0 ∷ 0 ∷ 0 ∷ []) × (p ≡ o))

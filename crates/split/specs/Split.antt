@@ -8,7 +8,7 @@ use Prim.Native.Nat.{ℕ, zero, suc, _+_, _*_, _-_, _/_, _%_, _^_, _≤_}
 use lib.Dec.{leb, ltb, eqb}
 use lib.ListN.{length, drop, replicate}
 use Rattle.field.specs.Field.{xor, times, alpha, square}
-use Rattle.code.specs.Code.{long, value-at}
+use Rattle.code.specs.Code.{long, value-at, syndrome-long}
 
 -- a layer is a binary word: the bits of weight 2^j
 unfoldable pub layer : (j : ℕ) → (word : List ℕ) → List ℕ
@@ -38,10 +38,6 @@ column m r i =
 unfoldable pub columns-from : (m r i : ℕ) → (binary : List ℕ) → ℕ
 columns-from m r i [] = 0
 columns-from m r i (b ∷ bs) = xor (cond (eqb b 0) 0 (column m r i)) (columns-from m r (suc i) bs)
-
--- how many bits a syndrome has: m, from three roots on another m, and from five on, for m = 4, two more
-abbrev pub syndrome-long : (m r : ℕ) → ℕ
-syndrome-long m r = m + (cond (leb 3 r) m 0 + cond (leb 5 r && eqb m 4) 2 0)
 
 -- how many syndromes there are, and so cosets: a syndrome is a number below this
 unfoldable pub cosets : (m r : ℕ) → ℕ

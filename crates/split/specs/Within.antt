@@ -5,14 +5,16 @@ use mathlib.Core.List.{List}
 use Prim.Native.Nat.{ℕ, _≤_, _<_}
 use lib.ListN.{length}
 use Rattle.field.specs.Field.{width-good}
-use Rattle.code.specs.Code.{code-good, width, roots, long}
+use Rattle.code.specs.declared.Shape.{Shape}
+use Rattle.code.specs.Code.{long}
 use Rattle.code.specs.Bits.{row-long}
-use Rattle.split.specs.Split.{cosets, syndromes, padded}
+use Rattle.code.specs.Within.{Coded}
+use Rattle.split.specs.Split.{syndromes, padded}
 
 -- a code and one of its syndromes
-pub record Coset (code s : ℕ) : Type 0 where
-  pub code-is : code-good code ≡ true
-  pub inside : s < cosets (width code) (roots code)
+pub record Coset (shape : Shape) (s : ℕ) : Type 0 where
+  pub coded : Coded shape
+  pub inside : s < shape .size
 
 -- a word of n symbols and one of its layers
 pub record Layer-of (m j : ℕ) (word : List ℕ) : Type 0 where
@@ -27,8 +29,8 @@ pub record Layers-of (m r : ℕ) (word : List ℕ) : Type 0 where
   pub few : r ≤ 4
 
 -- a word of a code, its configuration, and an output of n·m places
-pub record Layered (code : ℕ) (word configuration output : List ℕ) : Type 0 where
-  pub code-is : code-good code ≡ true
-  pub count : length word ≡ long (width code)
-  pub tuple : configuration ≡ padded (syndromes (width code) (roots code) word)
-  pub room : length output ≡ row-long (width code)
+pub record Layered (shape : Shape) (word configuration output : List ℕ) : Type 0 where
+  pub coded : Coded shape
+  pub count : length word ≡ long (shape .m)
+  pub tuple : configuration ≡ padded (syndromes (shape .m) (shape .r) word)
+  pub room : length output ≡ row-long (shape .m)

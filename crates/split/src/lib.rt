@@ -4,6 +4,7 @@
 // number, is left to the crate `configurations`; words and codes are the crate `code`'s.
 mod tables;
 
+use code::Shape;
 use tables::LEADERS_1;
 use tables::LEADERS_2;
 use tables::LEADERS_3;
@@ -12,11 +13,11 @@ ghost use mathlib.Core.Bool.{true};
 ghost use Prim.Native.Nat.{_/_, _%_, _^_, _≤_, _<_};
 ghost use lib.ListN.{length};
 ghost use Rattle.field.specs.Field.{width-good};
-ghost use Rattle.code.specs.Code.{width, roots, long, value-at};
+ghost use Rattle.code.specs.Code.{long, value-at};
 ghost use Rattle.code.specs.Bits.{bits-of};
 ghost use Rattle.split.specs.Split.{layer, syndrome, syndromes, padded, Leader, sum};
 ghost use Rattle.split.specs.Within.{Coset, Layer-of, Layers-of, Layered};
-ghost use Rattle.split.specs.Calls.{split-refusal, Split-right, Split-says};
+ghost use Rattle.split.specs.Calls.{Split-right, Split-says};
 
 // The number of a refusal, or 0 with the configuration of the word.
 #[repr(C)]
@@ -26,18 +27,18 @@ pub struct Splitting {
 }
 
 // The leader of a coset, bit i at position i.
-pub fn leader(code: u32, s: u16) -> u16
-    requires { ⌜ Coset code s ⌝ }
-    ensures { λ r. ⌜ Leader (width code) (roots code) s (bits-of (long (width code)) r) ⌝ }
+pub fn leader(shape: Shape, s: u16) -> u16
+    requires { ⌜ Coset shape s ⌝ }
+    ensures { λ x. ⌜ Leader (shape .m) (shape .r) s (bits-of (long (shape .m)) x) ⌝ }
 {
     let i = s as usize;
-    if code == 1 {
+    if shape.m == 4 {
+        return LEADERS_3[i];
+    }
+    if shape.r == 2 {
         return LEADERS_1[i];
     }
-    if code == 2 {
-        return LEADERS_2[i];
-    }
-    LEADERS_3[i]
+    LEADERS_2[i]
 }
 
 // The bit of a symbol in layer j.
@@ -64,18 +65,11 @@ fn layer_value(m: u32, t: u32, j: u32, word: &[u8]) -> u8
     sum
 }
 
-fn wide(x: u8) -> u16
+// An element's number as a syndrome's.
+pub fn wide(x: u8) -> u16
     ensures { λ r. ⌜ r ≡ x ⌝ }
 {
     x as u16
-}
-
-// The number of elements of a field: 2^m.
-fn size(m: u32) -> u16
-    requires { ⌜ width-good m ≡ true ⌝ }
-    ensures { λ r. ⌜ r ≡ 2 ^ m ⌝ }
-{
-    if m == 3 { 8 } else { 16 }
 }
 
 // The syndrome of layer j of a word.
@@ -87,7 +81,7 @@ fn syndrome_of(m: u32, r: u32, j: u32, word: &[u8]) -> u16
     if r < 3 {
         return first;
     }
-    first + size(m) * wide(layer_value(m, 3, j, word))
+    first + wide(field::size(m)) * wide(layer_value(m, 3, j, word))
 }
 
 // The configuration of a word: the syndromes of its layers; with m = 3 the fourth place is 0.
@@ -119,28 +113,20 @@ fn write_layer(j: u32, leader: u16, word: &[u8], out: &mut [u8])
 }
 
 // What is left of each layer when its leader is added, layer 1 first.
-fn write_layers(code: u32, word: &[u8], tuple: [u16; 4], bch: &mut [u8])
-    requires { ⌜ Layered code (now word) tuple (now bch) ⌝ }
-    ensures { λ u. ⌜ Split-right (width code) (roots code) (now (word .entry)) tuple (now (bch .exit)) ⌝ }
+fn write_layers(shape: Shape, word: &[u8], tuple: [u16; 4], bch: &mut [u8])
+    requires { ⌜ Layered shape (now word) tuple (now bch) ⌝ }
+    ensures { λ u. ⌜ Split-right (shape .m) (shape .r) (now (word .entry)) tuple (now (bch .exit)) ⌝ }
 {
-    let m = code::width_of(code);
+    let m = shape.m;
     let n = word.len();
     let mut at: usize = 0;
     let mut j: u32 = 0;
     while j < m {
-        let lead = leader(code, tuple[j as usize]);
+        let lead = leader(shape, tuple[j as usize]);
         write_layer(j, lead, word, &mut bch[at..at + n]);
         at += n;
         j += 1;
     }
-}
-
-// What a call is refused by, 0 for nothing.
-fn split_refusal(code: u32, word: &[u8], output: usize) -> u32
-    ensures { λ r. ⌜ r ≡ split-refusal code (now (word .entry)) output ⌝ }
-{
-    let needed = code::row_long_of(code::width_of(code));
-    code::member_refusal(code, word, output, needed)
 }
 
 // Splits a codeword: its configuration, and into the lent output of n·m places, layer 1 first, the BCH word that is left
@@ -149,15 +135,20 @@ fn split_refusal(code: u32, word: &[u8], output: usize) -> u32
 pub fn split(code: u32, word: &[u8], bch: &mut [u8]) -> Splitting
     ensures { λ a. ⌜ Split-says code (now (word .entry)) a (now (bch .entry)) (now (bch .exit)) ⌝ }
 {
-    let refusal = split_refusal(code, word, bch.len());
-    if refusal != 0 {
+    let chosen = code::by_number(code);
+    let shape = chosen.shape;
+    let number = refusal::first(
+        chosen.number,
+        code::member_refusal(shape, word, bch.len(), shape.bits),
+    );
+    if number != 0 {
         return Splitting {
-            number: refusal,
+            number,
             configuration: [0u16; 4],
         };
     }
-    let tuple = syndromes_of(code::width_of(code), code::roots_of(code), word);
-    write_layers(code, word, tuple, bch);
+    let tuple = syndromes_of(shape.m, shape.r, word);
+    write_layers(shape, word, tuple, bch);
     Splitting {
         number: 0,
         configuration: tuple,

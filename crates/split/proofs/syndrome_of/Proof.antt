@@ -1,7 +1,10 @@
 -- `split::syndrome_of` meets its contract.
 -- Assumes nothing.
-use borrow.Author.Needs.{needs}
+use mathlib.Core.Path.{_≡_}
+use Prim.Native.Nat.{_*_, _^_, _≤_, _<_}
 use native.Mathlib.Omega.{arith}
+use borrow.Author.Needs.{needs}
+use Rattle.code.specs.Code.{value-at}
 use Rattle.split.specs.Split.{layer}
 use Rattle.split.proofs.Layers as L
 use Rattle.split.proofs.Syndromes.{one-value, two-values, size-small, second-fits}
@@ -9,28 +12,26 @@ use Rattle.split.proofs.syndrome_of.Statement.{statement}
 use Rattle.split.proofs.syndrome_of.Tie as tie
 
 returns : tie.Need-returns
-returns c = let s = c .before .before .before .before in
-    rw (c .before .wide .ensures, c .before .before .layer-value .ensures) (one-value (s .args .m) (s .args .r) (layer (s .args .j) (s .args .word .now)) (c .if1 .taken))
+returns c = let a = c .before .before .before .before .args in cc (one-value (a .m) (a .r) (layer (a .j) (a .word .now)) (c .if1 .taken))
 
-mul-result : tie.Need-mul-result
-mul-result c = let s = c .before .before .before .before .before .before .before in
-    let b = layer (s .args .j) (s .args .word .now) in
-    let v = second-fits (s .args .m) _ (s .pre .1 .width-is) (L.at-lt (s .args .m) (s .pre .1 .width-is) 3 b (L.layer-below (s .args .j) (s .args .word .now))) in
-    rw (c .before .before .size .ensures, c .wide2 .ensures, c .before .layer-value2 .ensures) (omega arith)
+abbrev start : tie.After-wide3 → tie.Start
+start c = c .before .before .before .before .before .before .before .before
+
+-- both values are small
+small : (c : tie.After-wide3) → c .before .before .wide2 .result * c .wide3 .result ≤ 256
+small c = let s = start c in let w = s .pre .1 .width-is in
+    rw (c .before .before .wide2 .ensures, c .before .before .before .size .ensures, c .wide3 .ensures, c .before .layer-value2 .ensures)
+    (omega (arith, second-fits (s .args .m) _ w (L.at-lt (s .args .m) w 3 (layer (s .args .j) (s .args .word .now)) (L.layer-below (s .args .j) (s .args .word .now)))))
 
 add-result : tie.Need-add-result
-add-result c = let s = c .before .before .before .before .before .before .before in
-    let b = layer (s .args .j) (s .args .word .now) in
-    let two = L.layer-below (s .args .j) (s .args .word .now) in
-    let u = L.at-lt (s .args .m) (s .pre .1 .width-is) 1 b two in
-    let v = second-fits (s .args .m) _ (s .pre .1 .width-is) (L.at-lt (s .args .m) (s .pre .1 .width-is) 3 b two) in
-    rw (c .before .before .before .before .wide .ensures, c .before .before .before .before .before .layer-value .ensures, c .before .before .size .ensures, c .wide2 .ensures, c .before .layer-value2 .ensures)
-    (omega (arith, size-small (s .args .m) (s .pre .1 .width-is)))
+add-result c = let s = start c in let w = s .pre .1 .width-is in let f = c .before .before .before .before .before in
+    let u : f .wide .result < 16 = rw (f .wide .ensures, f .before .layer-value .ensures)
+    (omega (arith, size-small (s .args .m) w, L.at-lt (s .args .m) w 1 (layer (s .args .j) (s .args .word .now)) (L.layer-below (s .args .j) (s .args .word .now)))) in
+    omega (arith, small c)
 
 returns-2 : tie.Need-returns-2
-returns-2 c = let s = c .before .before .before .before .before .before .before in
-    rw (c .before .before .before .before .wide .ensures, c .before .before .before .before .before .layer-value .ensures, c .before .before .size .ensures, c .wide2 .ensures, c .before .layer-value2 .ensures)
-    (two-values (s .args .m) (s .args .r) (layer (s .args .j) (s .args .word .now)) (c .before .before .before .if1 .left) (s .pre .0))
+returns-2 c = let s = start c in let a = s .args in
+    cc (two-values (a .m) (a .r) (layer (a .j) (a .word .now)) (c .before .before .before .before .if1 .left) (s .pre .0))
 
 pub syndrome-of-spec : {M : Type 1} → statement M
 syndrome-of-spec =
@@ -42,6 +43,7 @@ syndrome-of-spec =
     (λ c κs. search needs)
     (λ c κs. search needs)
     (λ c κs. search needs)
-    mul-result
+    (λ c κs. search needs)
+    (λ c. omega (arith, small c))
     add-result
     returns-2)

@@ -1,105 +1,87 @@
 -- `split::write_layers` meets its contract: so many pieces are written, and the output behind them is as it was.
 -- Assumes nothing.
-use mathlib.Core.Path.{_≡_, refl, sym, ap, _∙_}
+use mathlib.Core.Path.{_≡_, refl, sym, ap, ap₂, _∙_}
 use mathlib.Core.List.{_++_}
-use Prim.Native.Nat.{_-_, _*_, _≤_}
+use Prim.Native.Nat.{ℕ, _+_, _-_, _*_, _^_, _≤_, _<_}
 use native.Mathlib.Nat.{zero-mul}
 use native.Mathlib.Omega.{arith}
 use borrow.Author.Needs.{needs}
-use lib.ListN.{length, take, drop, length-take, length-drop}
-use Rattle.code.specs.Code.{width}
+use lib.ListN.{length, getD, take, drop, length-take, length-drop}
+use Rattle.code.specs.Code.{width, roots, long, syndrome-long}
+use Rattle.code.specs.Bits.{bits-of}
 use Rattle.code.proofs.Loops.{next-exponent}
+use Rattle.code.proofs.Promise.{number-of, Numbered-as, numbered, of-shape, of-number}
+use Rattle.split.specs.Split.{cosets, syndromes, padded, Leader}
 use Rattle.split.proofs.Layers as L
-use Rattle.split.proofs.Refusals.{its-width}
 use Rattle.split.proofs.Steps.{copied}
-use Rattle.split.proofs.Whole.{whole, whole-length, whole-right, its-coset, piece, turn, fits, its-room, whole-room, all-written, row-small}
+use Rattle.split.proofs.Whole.{whole, whole-length, whole-right, its-coset, piece, right-as, turn, fits, whole-room, all-written, row-small}
 use Rattle.split.proofs.write_layers.Statement.{statement}
 use Rattle.split.proofs.write_layers.Tie as tie
 
 abbrev Inv-loop : tie.InvT-loop
-Inv-loop code word bch₀ tuple m n at₀ j₀ bch at j =
-    (j ≤ m) × (at ≡ j * length word) × (length bch ≡ length bch₀) × (bch ≡ take at (whole code word) ++ drop at bch₀)
+Inv-loop shape word bch₀ tuple m n at₀ j₀ bch at j =
+    (j ≤ m) × (at ≡ j * length word) × (length bch ≡ length bch₀) × (bch ≡ take at (whole (number-of shape) word) ++ drop at bch₀)
 
 abbrev μ-loop : tie.MeasureT-loop
-μ-loop code word bch₀ tuple m n at₀ j₀ bch at j = m - j
+μ-loop shape word bch₀ tuple m n at₀ j₀ bch at j = m - j
 
-loop-holds : tie.Need-loop-holds Inv-loop μ-loop
-loop-holds c = let a = c .before .before .before .args in
-    (search needs, sym (zero-mul (length (a .word .now))), refl, refl)
+abbrev Place : Type 0
+Place = tie.At-loop Inv-loop μ-loop
 
-mul-leader : tie.Need-mul-leader Inv-loop μ-loop
-mul-leader c = let s = c .before .before .before .before .before in
-    let v = c .before .before .width-of in
-    omega (arith, L.width-small (v .result) (its-width (s .args .code) (v .result) (s .pre .code-is) (v .ensures)), c .loop-test .taken)
+abbrev start : Place → tie.Start Inv-loop μ-loop
+start l = l .before .before .before
 
-array-read-leader : tie.Need-array-read-leader Inv-loop μ-loop
-array-read-leader c = let s = c .before .before .before .before .before in
-    let v = c .before .before .width-of in
-    omega (arith, L.width-small (v .result) (its-width (s .args .code) (v .result) (s .pre .code-is) (v .ensures)), c .loop-test .taken)
+abbrev its : (l : Place) → Numbered-as (start l .args .shape) (number-of (start l .args .shape))
+its l = numbered (start l .pre .coded)
+
+-- what is asked, by the code's number
+count : (l : Place) → length (start l .args .word .now) ≡ long (width (number-of (start l .args .shape)))
+count l = start l .pre .count ∙ ap long (its l .m-is)
+
+tuple : (l : Place) → let a = start l .args in let c = number-of (a .shape) in a .t3 ≡ padded (syndromes (width c) (roots c) (a .word .now))
+tuple l = start l .pre .tuple ∙ ap₂ (λ m r. padded (syndromes m r (start l .args .word .now))) (its l .m-is) (its l .r-is)
+
+long-as : (l : Place) → let a = start l .args in length (whole (number-of (a .shape)) (a .word .now)) ≡ a .shape .m * length (a .word .now)
+long-as l = let a = start l .args in
+    whole-length (number-of (a .shape)) (a .word .now) (a .t3) (its l .good) (count l) (tuple l) ∙ ap (λ (m : ℕ). m * length (a .word .now)) (sym (its l .m-is))
+
+room : (l : Place) → let a = start l .args in length (whole (number-of (a .shape)) (a .word .now)) ≡ length (a .bch .now)
+room l = let a = start l .args in whole-room (a .shape .m) _ _ _ (long-as l) (start l .pre .room) (start l .pre .count)
+
+-- the next piece fits, and its numbers are small
+next-fits : (c : tie.In-loop Inv-loop μ-loop) → let l = c .before in l .loop .at + length (start l .args .word .now) ≤ length (l .loop .bch)
+next-fits c = let l = c .before in let v = l .loop in
+    fits (v .j) _ _ (v .at) (length (v .bch)) (c .loop-test .taken) (v .inv .1) (sym (long-as l) ∙ room l ∙ sym (v .inv .2))
+
+small : (l : Place) → start l .args .shape .m ≤ 4
+small l = L.width-small (start l .args .shape .m) (start l .pre .coded .width-is)
+
+short : (l : Place) → length (start l .args .bch .now) ≤ 60
+short l = rw (start l .pre .room) (row-small (start l .args .shape .m) (start l .pre .coded .width-is))
 
 leader-requires : tie.Need-leader-requires Inv-loop μ-loop
-leader-requires c κs = let s = c .before .before .before .before .before in
-    let v = c .before .before .width-of in
-    its-coset (s .args .code) (s .args .word .now) (s .args .t3) (s .pre .code-is) (s .pre .count) (s .pre .tuple) (c .before .loop .j) (rw (← v .ensures) (c .loop-test .taken))
-
-add-write-layer : tie.Need-add-write-layer Inv-loop μ-loop
-add-write-layer c = let s = c .before .before .before .before .before .before in
-    let v = c .before .before .before .width-of in
-    let l = c .before .before .loop in
-    let r = fits (l .j) (v .result) (length (s .args .word .now)) (l .at) (length (l .bch)) (c .before .loop-test .taken) (l .inv .1) (l .inv .2 ∙ its-room _ _ _ _ (s .pre .room) (s .pre .count) (v .ensures)) in
-    omega (arith, row-small (width (s .args .code)) (its-width (s .args .code) (width (s .args .code)) (s .pre .code-is) refl), s .pre .room, l .inv .2)
-
-part-write-layer-end : tie.Need-part-write-layer-end Inv-loop μ-loop
-part-write-layer-end c = let s = c .before .before .before .before .before .before in
-    let v = c .before .before .before .width-of in
-    let l = c .before .before .loop in
-    let r = fits (l .j) (v .result) (length (s .args .word .now)) (l .at) (length (l .bch)) (c .before .loop-test .taken) (l .inv .1) (l .inv .2 ∙ its-room _ _ _ _ (s .pre .room) (s .pre .count) (v .ensures)) in
-    r
+unfolding cosets
+leader-requires c κs = let l = c .before in let a = start l .args in let z = start l .pre .coded in
+    let h = its-coset (number-of (a .shape)) (a .word .now) (a .t3) (its l .good) (count l) (tuple l) (l .loop .j) (omega (arith, its l .m-is)) in
+    record { coded = z; inside = omega (arith, z .size-is ∙ ap (λ (q : ℕ). 2 ^ q) (z .q-is), of-shape (λ m r. getD (a .t3) (l .loop .j) 0 < 2 ^ syndrome-long m r) (its l .m-is) (its l .r-is) h) }
 
 write-layer-requires : tie.Need-write-layer-requires Inv-loop μ-loop
-write-layer-requires c κs = let s = c .before .before .before .before .before .before .before in
-    let v = c .before .before .before .before .width-of in
-    let l = c .before .before .before .loop in
-    let r = fits (l .j) (v .result) (length (s .args .word .now)) (l .at) (length (l .bch)) (c .before .before .loop-test .taken) (l .inv .1) (l .inv .2 ∙ its-room _ _ _ _ (s .pre .room) (s .pre .count) (v .ensures)) in
-    (omega (arith, L.width-small (v .result) (its-width (s .args .code) (v .result) (s .pre .code-is) (v .ensures)), c .before .before .loop-test .taken), simp (length-take, length-drop) (omega arith))
-
-add-at : tie.Need-add-at Inv-loop μ-loop
-add-at c = let s = c .before .before .before .before .before .before .before .before .before .before in
-    let v = c .before .before .before .before .before .before .before .width-of in
-    let l = c .before .before .before .before .before .before .loop in
-    let r = fits (l .j) (v .result) (length (s .args .word .now)) (l .at) (length (l .bch)) (c .before .before .before .before .before .loop-test .taken) (l .inv .1) (l .inv .2 ∙ its-room _ _ _ _ (s .pre .room) (s .pre .count) (v .ensures)) in
-    omega (arith, row-small (width (s .args .code)) (its-width (s .args .code) (width (s .args .code)) (s .pre .code-is) refl), s .pre .room, l .inv .2)
-
-add-j : tie.Need-add-j Inv-loop μ-loop
-add-j c = let s = c .before .before .before .before .before .before .before .before .before .before in
-    let v = c .before .before .before .before .before .before .before .width-of in
-    omega (arith, L.width-small (v .result) (its-width (s .args .code) (v .result) (s .pre .code-is) (v .ensures)), c .before .before .before .before .before .loop-test .taken)
+write-layer-requires c κs = let i = c .before .before in
+    (omega (arith, small (i .before)), simp (length-take, length-drop) (omega (arith, next-fits i)))
 
 loop-again : tie.Need-loop-again Inv-loop μ-loop
-loop-again c = let s = c .before .before .before .before .before .before .before .before .before .before in
-    let v = c .before .before .before .before .before .before .before .width-of in
-    let l = c .before .before .before .before .before .before .loop in
-    let a = s .args in
-    let h = c .before .before .before .before .before .loop-test .taken in
-    let f = c .before .before .before .before .leader in
-    let ws = a .word .now in
-    let room = its-room (a .code) (v .result) _ _ (s .pre .room) (s .pre .count) (v .ensures) in
-    let r = fits (l .j) (v .result) (length ws) (l .at) _ h (l .inv .1) room in
-    let k = whole-length (a .code) ws (a .t3) (s .pre .code-is) (s .pre .count) (s .pre .tuple) in
-    let p = piece (a .code) ws (a .t3) (s .pre .code-is) (s .pre .count) (s .pre .tuple) (l .j) (f .result) (rw (← v .ensures) h) (f .ensures) in
-    let t = turn (whole (a .code) ws) (a .bch .now) (l .bch) _ (l .at) (length ws) (whole-room (a .code) _ _ _ k (s .pre .room) (s .pre .count)) (omega (arith, whole-room (a .code) _ _ _ k (s .pre .room) (s .pre .count))) (l .inv .3) (ap (λ i. take (length ws) (drop i (whole (a .code) ws))) (l .inv .1) ∙ p ∙ sym (c .before .before .write-layer .ensures)) in
-    (search needs, next-exponent (l .at) (l .j) (length ws) (l .inv .1), t .same, t .list)
+loop-again c = let w = c .before .before in let f = w .before .before in let i = f .before in let l = i .before in let v = l .loop in let a = start l .args in
+    let d = number-of (a .shape) in let ws = a .word .now in let n = length ws in
+    let p = piece d ws (a .t3) (its l .good) (count l) (tuple l) (v .j) (f .leader .result) (omega (arith, its l .m-is)) (of-number (λ m r. Leader m r (getD (a .t3) (v .j) 0) (bits-of (long m) (f .leader .result))) (its l .m-is) (its l .r-is) (f .leader .ensures)) in
+    let t = turn (whole d ws) (a .bch .now) (v .bch) _ (v .at) n (room l) (omega (arith, next-fits i, v .inv .2, room l)) (v .inv .3)
+    (ap (λ i. take n (drop i (whole d ws))) (v .inv .1) ∙ p ∙ sym (w .write-layer .ensures)) in
+    (search needs, next-exponent (v .at) (v .j) n (v .inv .1), t .same, t .list)
 
 returns : tie.Need-returns Inv-loop μ-loop
-returns c = let s = c .before .before .before .before .before in
-    let v = c .before .before .width-of in
-    let l = c .before .loop in
-    let a = s .args in
-    let ws = a .word .now in
-    let k = whole-length (a .code) ws (a .t3) (s .pre .code-is) (s .pre .count) (s .pre .tuple) in
-    let e = whole-room (a .code) _ _ _ k (s .pre .room) (s .pre .count) in
-    whole-right (a .code) ws (a .t3) (s .pre .code-is) (s .pre .count) (s .pre .tuple) (l .bch)
-    (l .inv .3 ∙ copied (whole (a .code) ws) (a .bch .now) (l .at) e (all-written _ _ _ _ _ _ k (v .ensures) (c .loop-test .left) (l .inv .1)))
+returns c = let l = c .before in let v = l .loop in let a = start l .args in let d = number-of (a .shape) in let ws = a .word .now in
+    right-as (sym (its l .m-is)) (sym (its l .r-is))
+    (whole-right d ws (a .t3) (its l .good) (count l) (tuple l) (v .bch)
+    (v .inv .3 ∙ copied (whole d ws) (a .bch .now) (v .at) (room l) (all-written _ _ _ _ _ (long-as l) (c .loop-test .left) (v .inv .1))))
 
 pub write-layers-spec : {M : Type 1} → statement M
 write-layers-spec =
@@ -107,19 +89,18 @@ write-layers-spec =
     (tie.spec
     Inv-loop
     μ-loop
-    (λ c κs. search needs)
-    loop-holds
+    (λ c. (search needs, sym (zero-mul (length (c .before .before .args .word .now))), refl, refl))
     (λ c. search needs)
-    mul-leader
-    array-read-leader
+    (λ c. omega (arith, small (c .before)))
+    (λ c. omega (arith, small (c .before)))
     leader-requires
-    add-write-layer
+    (λ c. omega (arith, next-fits (c .before), short (c .before .before), c .before .before .loop .inv .2))
     (λ c. search needs)
     (λ c. search needs)
-    part-write-layer-end
+    (λ c. next-fits (c .before))
     write-layer-requires
-    add-at
-    add-j
+    (λ c. let i = c .before .before .before .before .before in omega (arith, next-fits i, short (i .before), i .before .loop .inv .2))
+    (λ c. let i = c .before .before .before .before .before in omega (arith, small (i .before)))
     (λ c. search needs)
     loop-again
     (λ c. c .before .loop .inv .2)
