@@ -16,7 +16,7 @@ use Rattle.refusal.specs.Refusal.{first}
 use Rattle.refusal.proofs.Tests.{first-none, first-free}
 use Rattle.code.specs.Calls.{Encode-says, Read-says, encode-refusal, member-refusal}
 use Rattle.code.specs.declared.Shape.{Shape}
-use Rattle.code.specs.Within.{Coded, Message-within}
+use Rattle.code.specs.Within.{Coded, number-of, Message-within}
 use Rattle.code.proofs.Accepted.{
   width-fine,
   roots-few,
@@ -56,17 +56,14 @@ unfolding width roots
 code-2 = codes (λ c. (width c ≡ 4 → ⊥) → (roots c ≡ 2 → ⊥) → c ≡ 2) (λ f e. absurd (e refl)) (λ f e. refl) (λ f e. absurd (f refl))
 
 -- its number from m and r
-abbrev pub number-of : Shape → ℕ
-number-of s = cond (eqb (s .m) 4) 3 (cond (eqb (s .r) 2) 1 2)
+number-known : (c : ℕ) → code-good c ≡ true → cond (eqb (width c) 4) 3 (cond (eqb (roots c) 2) 1 2) ≡ c
+unfolding width roots
+number-known = codes (λ c. cond (eqb (width c) 4) 3 (cond (eqb (roots c) 2) 1 2) ≡ c) refl refl refl
 
 pub record Numbered-as (s : Shape) (c : ℕ) : Type 0 where
   pub good : code-good c ≡ true
   pub m-is : s .m ≡ width c
   pub r-is : s .r ≡ roots c
-
-number-known : (c : ℕ) → code-good c ≡ true → cond (eqb (width c) 4) 3 (cond (eqb (roots c) 2) 1 2) ≡ c
-unfolding width roots
-number-known = codes (λ c. cond (eqb (width c) 4) 3 (cond (eqb (roots c) 2) 1 2) ≡ c) refl refl refl
 
 pub numbered : {s : Shape} → Coded s → Numbered-as s (number-of s)
 numbered {s} z =

@@ -1,8 +1,9 @@
 -- What the functions for the crates above ask of their inputs. Assumes nothing: these are definitions.
 use mathlib.Core.Path.{_≡_}
-use mathlib.Core.Bool.{true}
+use mathlib.Core.Bool.{true, cond}
 use mathlib.Core.List.{List}
 use Prim.Native.Nat.{ℕ, _+_, _^_, _≤_, _<_}
+use lib.Dec.{eqb}
 use lib.ListN.{length, drop}
 use Rattle.field.specs.Field.{width-good}
 use Rattle.code.specs.declared.Shape.{Shape}
@@ -30,6 +31,10 @@ pub record Chosen-says (c : ℕ) (a : Chosen) : Type 0 where
   pub coded : Coded (a .shape)
   pub m-is : a .shape .m ≡ width c
   pub r-is : a .shape .r ≡ roots c
+
+-- the number of the code with these m and r
+abbrev pub number-of : Shape → ℕ
+number-of s = cond (eqb (s .m) 4) 3 (cond (eqb (s .r) 2) 1 2)
 
 -- a word of n symbols below 2^m, and a number of roots, or the exponent of one, below n
 pub record Word-within (m r : ℕ) (ws : List ℕ) : Type 0 where

@@ -54,11 +54,3 @@ listed-length c = from-length (configurations c) 0 c
 pub listed-right : Listed-right
 unfolding Listed-right
 listed-right c = (listed-length c, listed-at c)
-
--- the four places of code 3 as the table has them
-pub row-3 : (k : ℕ) → k < 256 →
-    getD (listed 3) (4 * k) 0 ∷ getD (listed 3) (4 * k + 1) 0 ∷ getD (listed 3) (4 * k + 2) 0 ∷ getD (listed 3) (4 * k + 3) 0 ∷ [] ≡ padded (of-code-3 k)
-unfolding configurations configuration padded of-code-3
-row-3 k h =
-    let zeroth : getD (listed 3) (4 * k) 0 ≡ getD (padded (configuration 3 k)) 0 0 = ap (λ (x : ℕ). getD (listed 3) x 0) (sym (add-zero (4 * k))) ∙ listed-at 3 k 0 h (lit< tt) in
-    rw (zeroth, listed-at 3 k 1 h (lit< tt), listed-at 3 k 2 h (lit< tt), listed-at 3 k 3 h (lit< tt)) refl

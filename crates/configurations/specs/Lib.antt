@@ -1,3 +1,2 @@
 pub mod Configurations
-pub mod Within
 pub mod Promise

@@ -10,7 +10,8 @@ use lib.ListN.{length, getD, take, drop, length-take, length-drop}
 use Rattle.code.specs.Code.{width, roots, long, syndrome-long}
 use Rattle.code.specs.Bits.{bits-of}
 use Rattle.code.proofs.Loops.{next-exponent}
-use Rattle.code.proofs.Promise.{number-of, Numbered-as, numbered, of-shape, of-number}
+use Rattle.code.specs.Within.{number-of}
+use Rattle.code.proofs.Promise.{Numbered-as, numbered, of-shape, of-number}
 use Rattle.split.specs.Split.{cosets, syndromes, padded, Leader}
 use Rattle.split.proofs.Layers as L
 use Rattle.split.proofs.Steps.{copied}
