@@ -7,4 +7,4 @@ pub mod Traced
 pub mod Sums
 pub mod Tabling
 pub mod Searching
-pub mod Inputs
+pub mod Walking

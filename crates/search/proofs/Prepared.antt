@@ -9,7 +9,7 @@ use native.Mathlib.Omega.{arith}
 use native.Mathlib.Decide.{decLe}
 use borrow.Author.Tests.{ltb-true, ltb-false}
 use lib.Dec.{T, eqb, eqb→eq}
-use lib.ListN.{length, getD, set, length-set}
+use lib.ListN.{length, getD, set, take, length-set}
 use lib.Seq.{getD-set-same, getD-set-other}
 use lib.IntN.{ℤ, pos, negsuc, natAbs, _-ℤ_}
 use lib.Signed.{ltZ, nonNeg}
@@ -18,7 +18,9 @@ use mir.Val.{SFits, Fits, toZ, ofZ}
 use mir.Facts.{toZ-ofZ}
 use Rattle.field.specs.Field.{width-good}
 use Rattle.field.proofs.Tests.{all, at, and-l, and-r, widths}
-use Rattle.code.specs.Code.{long}
+use Rattle.code.specs.declared.Shape.{Shape}
+use Rattle.code.specs.Code.{width, roots, long}
+use Rattle.code.specs.Within.{Coded}
 use Rattle.split.specs.Split.{column}
 use Rattle.metric.specs.Cost.{costZero, costOne}
 use Rattle.lanes.proofs.Rows.{four}
@@ -84,6 +86,10 @@ headed m r hs t =
       count = eqb→eq (length hs) (long m) (and-l (eqb (length hs) (long m)) (all (long m) f) t);
       heads = λ i h. eqb→eq (getD hs i 0) (column m r i) (at (long m) f (and-r (eqb (length hs) (long m)) (all (long m) f) t) i h);
     }
+
+-- those of the code that a shape turns out to be, in a longer table
+pub headed-as : {s : Shape} → (z : Coded s) (d : ℕ) → z .code ≡ d → (hs : List ℕ) → T (columns (width d) (roots d) (take (long (width d)) hs)) → Headed (s .m) (s .r) (take (s .n) hs)
+headed-as z d e hs t = rw (z .n-is, z .m-is, z .r-is, e) (headed (width d) (roots d) (take (long (width d)) hs) t)
 
 pub long-le : (m : ℕ) → width-good m ≡ true → long m ≤ 15
 unfolding long

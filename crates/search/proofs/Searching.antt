@@ -10,16 +10,19 @@ use native.Mathlib.Decide.{decLe}
 use lib.ListN.{length, getD}
 use lib.IntN.{ℤ}
 use Rattle.field.proofs.Tests.{to-T}
+use Rattle.code.specs.declared.Shape.{Shape}
 use Rattle.code.specs.Code.{code-good, width, roots, long, is-codeword}
+use Rattle.code.specs.Within.{number-of}
 use Rattle.code.specs.Bits.{row-long}
-use Rattle.code.proofs.Promise.{codes}
+use Rattle.code.proofs.Promise.{codes, Numbered-as, numbered, of-shape}
 use Rattle.code.proofs.Words.{Below}
 use Rattle.split.specs.Split.{cosets}
 use Rattle.split.proofs.Layers as SL
 use Rattle.configurations.specs.Configurations.{configurations, configuration, listed, Configuration}
 use Rattle.configurations.specs.Promise.{Configurations}
 use Rattle.configurations.proofs.Valid.{configurations-right}
-use Rattle.configurations.proofs.Listed.{listed-at}
+use Rattle.configurations.proofs.Listed.{listed-at, listed-length}
+use Rattle.metric.specs.Row.{row-bound}
 use Rattle.metric.specs.Cost.{weight-of, Least}
 use Rattle.metric.proofs.Bounds.{weight-le}
 use Rattle.trellis.specs.Trellis.{back, free, final}
@@ -33,8 +36,9 @@ use Rattle.glue.specs.Walk as W
 use Rattle.glue.proofs.Engine.{over}
 use Rattle.search.proofs.Bridge.{conf, table, conf-high, padded-in}
 use Rattle.search.proofs.Found as S
-use Rattle.search.specs.Within.{top, big, cap, Spelt, Input, Tabled}
+use Rattle.search.specs.Within.{top, big, cap, Spelt, Input, Tabled, tuples-of, count-of}
 use Rattle.search.proofs.Tabling.{short}
+use Rattle.search.proofs.Tabling as T
 
 at-below : (n : ℕ) (xs : List ℕ) (j : ℕ) → Below n xs → j < length xs → getD xs j 0 < n
 at-below n [] j b h = absurd (omega arith)
@@ -67,75 +71,81 @@ pub row-le : (c : ℕ) → code-good c ≡ true → row-long (width c) ≤ 60
 unfolding width long row-long
 row-le = codes (λ c. row-long (width c) ≤ 60) (omega arith) (omega arith) (omega arith)
 
-module _ {c m r q n size count : ℕ} {row : List ℤ} {cs hs zs os t : List ℕ} (z : Input c m r q n size count row cs) (b : Tabled c q size row hs zs os t) where
-  abbrev g : code-good c ≡ true
-  g = z .code-is
+module _ {s : Shape} {row : List ℤ} {hs zs os t : List ℕ} (z : Input s row) (b : Tabled s row hs zs os t) where
+  abbrev pub c : ℕ
+  c = number-of s
+
+  pub k : Numbered-as s c
+  k = numbered (z .coded)
+
+  abbrev pub g : code-good c ≡ true
+  g = k .good
 
   pub l : length row ≡ row-long (width c)
-  l = z .length-row ∙ ap row-long (z .m-is)
+  l = z .length-row ∙ ap row-long (k .m-is)
 
-  abbrev pub y : Spelt (width c) (roots c) row hs zs os
-  y = b .spelt
+  pub y : Spelt (width c) (roots c) row hs zs os
+  y = rw (← k .m-is, ← k .r-is) (b .spelt)
 
-  pub n-is : length hs ≡ n
-  n-is = y .columns .count ∙ ap long (sym (z .m-is)) ∙ sym (z .n-is)
+  pub n-is : length hs ≡ s .n
+  n-is = b .spelt .columns .count ∙ sym (z .coded .n-is)
 
   pub few : length hs ≤ 15
   few = omega (arith, n-is, short z)
 
-  pub size-is : size ≡ cosets (width c) (roots c)
-  size-is = z .cosets-is ∙ ap₂ cosets (z .m-is) (z .r-is)
+  pub size-is : s .size ≡ cosets (width c) (roots c)
+  size-is = T.size-is z ∙ ap₂ cosets (k .m-is) (k .r-is)
 
   pub light : weight-of row < big
-  light = omega (arith, weight-le row (z .good-row), l, row-le c g)
+  light = omega (arith, weight-le row-bound row (z .good-row), l, row-le c g)
 
   abbrev pub F : ℕ → ℕ → ℕ
   F = table c g row l hs zs os y big (λ j. free)
 
   -- table 0 is that of all columns
-  pub first : (s j : ℕ) → s < size → j < 4 → entry t s j ≡ F j s
-  first s j ls lj =
-      ap (λ (x : ℕ). getD t x 0) (sym (ap (λ (x : ℕ). x + (s * 4 + j)) (zero-mul (size * 4)) ∙ zero-add (s * 4 + j)))
-      ∙ b .made .made 0 s j (omega arith) (omega arith) ls lj
-      ∙ ap (λ (k : ℕ). back free (layer hs zs os j) (final big) 0 k s) (minus (length hs))
+  pub first : (x j : ℕ) → x < s .size → j < 4 → entry t x j ≡ F j x
+  first x j ls lj =
+      ap (λ (i : ℕ). getD t i 0) (sym (ap (λ (i : ℕ). i + (x * 4 + j)) (zero-mul (s .size * 4)) ∙ zero-add (x * 4 + j)))
+      ∙ b .made .made 0 x j (omega arith) (omega arith) ls lj
+      ∙ ap (λ (i : ℕ). back free (layer hs zs os j) (final big) 0 i x) (minus (length hs))
     where
-      minus : (k : ℕ) → k - 0 ≡ k
-      minus k = omega arith
+      minus : (i : ℕ) → i - 0 ≡ i
+      minus i = omega arith
 
-  pub F-le : (j s : ℕ) → j < 4 → F j s ≤ big + 1905
-  F-le j s lj =
-      omega (arith, back-le (layer hs zs os j) (final big) big top (final-le big) 0 (length hs) s (λ p u h. b .layers .cost-zs p j (omega arith) lj), few)
+  pub F-le : (j x : ℕ) → j < 4 → F j x ≤ big + 1905
+  F-le j x lj =
+      omega (arith, back-le (layer hs zs os j) (final big) big top (final-le big) 0 (length hs) x (λ p u h. b .layers .cost-zs p j (omega arith) lj), few)
 
-  pub conf-is : (k j : ℕ) → k < count → j < 4 → W.conf cs k j ≡ conf c k j
-  conf-is k j lk lj =
-      let h : k < configurations c = omega (arith, z .count-is) in
-      z .listed-is (k * 4 + j) (omega arith) ∙ ap (λ (x : ℕ). getD (listed c) x 0) (omega arith) ∙ listed-at c k j h lj
+  pub conf-is : (i j : ℕ) → i < count-of s → j < 4 → W.conf (tuples-of s) i j ≡ conf c i j
+  conf-is i j li lj = ap (λ (x : ℕ). getD (listed c) x 0) (omega arith) ∙ listed-at c i j li lj
 
-  pub conf-lt : (k j : ℕ) → k < count → j < 4 → W.conf cs k j < size
-  conf-lt k j lk lj = rw (conf-is k j lk lj, size-is) (conf-in c g k (omega (arith, z .count-is)) j)
+  pub conf-lt : (i j : ℕ) → i < count-of s → j < 4 → W.conf (tuples-of s) i j < s .size
+  conf-lt i j li lj = rw (conf-is i j li lj, size-is) (conf-in c g i li j)
 
-  pub total-is : (k : ℕ) → k < count → total t (tuple cs k) ≡ over F (conf c k)
+  pub total-is : (i : ℕ) → i < count-of s → total t (tuple (tuples-of s) i) ≡ over F (conf c i)
   unfolding total
-  total-is k lk = omega (arith, part 0 (omega arith), part 1 (omega arith), part 2 (omega arith), part 3 (omega arith))
+  total-is i li = omega (arith, part 0 (omega arith), part 1 (omega arith), part 2 (omega arith), part 3 (omega arith))
     where
-      part : (j : ℕ) → j < 4 → entry t (lane (tuple cs k) j) j ≡ F j (conf c k j)
+      part : (j : ℕ) → j < 4 → entry t (lane (tuple (tuples-of s) i) j) j ≡ F j (conf c i j)
       part j lj =
-          ap (λ (s : ℕ). entry t s j) (lanes-at (W.conf cs k) j lj ∙ conf-is k j lk lj)
-          ∙ first (conf c k j) j (rw (conf-is k j lk lj) at (conf-lt k j lk lj)) lj
+          ap (λ (x : ℕ). entry t x j) (lanes-at (W.conf (tuples-of s) i) j lj ∙ conf-is i j li lj)
+          ∙ first (conf c i j) j (rw (conf-is i j li lj) at (conf-lt i j li lj)) lj
 
-  pub tuples-ok : Tuples size count cap t cs
+  pub tuples-ok : Tuples (s .size) (count-of s) cap t (tuples-of s)
   tuples-ok = record {
-    some = rw (z .count-is) (some-there c g);
+    some = some-there c g;
     length-f = omega (arith, b .made .long);
-    count = z .length-cs;
+    count = omega (arith, listed-length c);
     inside = conf-lt;
-    room = λ k lk. omega (arith, total-is k lk, F-le 0 (conf c k 0) (omega arith), F-le 1 (conf c k 1) (omega arith), F-le 2 (conf c k 2) (omega arith), F-le 3 (conf c k 3) (omega arith));
+    room = λ i li. omega (arith, total-is i li, F-le 0 (conf c i 0) (omega arith), F-le 1 (conf c i 1) (omega arith), F-le 2 (conf c i 2) (omega arith), F-le 3 (conf c i 3) (omega arith));
     cap-small = omega arith;
   }
 
+  pub totals-are : least-total cap t (tuples-of s) (count-of s) ≡ S.best c g row l hs zs os y big cap light
+  totals-are = least-same (λ i. total t (tuple (tuples-of s) i)) (λ i. over F (conf c i)) cap (configurations c) total-is
+
   -- the least total is the least cost
-  pub least-is : Least (width c) (is-codeword (width c) (roots c)) row (least-total cap t cs count)
+  pub least-is : Least (s .m) (is-codeword (s .m) (s .r)) row (least-total cap t (tuples-of s) (count-of s))
   least-is =
-      rw (ap (least-total cap t cs) (z .count-is)
-      ∙ least-same (λ k. total t (tuple cs k)) (λ k. over F (conf c k)) cap (configurations c) (λ k h. total-is k (omega (arith, z .count-is))))
-      (S.least c g row l hs zs os y big cap light (omega arith))
+      of-shape (λ m r. Least m (is-codeword m r) row (least-total cap t (tuples-of s) (count-of s))) (k .m-is) (k .r-is)
+      (rw totals-are (S.least c g row l hs zs os y big cap light (omega arith)))

@@ -1,72 +1,70 @@
 -- The tables of an accepted row: what is asked of the buffers, and that columns and costs are those of the row.
 -- Assumes nothing.
-use mathlib.Core.Path.{_≡_, refl, sym, ap, _∙_}
+use mathlib.Core.Path.{_≡_, sym, ap, _∙_}
 use mathlib.Core.Bool.{Bool, true, false, cond}
 use mathlib.Core.List.{List}
-use Prim.Native.Nat.{ℕ, _+_, _*_, _≤_, _<_}
+use Prim.Native.Nat.{ℕ, _+_, _*_, _^_, _≤_, _<_}
 use native.Mathlib.Omega.{arith}
 use lib.Dec.{ltb}
 use lib.ListN.{length, getD}
 use lib.IntN.{ℤ, pos}
-use Rattle.field.specs.Field.{width-good}
-use Rattle.code.specs.Code.{width, roots, long}
+use Rattle.field.proofs.Tests.{widths}
+use Rattle.code.specs.declared.Shape.{Shape}
 use Rattle.code.specs.Bits.{row-long}
-use Rattle.code.specs.Promise.{Codes-inside}
-use Rattle.code.proofs.Promise.{codes-inside}
+use Rattle.split.specs.Split.{cosets}
 use Rattle.split.proofs.Cosets.{column-inside}
-use Rattle.metric.specs.Row.{bound, reliability-good}
-use Rattle.metric.proofs.Bounds.{row-at, cost-zero-le, cost-one-le}
+use Rattle.metric.specs.Row.{row-bound}
+use Rattle.metric.specs.Cost.{costZero, costOne}
+use Rattle.metric.proofs.Bounds.{row-at, costs-le}
 use Rattle.trellis.specs.Rows.{Layers, Make}
 use Rattle.search.proofs.Prepared.{long-le}
 use Rattle.search.specs.Within.{reliability, top, big, Spelt, Headed, CostRows, Costed, Input, Buffers}
 
-module _ {c m r q n size count : ℕ} {row : List ℤ} {cs : List ℕ} (z : Input c m r q n size count row cs) where
-  pub width-ok : width-good m ≡ true
-  unfolding Codes-inside
-  width-ok = rw (z .m-is) (codes-inside c (z .code-is) .0)
+module _ {s : Shape} {row : List ℤ} (z : Input s row) where
+  pub short : s .n ≤ 15
+  short = rw (z .coded .n-is) (long-le (s .m) (z .coded .width-is))
 
-  pub short : n ≤ 15
-  short = rw (z .n-is) (long-le m width-ok)
-
-  row-is : length row ≡ n * m
+  row-is : length row ≡ s .n * s .m
   unfolding row-long
-  row-is = z .length-row ∙ ap (λ (k : ℕ). k * m) (sym (z .n-is))
+  row-is = z .length-row ∙ ap (λ (k : ℕ). k * s .m) (sym (z .coded .n-is))
 
-  rel-good : (i j : ℕ) → reliability-good (reliability m row i j) ≡ true
-  unfolding reliability-good bound
-  rel-good i j = go (ltb j m)
+  -- what the entries cost
+  small : (i j : ℕ) → costZero (reliability (s .m) row i j) + costOne (reliability (s .m) row i j) ≤ top
+  small i j = go (ltb j (s .m))
     where
-      go : (b : Bool) → reliability-good (cond b (getD row (i * m + j) (pos 0)) (pos 0)) ≡ true
-      go true = row-at row (i * m + j) (z .good-row)
-      go false = refl
+      go : (b : Bool) → costZero (cond b (getD row (i * s .m + j) (pos 0)) (pos 0)) + costOne (cond b (getD row (i * s .m + j) (pos 0)) (pos 0)) ≤ top
+      go true = costs-le row-bound _ (row-at row-bound row (i * s .m + j) (z .good-row))
+      go false = omega arith
 
-  module _ {zs os t : List ℕ} (b : Buffers n size zs os t) where
-    pub costs-ok : CostRows m n row zs os
-    costs-ok = record { width = width-ok; few = omega (arith, z .n-is, long-le m width-ok); length-row = row-is; length-zs = b .length-zs; length-os = b .length-os }
+  pub size-is : s .size ≡ cosets (s .m) (s .r)
+  unfolding cosets
+  size-is = z .coded .size-is ∙ ap (λ (q : ℕ). 2 ^ q) (z .coded .q-is)
+
+  some : 0 < s .q
+  some = rw (z .coded .q-is) (omega (arith, widths (λ (m : ℕ). 0 < m) (omega arith) (omega arith) (s .m) (z .coded .width-is)))
+
+  module _ {zs os t : List ℕ} (b : Buffers s zs os t) where
+    pub costs-ok : CostRows (s .m) (s .n) row zs os
+    costs-ok = record { width = z .coded .width-is; few = short; length-row = row-is; length-zs = b .length-zs; length-os = b .length-os }
 
     -- after the costs are written
-    module _ {hs zs' os' : List ℕ} (h : Headed m r hs) (k : Costed m n row zs' os') (lz : length zs' ≡ length zs) (lo : length os' ≡ length os) where
-      pub layers-ok : Layers q size top hs zs' os'
+    module _ {hs zs' os' : List ℕ} (h : Headed (s .m) (s .r) hs) (k : Costed (s .m) (s .n) row zs' os') (lz : length zs' ≡ length zs) (lo : length os' ≡ length os) where
+      many : length hs ≡ s .n
+      many = h .count ∙ sym (z .coded .n-is)
+
+      pub layers-ok : Layers (s .q) (s .size) top hs zs' os'
       layers-ok = record {
-        some = z .some;
-        size-is = z .size-is;
-        length-zs = lz ∙ b .length-zs ∙ ap (λ (x : ℕ). x * 4) (z .n-is ∙ sym (h .count));
-        length-os = lo ∙ b .length-os ∙ ap (λ (x : ℕ). x * 4) (z .n-is ∙ sym (h .count));
-        inside = λ i l.
-            let li : i < long m = omega (arith, h .count) in
-            rw (h .heads i li, z .cosets-is) (column-inside m r i width-ok);
-        cost-zs = λ i j l lj. rw (k .zeros i j (omega (arith, h .count, z .n-is)) lj) (cost-zero-le (reliability m row i j) (rel-good i j));
-        cost-os = λ i j l lj. rw (k .ones i j (omega (arith, h .count, z .n-is)) lj) (cost-one-le (reliability m row i j) (rel-good i j));
+        some = some;
+        size-is = z .coded .size-is;
+        length-zs = lz ∙ b .length-zs ∙ ap (λ (x : ℕ). x * 4) (sym many);
+        length-os = lo ∙ b .length-os ∙ ap (λ (x : ℕ). x * 4) (sym many);
+        inside = λ i l. rw (h .heads i (omega (arith, h .count)), size-is) (column-inside (s .m) (s .r) i (z .coded .width-is));
+        cost-zs = λ i j l lj. rw (k .zeros i j (omega (arith, many)) lj) (omega (arith, small i j));
+        cost-os = λ i j l lj. rw (k .ones i j (omega (arith, many)) lj) (omega (arith, small i j));
       }
 
-      pub make-ok : Make q size top big t hs zs' os'
-      make-ok =
-          let e : length hs ≡ n = h .count ∙ sym (z .n-is) in
-          record {
-            layers = layers-ok;
-            length-t = rw e (b .length-t);
-            room = omega (arith, short, e);
-          }
+      pub make-ok : Make (s .q) (s .size) top big t hs zs' os'
+      make-ok = record { layers = layers-ok; length-t = rw many (b .length-t); room = omega (arith, short, many) }
 
-      pub spelt-ok : Spelt (width c) (roots c) row hs zs' os'
-      spelt-ok = rw (← z .m-is, ← z .r-is) (record { columns = h; costs = rw (z .n-is) at k })
+      pub spelt-ok : Spelt (s .m) (s .r) row hs zs' os'
+      spelt-ok = record { columns = h; costs = rw (z .coded .n-is) at k }

@@ -8,11 +8,13 @@ use lib.Dec.{ltb}
 use lib.ListN.{length, getD, set}
 use lib.IntN.{ℤ, pos}
 use Rattle.field.specs.Field.{width-good}
-use Rattle.code.specs.Code.{code-good, width, roots, long}
+use Rattle.code.specs.declared.Shape.{Shape}
+use Rattle.code.specs.Code.{long}
+use Rattle.code.specs.Within.{Coded, number-of}
 use Rattle.code.specs.Bits.{row-long}
-use Rattle.split.specs.Split.{column, cosets}
+use Rattle.split.specs.Split.{column}
 use Rattle.configurations.specs.Configurations.{configurations, listed}
-use Rattle.metric.specs.Row.{row-good}
+use Rattle.metric.specs.Row.{row-bound, row-good}
 use Rattle.metric.specs.Cost.{costZero, costOne}
 use Rattle.trellis.specs.Trellis.{pick}
 use Rattle.trellis.specs.Rows.{Layers, Made}
@@ -91,29 +93,27 @@ pub record Symbol (top : ℕ) (z o : List ℕ) : Type 0 where
   pub cost-o : (j : ℕ) → j < 4 → lane o j ≤ top
   pub room : top * 4 < 2 ^ 32
 
--- a code with its sizes, an accepted row of it, and its configurations
-pub record Input (code m r q n size count : ℕ) (row : List ℤ) (cs : List ℕ) : Type 0 where
-  pub code-is : code-good code ≡ true
-  pub m-is : m ≡ width code
-  pub r-is : r ≡ roots code
-  pub n-is : n ≡ long m
-  pub some : 0 < q
-  pub size-is : size ≡ 2 ^ q
-  pub cosets-is : size ≡ cosets m r
-  pub count-is : count ≡ configurations code
-  pub length-row : length row ≡ row-long m
-  pub good-row : row-good row ≡ true
-  pub listed-is : (i : ℕ) → i < count * 4 → getD cs i 0 ≡ getD (listed code) i 0
-  pub length-cs : length cs ≡ count * 4
+-- a code and an accepted row of it
+pub record Input (s : Shape) (row : List ℤ) : Type 0 where
+  pub coded : Coded s
+  pub length-row : length row ≡ row-long (s .m)
+  pub good-row : row-good row-bound row ≡ true
 
 -- buffers of the lengths that the search wants
-pub record Buffers (n size : ℕ) (zs os t : List ℕ) : Type 0 where
-  pub length-zs : length zs ≡ n * 4
-  pub length-os : length os ≡ n * 4
-  pub length-t : length t ≡ n * (size * 4) + size * 4
+pub record Buffers (s : Shape) (zs os t : List ℕ) : Type 0 where
+  pub length-zs : length zs ≡ s .n * 4
+  pub length-os : length os ≡ s .n * 4
+  pub length-t : length t ≡ s .n * (s .size * 4) + s .size * 4
 
 -- what the tables are made of, and the tables
-pub record Tabled (code q size : ℕ) (row : List ℤ) (hs zs os t : List ℕ) : Type 0 where
-  pub spelt : Spelt (width code) (roots code) row hs zs os
-  pub layers : Layers q size top hs zs os
-  pub made : Made size big hs zs os 0 t
+pub record Tabled (s : Shape) (row : List ℤ) (hs zs os t : List ℕ) : Type 0 where
+  pub spelt : Spelt (s .m) (s .r) row hs zs os
+  pub layers : Layers (s .q) (s .size) top hs zs os
+  pub made : Made (s .size) big hs zs os 0 t
+
+-- the configurations of a code, four places each, and how many there are
+abbrev pub tuples-of : Shape → List ℕ
+tuples-of s = listed (number-of s)
+
+abbrev pub count-of : Shape → ℕ
+count-of s = configurations (number-of s)

@@ -1,45 +1,41 @@
-// The trellis and the walk at a code and a row: the columns of each code, the costs of a row, its tables, and what a word costs by itself.
+// The trellis and the walk at a code and a row: the columns of a code, the costs of a row, its tables, the walk over them, and what a word costs
+// by itself.
 // proofs/Found.antt shows that what trellis and glue then find are the least costs of codewords, proofs/Searching.antt that the least total over
 // the tables of an accepted row is. Its functions are for the decoder and the marker.
+use code::Shape;
+use glue::Least;
 ghost use mathlib.Core.Path.{_≡_};
 ghost use mathlib.Core.Bool.{true};
 ghost use Prim.Native.Nat.{ℕ, _+_, _*_, _/_, _%_, _^_, _<_, _≤_};
-ghost use lib.ListN.{length, getD};
+ghost use lib.ListN.{length, getD, take};
 ghost use Rattle.field.specs.Field.{width-good};
-ghost use Rattle.code.specs.Code.{code-good, long, width, roots};
-ghost use Rattle.code.specs.Bits.{row-long};
-ghost use Rattle.configurations.specs.Configurations.{configurations, listed};
-ghost use Rattle.metric.specs.Row.{reliability-good, row-good};
-ghost use Rattle.metric.specs.Cost.{costZero, costOne, weight-of, cost};
-ghost use Rattle.lanes.specs.Lanes.{lane, lanes};
-ghost use Rattle.search.specs.Within.{reliability, Headed, put-four, Spread, CostsTo, CostRows, Costed, Input, Buffers, Tabled, symbol-cost, word-cost, Own, Symbol};
+ghost use Rattle.code.specs.Within.{Coded};
+ghost use Rattle.metric.specs.Row.{row-bound, reliability-good, row-good};
+ghost use Rattle.metric.specs.Cost.{costZero, costOne, weight-of};
+ghost use Rattle.lanes.specs.Lanes.{lane};
+ghost use Rattle.search.specs.Within.{cap, reliability, Headed, put-four, Spread, CostsTo, CostRows, Costed, Input, Buffers, Tabled, tuples-of, count-of, symbol-cost, word-cost, Own, Symbol};
 ghost use Rattle.trellis.specs.Trellis.{pick};
-ghost use Rattle.glue.specs.Walk.{sum4};
+ghost use Rattle.glue.specs.Walk.{sum4, least-total, Tuples, Walked, Marginals};
 
 // A reliability's greatest size, a number above every cost of a word, and one above twice that and a layer's cost.
-pub const TOP: u16 = 127;
+pub const TOP: u16 = metric::BOUND;
 
 pub const BIG: u16 = 60 * TOP + 1;
 
 pub const CAP: u16 = 2 * BIG + 15 * TOP;
 
-// The columns of each code: the syndromes that a 1 adds at each position.
-pub fn columns_of_code_1() -> [u16; 7]
-    ensures { λ x. ⌜ Headed 3 2 x ⌝ }
+// The columns of a code: the syndromes that a 1 adds at each position. There are n; what follows them says nothing.
+pub fn columns(shape: Shape) -> [u16; 15]
+    requires { ⌜ Coded shape ⌝ }
+    ensures { λ x. ⌜ Headed (shape .m) (shape .r) (take (shape .n) x) ⌝ }
 {
-    [1, 2, 4, 3, 6, 7, 5]
-}
-
-pub fn columns_of_code_2() -> [u16; 7]
-    ensures { λ x. ⌜ Headed 3 4 x ⌝ }
-{
-    [9, 26, 44, 35, 62, 23, 53]
-}
-
-pub fn columns_of_code_3() -> [u16; 15]
-    ensures { λ x. ⌜ Headed 4 2 x ⌝ }
-{
-    [1, 2, 4, 8, 3, 6, 12, 11, 5, 10, 7, 14, 15, 13, 9]
+    if shape.m == 4 {
+        return [1, 2, 4, 8, 3, 6, 12, 11, 5, 10, 7, 14, 15, 13, 9];
+    }
+    if shape.r == 2 {
+        return [1, 2, 4, 3, 6, 7, 5, 0, 0, 0, 0, 0, 0, 0, 0];
+    }
+    [9, 26, 44, 35, 62, 23, 53, 0, 0, 0, 0, 0, 0, 0, 0]
 }
 
 // What a 0 and a 1 contradicts of a reliability.
@@ -122,27 +118,58 @@ pub fn cost_rows(m: u32, n: usize, row: &[i16], zs: &mut [u16], os: &mut [u16])
 
 // The layers' tables of a row.
 pub fn of_row(
-    code: u32,
-    m: u32,
-    r: u32,
-    q: u32,
-    n: usize,
-    size: usize,
-    count: usize,
+    shape: Shape,
     row: &[i16],
-    cs: &[u16],
     hs: &[u16],
     zs: &mut [u16],
     os: &mut [u16],
     t: &mut [u16],
 )
-    requires { ⌜ Input code m r q n size count (now row) (now cs) ⌝ }
-    requires { ⌜ Headed m r (now hs) ⌝ }
-    requires { ⌜ Buffers n size (now zs) (now os) (now t) ⌝ }
-    ensures { λ _. ⌜ Tabled code q size (now (row .entry)) (now (hs .entry)) (now (zs .exit)) (now (os .exit)) (now (t .exit)) ⌝ }
+    requires { ⌜ Input shape (now row) ⌝ }
+    requires { ⌜ Headed (shape .m) (shape .r) (now hs) ⌝ }
+    requires { ⌜ Buffers shape (now zs) (now os) (now t) ⌝ }
+    ensures { λ _. ⌜ Tabled shape (now (row .entry)) (now (hs .entry)) (now (zs .exit)) (now (os .exit)) (now (t .exit)) ⌝ }
 {
-    cost_rows(m, n, row, zs, os);
-    trellis::make_tables(t, q, size, hs, zs, os, TOP, BIG);
+    cost_rows(shape.m, shape.n, row, zs, os);
+    trellis::make_tables(t, shape.q, shape.size, hs, zs, os, TOP, BIG);
+}
+
+// The walk over the configurations of a code: the least total of the tables, and in g, which is all CAP before, the least with each syndrome in each
+// layer.
+pub fn walk(shape: Shape, t: &[u16], g: &mut [u16]) -> Least
+    requires { ⌜ Tuples (shape .size) (count-of shape) cap (now t) (tuples-of shape) ⌝ }
+    requires { ⌜ length (now g) ≡ shape .size * 4 ⌝ }
+    requires { ⌜ ((i : ℕ) → i < shape .size * 4 → getD (now g) i 0 ≡ cap) ⌝ }
+    ensures { λ r. ⌜ Walked (count-of shape) cap (now (t .entry)) (tuples-of shape) (r .total) (r .at) ⌝ }
+    ensures { λ _. ⌜ Marginals (shape .size) (count-of shape) cap (now (t .entry)) (tuples-of shape) (now (g .exit)) ⌝ }
+{
+    if shape.m == 4 {
+        let all = configurations::all_of_code_3();
+        return glue::walk(t, shape.size, &all, 256, g, CAP);
+    }
+    if shape.r == 2 {
+        let all = configurations::all_of_code_1();
+        return glue::walk(t, shape.size, &all, 8, g, CAP);
+    }
+    let all = configurations::all_of_code_2();
+    glue::walk(t, shape.size, &all, 64, g, CAP)
+}
+
+// The least total alone.
+pub fn least_of(shape: Shape, t: &[u16]) -> u16
+    requires { ⌜ Tuples (shape .size) (count-of shape) cap (now t) (tuples-of shape) ⌝ }
+    ensures { λ r. ⌜ r ≡ least-total cap (now (t .entry)) (tuples-of shape) (count-of shape) ⌝ }
+{
+    if shape.m == 4 {
+        let all = configurations::all_of_code_3();
+        return glue::least_of(t, shape.size, &all, 256, CAP);
+    }
+    if shape.r == 2 {
+        let all = configurations::all_of_code_1();
+        return glue::least_of(t, shape.size, &all, 8, CAP);
+    }
+    let all = configurations::all_of_code_2();
+    glue::least_of(t, shape.size, &all, 64, CAP)
 }
 
 // What a bit costs.
@@ -194,7 +221,7 @@ pub fn word_cost(top: u16, zs: &[u16], os: &[u16], word: &[u8]) -> u32
 
 // The size of a reliability.
 fn size_of(r: i16) -> u32
-    requires { ⌜ reliability-good r ≡ true ⌝ }
+    requires { ⌜ reliability-good row-bound r ≡ true ⌝ }
     ensures { λ x. ⌜ (x ≡ costZero r + costOne r) × (x ≤ 127) ⌝ }
 {
     (cost_of_zero(r) + cost_of_one(r)) as u32
@@ -202,7 +229,7 @@ fn size_of(r: i16) -> u32
 
 // The sum of a row's sizes.
 pub fn weight(row: &[i16]) -> u32
-    requires { ⌜ (row-good (now row) ≡ true) × (length (now row) ≤ 60) ⌝ }
+    requires { ⌜ (row-good row-bound (now row) ≡ true) × (length (now row) ≤ 60) ⌝ }
     ensures { λ r. ⌜ r ≡ weight-of (now (row .entry)) ⌝ }
 {
     let mut sum = 0;

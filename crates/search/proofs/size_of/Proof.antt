@@ -5,6 +5,7 @@ use mathlib.Core.Path.{_≡_, ap₂}
 use Prim.Native.Nat.{ℕ, _+_}
 use native.Mathlib.Omega.{arith}
 use Rattle.metric.specs.Cost.{costZero, costOne}
+use Rattle.metric.specs.Row.{row-bound}
 use Rattle.metric.proofs.Bounds.{costs-le}
 use Rattle.search.proofs.Prepared.{through}
 use Rattle.search.proofs.size_of.Statement.{statement}
@@ -20,6 +21,6 @@ size-of-spec =
     (tie.spec
     (λ c κs. search needs)
     (λ c κs. search needs)
-    (λ c. let s = c .before .before in record { fits = omega (arith, sum-is c, costs-le (s .args .r) (s .pre)) })
+    (λ c. let s = c .before .before in record { fits = omega (arith, sum-is c, costs-le row-bound (s .args .r) (s .pre)) })
     (λ c. search needs)
-    (λ c. let s = c .before .before in (sum-is c, omega (arith, sum-is c, costs-le (s .args .r) (s .pre)))))
+    (λ c. let s = c .before .before in (sum-is c, omega (arith, sum-is c, costs-le row-bound (s .args .r) (s .pre)))))

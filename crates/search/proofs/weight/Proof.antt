@@ -6,6 +6,7 @@ use lib.IntN.{pos}
 use lib.ListN.{length, getD}
 use mir.Facts.{toZ-ofZ}
 use mir.Syntax.{w16}
+use Rattle.metric.specs.Row.{row-bound}
 use Rattle.metric.proofs.Bounds.{row-at}
 use Rattle.search.proofs.Sums.{Weighing, weighing-more, weighing-end}
 use Rattle.search.proofs.weight.Statement.{statement}
@@ -20,7 +21,7 @@ abbrev μ-loop : tie.MeasureT-loop
 size-of-requires : tie.Need-size-of-requires Inv-loop μ-loop
 size-of-requires c κs = let s = c .before .before .before in
     let i = c .before .before .loop .i in
-    rw (toZ-ofZ {w = w16} {z = getD (s .args .row .now) i (pos 0)} (record { sfits = c .r .given })) (row-at (s .args .row .now) i (s .pre .0))
+    rw (toZ-ofZ {w = w16} {z = getD (s .args .row .now) i (pos 0)} (record { sfits = c .r .given })) (row-at row-bound (s .args .row .now) i (s .pre .0))
 
 loop-again : tie.Need-loop-again Inv-loop μ-loop
 loop-again c = let t = c .before .before .before in
