@@ -1,6 +1,6 @@
 -- The tables of an accepted row: what is asked of the buffers, and that columns and costs are those of the row.
 -- Assumes nothing.
-use mathlib.Core.Path.{_≡_, sym, ap, _∙_}
+use mathlib.Core.Path.{_≡_, refl, sym, ap, _∙_}
 use mathlib.Core.Bool.{Bool, true, false, cond}
 use mathlib.Core.List.{List}
 use Prim.Native.Nat.{ℕ, _+_, _*_, _^_, _≤_, _<_}
@@ -10,6 +10,9 @@ use lib.ListN.{length, getD}
 use lib.IntN.{ℤ, pos}
 use Rattle.field.proofs.Tests.{widths}
 use Rattle.code.specs.declared.Shape.{Shape}
+use Rattle.code.specs.Code.{width, roots, long, syndrome-long}
+use Rattle.code.specs.Within.{Coded}
+use Rattle.code.proofs.Promise.{codes}
 use Rattle.code.specs.Bits.{row-long}
 use Rattle.split.specs.Split.{cosets}
 use Rattle.split.proofs.Cosets.{column-inside}
@@ -19,6 +22,24 @@ use Rattle.metric.proofs.Bounds.{row-at, costs-le}
 use Rattle.trellis.specs.Rows.{Layers, Make}
 use Rattle.search.proofs.Prepared.{long-le}
 use Rattle.search.specs.Within.{reliability, top, big, Spelt, Headed, CostRows, Costed, Input, Buffers}
+
+-- how long the tables of a code are
+room-of : (c : ℕ) → ℕ
+room-of c = let size = 2 ^ syndrome-long (width c) (roots c) in long (width c) * (size * 4) + size * 4
+
+room-is : {s : Shape} → (z : Coded s) → s .n * (s .size * 4) + s .size * 4 ≡ room-of (z .code)
+unfolding room-of
+room-is z = rw (z .size-is, z .q-is, z .n-is, z .m-is, z .r-is) refl
+
+pub room-small : {s : Shape} → Coded s → s .n * (s .size * 4) + s .size * 4 ≤ 2048
+unfolding room-of width roots long
+room-small z = rw (room-is z) (codes (λ c. room-of c ≤ 2048) (omega arith) (omega arith) (omega arith) (z .code) (z .code-is))
+
+pub room-eight : {s : Shape} → Coded s → s .size ≡ 8 → s .n * (s .size * 4) + s .size * 4 ≡ 256
+unfolding room-of width roots long
+room-eight z e =
+    rw (room-is z) (codes (λ c. 2 ^ syndrome-long (width c) (roots c) ≡ 8 → room-of c ≡ 256) (λ f. refl) (λ f. absurd (omega arith)) (λ f. absurd (omega arith)) (z .code) (z .code-is)
+    (rw (← z .m-is, ← z .r-is, ← z .q-is, ← z .size-is) e))
 
 module _ {s : Shape} {row : List ℤ} (z : Input s row) where
   pub short : s .n ≤ 15
