@@ -6,182 +6,148 @@ use mathlib.Core.List.{List}
 use Prim.Native.Nat.{ℕ, _+_, _-_, _*_, _/_, _%_, _≤_, _<_}
 use native.Mathlib.Nat.{zero-mul, one-mul, zero-add, mul-le-mul-right}
 use native.Mathlib.Omega.{arith}
-use native.Mathlib.Decide.{decLe}
 use lib.Dec.{eqb}
-use lib.ListN.{length, getD, set}
-use lib.Seq.{getD-set-same, getD-set-other}
+use lib.ListN.{length, getD}
 use lib.IntN.{ℤ}
-use Rattle.field.proofs.Tests.{widths}
+use Rattle.code.specs.declared.Shape.{Shape}
 use Rattle.code.specs.Code.{code-good, width, roots, long, is-codeword}
 use Rattle.code.specs.Bits.{row-long}
-use Rattle.split.specs.Split.{cosets}
-use Rattle.split.proofs.Layers as SL
+use Rattle.code.specs.Within.{number-of}
+use Rattle.code.proofs.Accepted.{width-small}
+use Rattle.code.proofs.Promise.{Numbered-as, of-shape}
 use Rattle.configurations.specs.Configurations.{configurations}
-use Rattle.metric.specs.Cost.{weight-of, cost}
-use Rattle.trellis.specs.Trellis.{back, free, final, holding, meet}
+use Rattle.metric.specs.Cost.{weight-of, cost, Least-with}
+use Rattle.trellis.specs.Trellis.{back, holding, final, meet}
 use Rattle.lanes.specs.Lanes.{entry, lane}
 use Rattle.trellis.specs.Rows.{at-table, layer, Trace, traced}
 use Rattle.soft.specs.Pass.{folded, Pass, Passed}
 use Rattle.trellis.proofs.Least.{least-same, least-cap}
 use Rattle.lanes.proofs.Rows.{lanes-at}
-use Rattle.glue.specs.Walk.{total, tuple, least-total, least-with, Walked, Marginals}
+use Rattle.glue.specs.Walk.{total, tuple, Walked, Marginals}
 use Rattle.glue.specs.Walk as W
 use Rattle.glue.proofs.Engine.{over, marginal, marginal-ge}
-use Rattle.search.proofs.Bridge.{conf, table}
+use Rattle.search.proofs.Bridge.{conf}
 use Rattle.search.proofs.Found as S
 use Rattle.search.proofs.Traced as TR
-use Rattle.search.specs.Within.{top, big, cap, Spelt, Input, Tabled}
-use Rattle.decoder.specs.Within.{Best, Softs}
-use Rattle.search.proofs.Tabling.{width-ok}
+use Rattle.search.specs.Within.{top, big, cap, Spelt, Input, Tabled, tuples-of, count-of}
 use Rattle.search.proofs.Searching.{conf-in, least-is}
 use Rattle.search.proofs.Searching as A
+use Rattle.decoder.specs.Within.{Best, Softs}
 
-module _ (c m r q n size count : ℕ) (row : List ℤ) (cs hs zs os t : List ℕ) (z : Input c m r q n size count row cs) (b : Tabled c q size row hs zs os t) where
+module _ {s : Shape} {row : List ℤ} {hs zs os t : List ℕ} (z : Input s row) (b : Tabled s row hs zs os t) where
+  abbrev c : ℕ
+  c = number-of s
+
+  abbrev k : Numbered-as s c
+  k = A.k z b
+
   abbrev g : code-good c ≡ true
-  g = z .code-is
+  g = A.g z b
 
   abbrev l : length row ≡ row-long (width c)
   l = A.l z b
 
   abbrev y : Spelt (width c) (roots c) row hs zs os
-  y = b .spelt
-
-  n-is : length hs ≡ n
-  n-is = A.n-is z b
-
-  few : length hs ≤ 15
-  few = A.few z b
-
-  size-is : size ≡ cosets (width c) (roots c)
-  size-is = A.size-is z b
+  y = A.y z b
 
   abbrev light : weight-of row < big
   light = A.light z b
 
   abbrev F : ℕ → ℕ → ℕ
-  F = table c g row l hs zs os y big (λ j. free)
-
-  first : (s j : ℕ) → s < size → j < 4 → entry t s j ≡ F j s
-  first = A.first z b
-
-  F-le : (j s : ℕ) → j < 4 → F j s ≤ big + 1905
-  F-le = A.F-le z b
-
-  conf-is : (k j : ℕ) → k < count → j < 4 → W.conf cs k j ≡ conf c k j
-  conf-is = A.conf-is z b
-
-  conf-lt : (k j : ℕ) → k < count → j < 4 → W.conf cs k j < size
-  conf-lt = A.conf-lt z b
-
-  total-is : (k : ℕ) → k < count → total t (tuple cs k) ≡ over F (conf c k)
-  total-is = A.total-is z b
+  F = A.F z b
 
   -- after the walk
-  module _ (x : ℕ) (at : List ℕ) (w : Walked count cap t cs x at) where
-    best-is : x ≡ S.best c g row l hs zs os y big cap light
-    best-is =
-        w .least ∙ ap (least-total cap t cs) (z .count-is)
-        ∙ least-same (λ k. total t (tuple cs k)) (λ k. over F (conf c k)) cap (configurations c) (λ k h. total-is k (omega (arith, z .count-is)))
-
+  module _ {x : ℕ} {at : List ℕ} (w : Walked (count-of s) cap t (tuples-of s) x at) where
     small : x < big
-    small = rw best-is (S.best-small c g row l hs zs os y big cap light)
+    small = rw (w .least ∙ A.totals-are z b) (S.best-small c g row l hs zs os y big cap light)
 
-    pub trace-ok : (word : List ℕ) → length word ≡ n → Trace q size top big t hs zs os at word
-    trace-ok word lw = record {
+    pub trace-ok : {word : List ℕ} → length word ≡ s .n → Trace (s .q) (s .size) top big t hs zs os at word
+    trace-ok lw = record {
       layers = b .layers;
       made = b .made;
-      from = λ j lj. rw (w .some .2) (rw (lanes-at (W.conf cs (w .some .0)) j lj) (conf-lt (w .some .0) j (w .some .1) lj));
-      length-word = lw ∙ sym n-is;
-      room = omega (arith, few);
+      from = λ j lj. rw (w .some .2) (rw (lanes-at (W.conf (tuples-of s) (w .some .0)) j lj) (A.conf-lt z b (w .some .0) j (w .some .1) lj));
+      length-word = lw ∙ sym (A.n-is z b);
+      room = omega (arith, A.few z b);
     }
 
-    pub best-ok : (g' word : List ℕ) → word ≡ traced big hs zs os 0 (length hs) at → Marginals size count cap t cs g' → Best c size count row t cs g' word x
-    best-ok g' word e mg =
+    pub best-ok : {g' word : List ℕ} → word ≡ traced big hs zs os 0 (length hs) at → Marginals (s .size) (count-of s) cap t (tuples-of s) g' → Best s row t g' word x
+    best-ok e mg =
         let f = w .found (omega (arith, small)) in
-        let k : ℕ = f .0 in
-        let lk : k < configurations c = omega (arith, f .1, z .count-is) in
-        let o : over F (conf c k) ≡ x = sym (total-is k (f .1)) ∙ f .3 in
-        let p = TR.word c g row l hs zs os y big k lk (omega (arith, o, small)) at
-        (λ j lj. ap (λ (u : List ℕ). lane u j) (f .2) ∙ lanes-at (W.conf cs k) j lj ∙ conf-is k j (f .1) lj) in
+        let i : ℕ = f .0 in
+        let o : over F (conf c i) ≡ x = sym (A.total-is z b i (f .1)) ∙ f .3 in
+        let p = TR.word c g row l hs zs os y big i (f .1) (omega (arith, o, small)) at
+        (λ j lj. ap (λ (u : List ℕ). lane u j) (f .2) ∙ lanes-at (W.conf (tuples-of s) i) j lj ∙ A.conf-is z b i j (f .1) lj) in
         record {
-          codeword = ap (is-codeword (width c) (roots c)) e ∙ p .0;
-          costs = ap (cost (width c) row) e ∙ p .1 ∙ o;
+          codeword = ap (is-codeword (s .m) (s .r)) e ∙ of-shape (λ m r. is-codeword m r (traced big hs zs os 0 (length hs) at) ≡ true) (k .m-is) (k .r-is) (p .0);
+          costs = ap (cost (s .m) row) e ∙ of-shape (λ m r. cost m row (traced big hs zs os 0 (length hs) at) ≡ over F (conf c i)) (k .m-is) (k .r-is) (p .1) ∙ o;
           is-least = rw (w .least) (least-is z b);
           marginals = mg;
         }
 
   -- the soft pass
-  module _ (g' : List ℕ) (lg : length g' ≡ size * 4) (mg : Marginals size count cap t cs g') where
-    marginal-is : (s j : ℕ) → s < size → j < 4 → entry g' s j ≡ marginal F (conf c) cap (configurations c) j s
-    marginal-is s j ls lj =
-        mg s j ls lj
-        ∙ ap (least-with cap t cs j s) (z .count-is)
-        ∙ least-same (λ k. cond (eqb (W.conf cs k j) s) (total t (tuple cs k)) cap) (λ k. cond (eqb (conf c k j) s) (over F (conf c k)) cap) cap (configurations c)
-        (λ k h. let lk : k < count = omega (arith, z .count-is) in ap₂ (λ (a d : ℕ). cond (eqb a s) d cap) (conf-is k j lk lj) (total-is k lk))
+  module _ (g' : List ℕ) (lg : length g' ≡ s .size * 4) (mg : Marginals (s .size) (count-of s) cap t (tuples-of s) g') where
+    marginal-is : (x j : ℕ) → x < s .size → j < 4 → entry g' x j ≡ marginal F (conf c) cap (configurations c) j x
+    marginal-is x j ls lj =
+        mg x j ls lj
+        ∙ least-same (λ i. cond (eqb (W.conf (tuples-of s) i j) x) (total t (tuple (tuples-of s) i)) cap) (λ i. cond (eqb (conf c i j) x) (over F (conf c i)) cap) cap (configurations c)
+        (λ i h. ap₂ (λ (a d : ℕ). cond (eqb a x) d cap) (A.conf-is z b i j h lj) (A.total-is z b i h))
 
-    split : (i : ℕ) → i < size * 4 → (s : ℕ) × (j : ℕ) × (s < size) × (j < 4) × (i ≡ s * 4 + j)
-    split i h = (i / 4, i % 4, omega arith, omega arith, omega arith)
+    parts : (i : ℕ) → i < s .size * 4 → (x : ℕ) × (j : ℕ) × (x < s .size) × (j < 4) × (i ≡ x * 4 + j)
+    parts i h = (i / 4, i % 4, omega arith, omega arith, omega arith)
 
     pub subtract-ok : (length g' ≤ length t) × ((i : ℕ) → i < length g' → getD t i 0 ≤ getD g' i 0)
     subtract-ok = (
       omega (arith, b .made .long),
       (λ i h.
-          let p = split i (omega arith) in
+          let p = parts i (omega arith) in
           let e : i ≡ p .0 * 4 + p .1 = p .4 in
-          rw e (rw (first (p .0) (p .1) (p .2) (p .3), marginal-is (p .0) (p .1) (p .2) (p .3))
-          (marginal-ge F (conf c) cap (configurations c) (p .1) (p .3) (p .0) (omega (arith, F-le (p .1) (p .0) (p .3)))))),
+          rw e (rw (A.first z b (p .0) (p .1) (p .2) (p .3), marginal-is (p .0) (p .1) (p .2) (p .3))
+          (marginal-ge F (conf c) cap (configurations c) (p .1) (p .3) (p .0) (omega (arith, A.F-le z b (p .1) (p .0) (p .3)))))),
     )
 
     -- what is left of table 0
     module _ (t' : List ℕ) (lt : length t' ≡ length t) (low : (i : ℕ) → i < length g' → getD t' i 0 ≡ getD g' i 0 - getD t i 0)
         (high : (i : ℕ) → length g' ≤ i → getD t' i 0 ≡ getD t i 0) where
-      rest-is : (s j : ℕ) → s < size → j < 4 → at-table t' (size * 4) 0 j s ≡ marginal F (conf c) cap (configurations c) j s - F j s
-      rest-is s j ls lj =
-          ap (λ (x : ℕ). getD t' x 0) (ap (λ (x : ℕ). x + (s * 4 + j)) (zero-mul (size * 4)) ∙ zero-add (s * 4 + j))
-          ∙ low (s * 4 + j) (omega arith)
-          ∙ ap₂ (λ (a d : ℕ). a - d) (marginal-is s j ls lj) (first s j ls lj)
+      rest-is : (x j : ℕ) → x < s .size → j < 4 → at-table t' (s .size * 4) 0 j x ≡ marginal F (conf c) cap (configurations c) j x - F j x
+      rest-is x j ls lj =
+          ap (λ (i : ℕ). getD t' i 0) (ap (λ (i : ℕ). i + (x * 4 + j)) (zero-mul (s .size * 4)) ∙ zero-add (x * 4 + j))
+          ∙ low (x * 4 + j) (omega arith)
+          ∙ ap₂ (λ (a d : ℕ). a - d) (marginal-is x j ls lj) (A.first z b x j ls lj)
 
-      pub pass-ok : (za oa : List ℕ) → length za ≡ n * 2 * 4 → length oa ≡ n * 2 * 4 → Pass q size top big cap t' hs zs os za oa
-      pass-ok za oa lz lo = record {
+      pub pass-ok : {za oa : List ℕ} → length za ≡ s .n * 2 * 4 → length oa ≡ s .n * 2 * 4 → Pass (s .q) (s .size) top big cap t' hs zs os za oa
+      pass-ok lz lo = record {
         layers = b .layers;
         made = record {
           long = lt ∙ b .made .long;
-          made = λ k s j ik kn ls lj. high (k * (size * 4) + (s * 4 + j)) (omega (arith, mul-le-mul-right (size * 4) ik, one-mul (size * 4))) ∙ b .made .made k s j (omega arith) kn ls lj;
+          made = λ i x j ik kn ls lj. high (i * (s .size * 4) + (x * 4 + j)) (omega (arith, mul-le-mul-right (s .size * 4) ik, one-mul (s .size * 4))) ∙ b .made .made i x j (omega arith) kn ls lj;
         };
-        start = λ s j ls lj. omega (arith, rest-is s j ls lj, least-cap (λ k. cond (eqb (conf c k j) s) (over F (conf c k)) cap) cap (configurations c));
-        length-zero = rw n-is lz;
-        length-one = rw n-is lo;
-        room = omega (arith, few);
+        start = λ x j ls lj. omega (arith, rest-is x j ls lj, least-cap (λ i. cond (eqb (conf c i j) x) (over F (conf c i)) cap) cap (configurations c));
+        length-zero = rw (A.n-is z b) lz;
+        length-one = rw (A.n-is z b) lo;
+        room = omega (arith, A.few z b);
       }
 
-      pub softs-ok : (za oa : List ℕ) → Passed size big cap t' hs zs os 0 (length hs) za → Passed size big cap t' hs zs os 1 (length hs) oa → Softs c m n row za oa
+      pub softs-ok : (za oa : List ℕ) → Passed (s .size) big cap t' hs zs os 0 (length hs) za → Passed (s .size) big cap t' hs zs os 1 (length hs) oa → Softs s row za oa
       softs-ok za oa p0 p1 i j li lj =
-          let hj : j < width c = rw (z .m-is) at lj in
-          let hi : i < long (width c) = omega (arith, n-is, y .columns .count) in
+          let hj : j < width c = omega (arith, k .m-is) in
+          let hi : i < long (width c) = omega (arith, A.n-is z b, y .columns .count) in
           let l4 : j < 4 = below-4 j hj in
-          let hn : i < length hs = omega (arith, n-is) in
-          let inside : (k : ℕ) → k < configurations c → conf c k j < size = (λ k lk. rw size-is (conf-in c g k lk j)) in
-          let le : (s : ℕ) → s < size → F j s ≤ big + 1905 = (λ s ls. F-le j s l4) in
-          let e0 : folded za i j ≡ S.soft c g row l hs zs os y big cap light i j 0 hi hj (omega arith) size 1905 (omega arith) inside le = p0 i j hn l4 ∙ same i j 0 l4 in
-          let e1 : folded oa i j ≡ S.soft c g row l hs zs os y big cap light i j 1 hi hj (omega arith) size 1905 (omega arith) inside le = p1 i j hn l4 ∙ same i j 1 l4 in
-          rw (e0, e1, z .m-is) (
-            S.least-with c g row l hs zs os y big cap light i j 0 hi hj (omega arith) size 1905 (omega arith) inside le,
-            S.least-with c g row l hs zs os y big cap light i j 1 hi hj (omega arith) size 1905 (omega arith) inside le,
-            S.soft-small c g row l hs zs os y big cap light i j 0 hi hj (omega arith) size 1905 (omega arith) inside le,
-            S.soft-small c g row l hs zs os y big cap light i j 1 hi hj (omega arith) size 1905 (omega arith) inside le,
-          )
+          let hn : i < length hs = omega (arith, A.n-is z b) in
+          let inside : (v : ℕ) → v < configurations c → conf c v j < s .size = (λ v lv. rw (A.size-is z b) (conf-in c g v lv j)) in
+          let le : (x : ℕ) → x < s .size → F j x ≤ big + 1905 = (λ x ls. A.F-le z b j x l4) in
+          let e0 : folded za i j ≡ S.soft c g row l hs zs os y big cap light i j 0 hi hj (omega arith) (s .size) 1905 (omega arith) inside le = p0 i j hn l4 ∙ same i j 0 l4 in
+          let e1 : folded oa i j ≡ S.soft c g row l hs zs os y big cap light i j 1 hi hj (omega arith) (s .size) 1905 (omega arith) inside le = p1 i j hn l4 ∙ same i j 1 l4 in
+          of-shape (λ m r. Least-with m (is-codeword m r) row (i * m + j) 0 (folded za i j) × Least-with m (is-codeword m r) row (i * m + j) 1 (folded oa i j) × (folded za i j < big) × (folded oa i j < big)) (k .m-is) (k .r-is)
+          (rw (e0, e1) (
+            S.least-with c g row l hs zs os y big cap light i j 0 hi hj (omega arith) (s .size) 1905 (omega arith) inside le,
+            S.least-with c g row l hs zs os y big cap light i j 1 hi hj (omega arith) (s .size) 1905 (omega arith) inside le,
+            S.soft-small c g row l hs zs os y big cap light i j 0 hi hj (omega arith) (s .size) 1905 (omega arith) inside le,
+            S.soft-small c g row l hs zs os y big cap light i j 1 hi hj (omega arith) (s .size) 1905 (omega arith) inside le,
+          ))
         where
           below-4 : (j : ℕ) → j < width c → j < 4
-          below-4 j h = widths (λ (m : ℕ). j < m → j < 4) (λ u. omega arith) (λ u. omega arith) (width c) (rw (z .m-is) at (width-ok z)) h
+          below-4 j h = omega (arith, k .m-is, width-small (s .m) (z .coded .width-is))
 
-          same : (i j v : ℕ) → j < 4 → meet cap size (at-table t' (size * 4) 0 j) (back (holding i v) (layer hs zs os j) (final big) 0 (length hs))
-              ≡ meet cap size (λ s. marginal F (conf c) cap (configurations c) j s - F j s) (back (holding i v) (layer hs zs os j) (final big) 0 (length hs))
-          same i j v l4 = least-same _ _ cap size (λ s ls. ap (λ (a : ℕ). a + back (holding i v) (layer hs zs os j) (final big) 0 (length hs) s) (rest-is s j ls l4))
-
--- one entry more is n
-pub set-all : (xs : List ℕ) (i : ℕ) → i < length xs → ((k : ℕ) → k < i → getD xs k 0 ≡ cap) → (k : ℕ) → k < i + 1 → getD (set xs i cap) k 0 ≡ cap
-set-all xs i l f k h = go (decLe i k)
-  where
-    go : Dec (i ≤ k) → getD (set xs i cap) k 0 ≡ cap
-    go (yes a) = let e : k ≡ i = omega arith in rw e (getD-set-same xs i cap 0 l)
-    go (no a) = getD-set-other xs i k cap 0 (λ e. omega arith) ∙ f k (omega arith)
+          same : (i j v : ℕ) → j < 4 → meet cap (s .size) (at-table t' (s .size * 4) 0 j) (back (holding i v) (layer hs zs os j) (final big) 0 (length hs))
+              ≡ meet cap (s .size) (λ x. marginal F (conf c) cap (configurations c) j x - F j x) (back (holding i v) (layer hs zs os j) (final big) 0 (length hs))
+          same i j v l4 = least-same _ _ cap (s .size) (λ x ls. ap (λ (a : ℕ). a + back (holding i v) (layer hs zs os j) (final big) 0 (length hs) x) (rest-is x j ls l4))

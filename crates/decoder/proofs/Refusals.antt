@@ -1,26 +1,40 @@
 -- What an accepted call of the decoder has passed.
 -- Assumes nothing.
-use mathlib.Core.Path.{_≡_, refl}
-use mathlib.Core.Bool.{Bool, true, false, _&&_, not, cond}
+use mathlib.Core.Path.{_≡_, sym, ap, _∙_}
 use mathlib.Core.List.{List}
-use Prim.Native.Nat.{ℕ}
+use Prim.Native.Nat.{ℕ, _*_, _≤_, _<_}
 use native.Mathlib.Omega.{arith}
-use borrow.Author.Tests.{eq-eqb, ne-eqb, eqb-true}
-use lib.Dec.{eqb}
-use lib.ListN.{length}
+use borrow.Author.Tests.{eqb-true}
 use lib.IntN.{ℤ}
+use lib.ListN.{getD, take, replicate, getD-replicate}
+use lib.Seq.{getD-take}
 use Rattle.refusal.proofs.Tests.{passed}
-use Rattle.code.specs.Code.{code-good, width, long}
+use Rattle.code.specs.declared.Shape.{Shape}
+use Rattle.code.specs.Code.{is-codeword}
 use Rattle.code.specs.Bits.{row-long}
-use Rattle.metric.specs.Row.{row-good}
+use Rattle.code.specs.Within.{Coded}
+use Rattle.metric.specs.Metric.{Decoded}
+use Rattle.search.specs.Within.{cap}
 use Rattle.decoder.specs.Calls.{decode-refusal}
 use Rattle.decoder.specs.Within.{Accepted}
 
-pub decode-accepted : (c : ℕ) (rs : List ℤ) (a b : ℕ) → decode-refusal c rs a b ≡ 0 → (code-good c ≡ true) × Accepted c rs a b
-unfolding decode-refusal
-decode-accepted c rs a b z =
-    let p = passed _ _ _ z in
-    let q = passed _ _ _ (p .1) in
-    let s = passed _ _ _ (q .1) in
-    let t = passed _ _ _ (s .1) in
-    (p .0, record { long-row = eqb-true _ _ (q .0); good-row = passed _ _ _ (t .1) .0; long-word = eqb-true _ _ (s .0); long-soft = eqb-true _ _ (t .0) })
+pub decode-accepted : {s : Shape} → Coded s → (rs : List ℤ) (a b : ℕ) → decode-refusal (s .m) rs a b ≡ 0 → Accepted s rs a b
+unfolding decode-refusal row-long
+decode-accepted {s} z rs a b e =
+    let q = passed _ _ _ e in
+    let p = passed _ _ _ (q .1) in
+    let t = passed _ _ _ (p .1) in
+    record {
+      input = record { coded = z; length-row = eqb-true _ _ (q .0); good-row = passed _ _ _ (t .1) .0 };
+      long-word = eqb-true _ _ (p .0) ∙ sym (z .n-is);
+      long-soft = eqb-true _ _ (t .0) ∙ ap (λ (n : ℕ). n * s .m) (sym (z .n-is));
+    }
+
+-- what was decoded, by the code's number
+pub decoded-as : {a b m r : ℕ} {rs : List ℤ} {word : List ℕ} {x y : ℤ} {soft : List ℤ} → a ≡ m → b ≡ r → y ≡ x →
+    Decoded a (is-codeword a b) rs word x soft → Decoded m (is-codeword m r) rs word y soft
+decoded-as e f g d = rw (← e, ← f, g) d
+
+-- room for the marginals, of which a part is lent
+pub caps : (k i : ℕ) → k ≤ 256 → i < k → getD (take k (replicate 256 cap)) i 0 ≡ cap
+caps k i h l = getD-take k (replicate 256 cap) i 0 l ∙ getD-replicate 256 i cap 0 (omega arith)

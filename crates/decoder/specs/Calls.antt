@@ -6,22 +6,23 @@ use Prim.Native.Nat.{ℕ}
 use lib.Dec.{eqb}
 use lib.ListN.{length}
 use lib.IntN.{ℤ, pos}
-use Rattle.code.specs.Code.{code-good, width, roots, long, is-codeword}
+use Rattle.code.specs.Code.{number-refusal, width, roots, long, is-codeword}
 use Rattle.code.specs.Bits.{row-long}
-use Rattle.refusal.specs.Refusal.{unless, Outcome}
-use Rattle.metric.specs.Row.{row-good}
+use Rattle.refusal.specs.Refusal.{unless, first, Outcome}
+use Rattle.metric.specs.Row.{row-bound, row-good}
 use Rattle.metric.specs.Metric.{Decoded}
 use Rattle.decoder.specs.declared.Decoding.{Decoding}
 
-unfoldable pub decode-refusal : (code : ℕ) → (row : List ℤ) → (word soft : ℕ) → ℕ
-decode-refusal c rs a b =
-    unless (code-good c) 1
-    (unless (eqb (length rs) (row-long (width c))) 2
-    (unless (eqb a (long (width c))) 4
-    (unless (eqb b (row-long (width c))) 4
-    (unless (row-good rs) 5 0))))
+-- what follows the code's own refusal
+unfoldable pub decode-refusal : (m : ℕ) → (row : List ℤ) → (word soft : ℕ) → ℕ
+decode-refusal m rs a b =
+    unless (eqb (length rs) (row-long m)) 2
+    (unless (eqb a (long m)) 4
+    (unless (eqb b (row-long m)) 4
+    (unless (row-good row-bound rs) 5 0)))
 
 -- a best word, its metric and every soft output; refused, the metric is 0 and the outputs are kept
 unfoldable pub Decode-says : (code : ℕ) → (row : List ℤ) → Decoding → (word word-now : List ℕ) → (soft soft-now : List ℤ) → Type 0
 Decode-says c rs r a b d e =
-    Outcome (decode-refusal c rs (length a) (length d)) (r .number) (Decoded (width c) (is-codeword (width c) (roots c)) rs b (r .metric) e) ((r .metric ≡ pos 0) × (b ≡ a) × (e ≡ d))
+    Outcome (first (number-refusal c) (decode-refusal (width c) rs (length a) (length d))) (r .number)
+    (Decoded (width c) (is-codeword (width c) (roots c)) rs b (r .metric) e) ((r .metric ≡ pos 0) × (b ≡ a) × (e ≡ d))

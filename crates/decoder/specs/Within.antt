@@ -6,33 +6,28 @@ use Prim.Native.Nat.{ℕ, _+_, _*_, _<_, _≤_}
 use lib.ListN.{length, getD}
 use lib.IntN.{ℤ, pos, _-ℤ_}
 use Rattle.field.specs.Field.{width-good}
-use Rattle.code.specs.Code.{width, roots, long, is-codeword}
-use Rattle.code.specs.Bits.{row-long}
-use Rattle.metric.specs.Row.{row-good}
+use Rattle.code.specs.declared.Shape.{Shape}
+use Rattle.code.specs.Code.{is-codeword}
 use Rattle.metric.specs.Cost.{cost, Least, Least-with}
 use Rattle.lanes.specs.Lanes.{lane}
 use Rattle.soft.specs.Pass.{folded}
 use Rattle.glue.specs.Walk.{Marginals}
-use Rattle.search.specs.Within.{big, cap}
+use Rattle.search.specs.Within.{big, cap, tuples-of, count-of, Input}
 
 -- what the walk and the trace leave: the least cost, a codeword that has it, and the least total with each syndrome in each layer
-pub record Best (code size count : ℕ) (row : List ℤ) (t cs g word : List ℕ) (least : ℕ) : Type 0 where
-  pub codeword : is-codeword (width code) (roots code) word ≡ true
-  pub costs : cost (width code) row word ≡ least
-  pub is-least : Least (width code) (is-codeword (width code) (roots code)) row least
-  pub marginals : Marginals size count cap t cs g
+pub record Best (s : Shape) (row : List ℤ) (t g word : List ℕ) (least : ℕ) : Type 0 where
+  pub codeword : is-codeword (s .m) (s .r) word ≡ true
+  pub costs : cost (s .m) row word ≡ least
+  pub is-least : Least (s .m) (is-codeword (s .m) (s .r)) row least
+  pub marginals : Marginals (s .size) (count-of s) cap t (tuples-of s) g
 
 -- the least costs with a 0 and with a 1 at each bit
-abbrev pub Softs : (code m n : ℕ) → (row : List ℤ) → (zero one : List ℕ) → Type 0
-Softs code m n row zs os =
-    (i j : ℕ) → i < n → j < m →
-    Least-with (width code) (is-codeword (width code) (roots code)) row (i * m + j) 0 (folded zs i j)
-    × Least-with (width code) (is-codeword (width code) (roots code)) row (i * m + j) 1 (folded os i j)
+abbrev pub Softs : Shape → (row : List ℤ) → (zero one : List ℕ) → Type 0
+Softs s row zs os =
+    (i j : ℕ) → i < s .n → j < s .m →
+    Least-with (s .m) (is-codeword (s .m) (s .r)) row (i * s .m + j) 0 (folded zs i j)
+    × Least-with (s .m) (is-codeword (s .m) (s .r)) row (i * s .m + j) 1 (folded os i j)
     × (folded zs i j < big) × (folded os i j < big)
-
--- all entries are n
-abbrev pub All : (n : ℕ) → List ℕ → Type 0
-All n xs = (i : ℕ) → i < length xs → getD xs i 0 ≡ n
 
 -- soft output i * m + j from the least costs
 abbrev pub soft-of : (zero one : List ℕ) → (i j : ℕ) → ℤ
@@ -62,17 +57,20 @@ pub record Written (m at : ℕ) (z o : List ℕ) (before soft : List ℤ) : Type
   pub done : (j : ℕ) → j < m → getD soft (at + j) (pos 0) ≡ pos (2 * lane o j) -ℤ pos (2 * lane z j)
   pub kept : (i : ℕ) → i < at → getD soft i (pos 0) ≡ getD before i (pos 0)
 
--- buffers for the soft outputs and the word
-pub record Outputs (m n size : ℕ) (g zero one word : List ℕ) (soft : List ℤ) : Type 0 where
-  pub length-g : length g ≡ size * 4
-  pub length-zero : length zero ≡ n * 2 * 4
-  pub length-one : length one ≡ n * 2 * 4
-  pub length-word : length word ≡ n
-  pub length-soft : length soft ≡ n * m
+-- room for the marginals, all CAP
+pub record Marginal-room (s : Shape) (g : List ℕ) : Type 0 where
+  pub length-g : length g ≡ s .size * 4
+  pub caps : (i : ℕ) → i < s .size * 4 → getD g i 0 ≡ cap
+
+-- room for the least costs with a bit held, and the outputs
+pub record Outputs (s : Shape) (zero one word : List ℕ) (soft : List ℤ) : Type 0 where
+  pub length-zero : length zero ≡ s .n * 2 * 4
+  pub length-one : length one ≡ s .n * 2 * 4
+  pub length-word : length word ≡ s .n
+  pub length-soft : length soft ≡ s .n * s .m
 
 -- an accepted call
-pub record Accepted (code : ℕ) (row : List ℤ) (word soft : ℕ) : Type 0 where
-  pub long-row : length row ≡ row-long (width code)
-  pub good-row : row-good row ≡ true
-  pub long-word : word ≡ long (width code)
-  pub long-soft : soft ≡ row-long (width code)
+pub record Accepted (s : Shape) (row : List ℤ) (word soft : ℕ) : Type 0 where
+  pub input : Input s row
+  pub long-word : word ≡ s .n
+  pub long-soft : soft ≡ s .n * s .m

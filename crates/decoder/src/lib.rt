@@ -1,15 +1,17 @@
 // The decoder with its soft outputs. `decode` is offered to callers: it takes any input and promises what specs/Calls.antt says, in the words of
 // the crate metric; how the search goes is no part of the promise.
+use code::Shape;
 ghost use mathlib.Core.Path.{_≡_};
-ghost use Prim.Native.Nat.{_+_, _*_, _^_, _<_, _≤_};
+ghost use Prim.Native.Nat.{_+_, _*_, _^_, _<_};
 ghost use lib.ListN.{length};
 ghost use lib.IntN.{pos, _-ℤ_};
-ghost use Rattle.code.specs.Code.{width, roots, is-codeword};
+ghost use Rattle.code.specs.Code.{is-codeword};
+ghost use Rattle.code.specs.Within.{Coded};
 ghost use Rattle.metric.specs.Metric.{Decoded};
 ghost use Rattle.glue.specs.Walk.{Marginals};
-ghost use Rattle.search.specs.Within.{cap, big, Headed, Input, Buffers, Tabled};
+ghost use Rattle.search.specs.Within.{cap, big, tuples-of, count-of, Headed, Input, Buffers, Tabled};
 ghost use Rattle.decoder.specs.Calls.{decode-refusal, Decode-says};
-ghost use Rattle.decoder.specs.Within.{Best, Softs, All, SoftRow, Written, SoftRows, Softened, Outputs, Accepted};
+ghost use Rattle.decoder.specs.Within.{Best, Softs, SoftRow, Written, SoftRows, Softened, Marginal-room, Outputs, Accepted};
 
 // 0 and the best metric, or the number of a refusal and 0.
 #[repr(C)]
@@ -18,28 +20,10 @@ pub struct Decoding {
     pub metric: i32,
 }
 
-// Every entry becomes CAP.
-fn clear(g: &mut [u16])
-    ensures { λ _. ⌜ (length (now (g .exit)) ≡ length (now (g .entry))) × All cap (now (g .exit)) ⌝ }
-{
-    let mut i = 0;
-    while i < g.len() {
-        g[i] = search::CAP;
-        i += 1;
-    }
-}
-
 // The least cost of a codeword, and a codeword that has it, from the tables.
 fn best_word(
-    code: u32,
-    m: u32,
-    r: u32,
-    q: u32,
-    n: usize,
-    size: usize,
-    count: usize,
+    shape: Shape,
     row: &[i16],
-    cs: &[u16],
     hs: &[u16],
     zs: &[u16],
     os: &[u16],
@@ -47,29 +31,32 @@ fn best_word(
     g: &mut [u16],
     word: &mut [u8],
 ) -> u32
-    requires { ⌜ Input code m r q n size count (now row) (now cs) ⌝ }
-    requires { ⌜ Tabled code q size (now row) (now hs) (now zs) (now os) (now t) ⌝ }
-    requires { ⌜ (length (now g) ≡ size * 4) × (length (now word) ≡ n) ⌝ }
-    ensures { λ x. ⌜ Best code size count (now (row .entry)) (now (t .entry)) (now (cs .entry)) (now (g .exit)) (now (word .exit)) x ⌝ }
+    requires { ⌜ Input shape (now row) ⌝ }
+    requires { ⌜ Tabled shape (now row) (now hs) (now zs) (now os) (now t) ⌝ }
+    requires { ⌜ Marginal-room shape (now g) × (length (now word) ≡ shape .n) ⌝ }
+    ensures { λ x. ⌜ Best shape (now (row .entry)) (now (t .entry)) (now (g .exit)) (now (word .exit)) x ⌝ }
 {
-    clear(g);
-    let least = glue::walk(t, size, cs, count, g, search::CAP);
+    let least = search::walk(shape, t, g);
     let at = least.at;
-    trellis::trace_word(t, q, size, hs, zs, os, search::TOP, search::BIG, at, word);
+    trellis::trace_word(
+        t,
+        shape.q,
+        shape.size,
+        hs,
+        zs,
+        os,
+        search::TOP,
+        search::BIG,
+        at,
+        word,
+    );
     least.total as u32
 }
 
 // The least costs with a 0 and with a 1 at each bit. The tables are used up.
 fn soft_costs(
-    code: u32,
-    m: u32,
-    r: u32,
-    q: u32,
-    n: usize,
-    size: usize,
-    count: usize,
+    shape: Shape,
     row: &[i16],
-    cs: &[u16],
     hs: &[u16],
     zs: &[u16],
     os: &[u16],
@@ -78,17 +65,17 @@ fn soft_costs(
     zero: &mut [u16],
     one: &mut [u16],
 )
-    requires { ⌜ Input code m r q n size count (now row) (now cs) ⌝ }
-    requires { ⌜ Tabled code q size (now row) (now hs) (now zs) (now os) (now t) ⌝ }
-    requires { ⌜ (length (now g) ≡ size * 4) × Marginals size count cap (now t) (now cs) (now g) ⌝ }
-    requires { ⌜ (length (now zero) ≡ n * 2 * 4) × (length (now one) ≡ n * 2 * 4) ⌝ }
-    ensures { λ _. ⌜ Softs code m n (now (row .entry)) (now (zero .exit)) (now (one .exit)) ⌝ }
+    requires { ⌜ Input shape (now row) ⌝ }
+    requires { ⌜ Tabled shape (now row) (now hs) (now zs) (now os) (now t) ⌝ }
+    requires { ⌜ (length (now g) ≡ shape .size * 4) × Marginals (shape .size) (count-of shape) cap (now t) (tuples-of shape) (now g) ⌝ }
+    requires { ⌜ (length (now zero) ≡ shape .n * 2 * 4) × (length (now one) ≡ shape .n * 2 * 4) ⌝ }
+    ensures { λ _. ⌜ Softs shape (now (row .entry)) (now (zero .exit)) (now (one .exit)) ⌝ }
 {
     glue::subtract(g, t);
     soft::pass(
         t,
-        q,
-        size,
+        shape.q,
+        shape.size,
         hs,
         zs,
         os,
@@ -146,15 +133,8 @@ fn soft_rows(m: u32, n: usize, zero: &[u16], one: &[u16], soft: &mut [i16])
 
 // A decoding, with every buffer lent.
 fn decode_with(
-    code: u32,
-    m: u32,
-    r: u32,
-    q: u32,
-    n: usize,
-    size: usize,
-    count: usize,
+    shape: Shape,
     row: &[i16],
-    cs: &[u16],
     hs: &[u16],
     zs: &mut [u16],
     os: &mut [u16],
@@ -165,193 +145,96 @@ fn decode_with(
     word: &mut [u8],
     soft: &mut [i16],
 ) -> i32
-    requires { ⌜ Input code m r q n size count (now row) (now cs) ⌝ }
-    requires { ⌜ Headed m r (now hs) ⌝ }
-    requires { ⌜ Buffers n size (now zs) (now os) (now t) ⌝ }
-    requires { ⌜ Outputs m n size (now g) (now zero) (now one) (now word) (now soft) ⌝ }
-    ensures { λ x. ⌜ Decoded (width code) (is-codeword (width code) (roots code)) (now (row .entry)) (now (word .exit)) x (now (soft .exit)) ⌝ }
+    requires { ⌜ Input shape (now row) ⌝ }
+    requires { ⌜ Headed (shape .m) (shape .r) (now hs) ⌝ }
+    requires { ⌜ Buffers shape (now zs) (now os) (now t) ⌝ }
+    requires { ⌜ Marginal-room shape (now g) × Outputs shape (now zero) (now one) (now word) (now soft) ⌝ }
+    ensures { λ x. ⌜ Decoded (shape .m) (is-codeword (shape .m) (shape .r)) (now (row .entry)) (now (word .exit)) x (now (soft .exit)) ⌝ }
 {
-    search::of_row(code, m, r, q, n, size, count, row, cs, hs, zs, os, t);
-    let least = best_word(
-        code,
-        m,
-        r,
-        q,
-        n,
-        size,
-        count,
-        row,
-        cs,
-        hs,
-        zs,
-        os,
-        t,
-        g,
-        word,
-    );
-    soft_costs(
-        code,
-        m,
-        r,
-        q,
-        n,
-        size,
-        count,
-        row,
-        cs,
-        hs,
-        zs,
-        os,
-        t,
-        g,
-        zero,
-        one,
-    );
-    soft_rows(m, n, zero, one, soft);
+    search::of_row(shape, row, hs, zs, os, t);
+    let least = best_word(shape, row, hs, zs, os, t, g, word);
+    soft_costs(shape, row, hs, zs, os, t, g, zero, one);
+    soft_rows(shape.m, shape.n, zero, one, soft);
     minus(search::weight(row), 2 * least)
 }
 
-// What a call is refused by, 0 for nothing.
-fn decode_refusal(code: u32, row: &[i16], word: usize, soft: usize) -> u32
-    ensures { λ r. ⌜ r ≡ decode-refusal code (now (row .entry)) word soft ⌝ }
+// The same with the tables lent, and room of its own for the rest.
+fn decode_in(shape: Shape, row: &[i16], t: &mut [u16], word: &mut [u8], soft: &mut [i16]) -> i32
+    requires { ⌜ Accepted shape (now row) (length (now word)) (length (now soft)) ⌝ }
+    requires { ⌜ length (now t) ≡ shape .n * (shape .size * 4) + shape .size * 4 ⌝ }
+    ensures { λ x. ⌜ Decoded (shape .m) (is-codeword (shape .m) (shape .r)) (now (row .entry)) (now (word .exit)) x (now (soft .exit)) ⌝ }
 {
-    let m = code::width_of(code);
-    let long = code::row_long_of(m);
-    let contents = refusal::unless(metric::is_row(row), 5, 0);
-    let soft_room = refusal::unless(soft == long, 4, contents);
-    let word_room = refusal::unless(word == code::long_of(m), 4, soft_room);
-    let lengths = refusal::unless(row.len() == long, 2, word_room);
-    refusal::unless(code::is_code(code), 1, lengths)
-}
-
-// Each code with buffers of its own sizes: n + 1 tables of four layers, 2^q rows each.
-fn decode_1(row: &[i16], word: &mut [u8], soft: &mut [i16]) -> i32
-    requires { ⌜ Accepted 1 (now row) (length (now word)) (length (now soft)) ⌝ }
-    ensures { λ x. ⌜ Decoded (width 1) (is-codeword (width 1) (roots 1)) (now (row .entry)) (now (word .exit)) x (now (soft .exit)) ⌝ }
-{
-    let all = configurations::all_of_code_1();
-    let hs = search::columns_of_code_1();
-    let mut zs = [0u16; 28];
-    let mut os = [0u16; 28];
-    let mut zero = [0u16; 56];
-    let mut one = [0u16; 56];
-    let mut t = [0u16; 256];
-    let mut g = [0u16; 32];
+    let columns = search::columns(shape);
+    let hs: &[u16] = &columns;
+    let mut zs_room = [0u16; 60];
+    let zs: &mut [u16] = &mut zs_room;
+    let mut os_room = [0u16; 60];
+    let os: &mut [u16] = &mut os_room;
+    let mut g_room = [search::CAP; 256];
+    let g: &mut [u16] = &mut g_room;
+    let mut zero_room = [0u16; 120];
+    let zero: &mut [u16] = &mut zero_room;
+    let mut one_room = [0u16; 120];
+    let one: &mut [u16] = &mut one_room;
+    let n = shape.n;
+    let places = n * 4;
+    let halves = n * 2 * 4;
+    let states = shape.size * 4;
     decode_with(
-        1,
-        3,
-        2,
-        3,
-        7,
-        8,
-        8,
+        shape,
         row,
-        &all,
-        &hs,
-        &mut zs,
-        &mut os,
-        &mut t,
-        &mut g,
-        &mut zero,
-        &mut one,
+        &hs[..n],
+        &mut zs[..places],
+        &mut os[..places],
+        t,
+        &mut g[..states],
+        &mut zero[..halves],
+        &mut one[..halves],
         word,
         soft,
     )
 }
 
-fn decode_2(row: &[i16], word: &mut [u8], soft: &mut [i16]) -> i32
-    requires { ⌜ Accepted 2 (now row) (length (now word)) (length (now soft)) ⌝ }
-    ensures { λ x. ⌜ Decoded (width 2) (is-codeword (width 2) (roots 2)) (now (row .entry)) (now (word .exit)) x (now (soft .exit)) ⌝ }
+// A decoding of an accepted call. The tables have two sizes, as room for the largest would cost the smallest code a tenth of its instructions; the
+// larger is filled with BIG, which takes a tenth of what zeroing takes, and nothing reads it before it is written.
+fn decode_accepted(shape: Shape, row: &[i16], word: &mut [u8], soft: &mut [i16]) -> i32
+    requires { ⌜ Accepted shape (now row) (length (now word)) (length (now soft)) ⌝ }
+    ensures { λ x. ⌜ Decoded (shape .m) (is-codeword (shape .m) (shape .r)) (now (row .entry)) (now (word .exit)) x (now (soft .exit)) ⌝ }
 {
-    let all = configurations::all_of_code_2();
-    let hs = search::columns_of_code_2();
-    let mut zs = [0u16; 28];
-    let mut os = [0u16; 28];
-    let mut zero = [0u16; 56];
-    let mut one = [0u16; 56];
-    let mut t = [search::BIG; 2048];
-    let mut g = [0u16; 256];
-    decode_with(
-        2,
-        3,
-        4,
-        6,
-        7,
-        64,
-        64,
-        row,
-        &all,
-        &hs,
-        &mut zs,
-        &mut os,
-        &mut t,
-        &mut g,
-        &mut zero,
-        &mut one,
-        word,
-        soft,
-    )
+    if shape.size == 8 {
+        let mut t = [0u16; 256];
+        return decode_in(shape, row, &mut t, word, soft);
+    }
+    let mut room = [search::BIG; 2048];
+    let t: &mut [u16] = &mut room;
+    let long = shape.n * (shape.size * 4) + shape.size * 4;
+    decode_in(shape, row, &mut t[..long], word, soft)
 }
 
-fn decode_3(row: &[i16], word: &mut [u8], soft: &mut [i16]) -> i32
-    requires { ⌜ Accepted 3 (now row) (length (now word)) (length (now soft)) ⌝ }
-    ensures { λ x. ⌜ Decoded (width 3) (is-codeword (width 3) (roots 3)) (now (row .entry)) (now (word .exit)) x (now (soft .exit)) ⌝ }
+// What a call is refused by after its code, 0 for nothing.
+fn decode_refusal(shape: Shape, row: &[i16], word: usize, soft: usize) -> u32
+    requires { ⌜ Coded shape ⌝ }
+    ensures { λ r. ⌜ r ≡ decode-refusal (shape .m) (now (row .entry)) word soft ⌝ }
 {
-    let all = configurations::all_of_code_3();
-    let hs = search::columns_of_code_3();
-    let mut zs = [0u16; 60];
-    let mut os = [0u16; 60];
-    let mut zero = [0u16; 120];
-    let mut one = [0u16; 120];
-    let mut t = [0u16; 1024];
-    let mut g = [0u16; 64];
-    decode_with(
-        3,
-        4,
-        2,
-        4,
-        15,
-        16,
-        256,
-        row,
-        &all,
-        &hs,
-        &mut zs,
-        &mut os,
-        &mut t,
-        &mut g,
-        &mut zero,
-        &mut one,
-        word,
-        soft,
-    )
+    let contents = refusal::unless(metric::is_row(metric::BOUND, row), 5, 0);
+    let soft_room = refusal::unless(soft == shape.bits, 4, contents);
+    let word_room = refusal::unless(word == shape.n, 4, soft_room);
+    refusal::unless(row.len() == shape.bits, 2, word_room)
 }
 
 // The decoder: a best word, its metric and the soft outputs of a row.
 pub fn decode(code: u32, row: &[i16], word: &mut [u8], soft: &mut [i16]) -> Decoding
     ensures { λ r. ⌜ Decode-says code (now (row .entry)) r (now (word .entry)) (now (word .exit)) (now (soft .entry)) (now (soft .exit)) ⌝ }
 {
-    let number = decode_refusal(code, row, word.len(), soft.len());
+    let chosen = code::by_number(code);
+    let shape = chosen.shape;
+    let number = refusal::first(
+        chosen.number,
+        decode_refusal(shape, row, word.len(), soft.len()),
+    );
     if number != 0 {
         return Decoding { number, metric: 0 };
     }
-    if code == 1 {
-        let x = decode_1(row, word, soft);
-        return Decoding {
-            number: 0,
-            metric: x,
-        };
-    }
-    if code == 2 {
-        let x = decode_2(row, word, soft);
-        return Decoding {
-            number: 0,
-            metric: x,
-        };
-    }
-    let x = decode_3(row, word, soft);
-    Decoding {
-        number: 0,
-        metric: x,
-    }
+    let metric = decode_accepted(shape, row, word, soft);
+    Decoding { number: 0, metric }
 }

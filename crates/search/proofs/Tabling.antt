@@ -35,6 +35,11 @@ pub room-small : {s : Shape} → Coded s → s .n * (s .size * 4) + s .size * 4 
 unfolding room-of width roots long
 room-small z = rw (room-is z) (codes (λ c. room-of c ≤ 2048) (omega arith) (omega arith) (omega arith) (z .code) (z .code-is))
 
+pub size-small : {s : Shape} → Coded s → s .size ≤ 64
+unfolding width roots
+size-small z =
+    rw (z .size-is, z .q-is, z .m-is, z .r-is) (codes (λ c. 2 ^ syndrome-long (width c) (roots c) ≤ 64) (omega arith) (omega arith) (omega arith) (z .code) (z .code-is))
+
 pub room-eight : {s : Shape} → Coded s → s .size ≡ 8 → s .n * (s .size * 4) + s .size * 4 ≡ 256
 unfolding room-of width roots long
 room-eight z e =

@@ -117,14 +117,7 @@ pub fn cost_rows(m: u32, n: usize, row: &[i16], zs: &mut [u16], os: &mut [u16])
 }
 
 // The layers' tables of a row.
-pub fn of_row(
-    shape: Shape,
-    row: &[i16],
-    hs: &[u16],
-    zs: &mut [u16],
-    os: &mut [u16],
-    t: &mut [u16],
-)
+pub fn of_row(shape: Shape, row: &[i16], hs: &[u16], zs: &mut [u16], os: &mut [u16], t: &mut [u16])
     requires { ⌜ Input shape (now row) ⌝ }
     requires { ⌜ Headed (shape .m) (shape .r) (now hs) ⌝ }
     requires { ⌜ Buffers shape (now zs) (now os) (now t) ⌝ }

@@ -1,32 +1,19 @@
 -- `decoder::decode_refusal` meets its contract.
 -- Assumes nothing.
-use mathlib.Core.Path.{_≡_}
-use mathlib.Core.Bool.{true}
 use borrow.Author.Needs.{needs}
-use Rattle.field.specs.Field.{width-good}
-use Rattle.code.proofs.Accepted.{width-fine}
 use Rattle.decoder.specs.Calls.{decode-refusal}
 use Rattle.decoder.proofs.decode_refusal.Statement.{statement}
 use Rattle.decoder.proofs.decode_refusal.Tie as tie
 
-fine : (c : tie.After-width-of) → width-good (c .width-of .result) ≡ true
-fine c = rw (c .width-of .ensures) (width-fine _)
-
 returns : tie.Need-returns
 unfolding decode-refusal
-returns c = rw
-    (c .unless5 .ensures, c .before .is-code .ensures, c .before .before .unless4 .ensures, c .before .before .before .unless3 .ensures, c .before .before .before .before .long-of .ensures, c .before .before .before .before .before .unless2 .ensures, c .before .before .before .before .before .before .unless .ensures, c .before .before .before .before .before .before .before .is-row .ensures, c .before .before .before .before .before .before .before .before .row-long-of .ensures, c .before .before .before .before .before .before .before .before .before .width-of .ensures)
+returns c = cc
 
 pub decode-refusal-spec : {M : Type 1} → statement M
 decode-refusal-spec =
     tie.close
     (tie.spec
     (λ c κs. search needs)
-    (λ c κs. fine c)
-    (λ c κs. search needs)
-    (λ c κs. search needs)
-    (λ c κs. search needs)
-    (λ c κs. fine (c .before .before .before .before))
     (λ c κs. search needs)
     (λ c κs. search needs)
     (λ c κs. search needs)

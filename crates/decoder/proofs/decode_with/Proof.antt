@@ -1,99 +1,60 @@
 -- `decoder::decode_with` meets its contract.
 -- Assumes nothing.
-use mir.Facts.{toZ-ofZ}
-use mir.Val.{toZ, ofZ}
-use mir.Syntax.{w32}
 use mathlib.Core.Path.{_∙_}
+use Prim.Native.Nat.{_≤_}
 use native.Mathlib.Omega.{arith}
 use borrow.Author.Needs.{needs}
-use Rattle.decoder.proofs.Decodings.{rows-ok, row-60, least-small, weight-small, decoding}
+use mir.Facts.{toZ-ofZ}
+use Rattle.decoder.proofs.Decodings.{row-60, least-small, weight-small, rows-ok, decoding}
 use Rattle.decoder.proofs.decode_with.Statement.{statement}
 use Rattle.decoder.proofs.decode_with.Tie as tie
 
-of-row-requires : tie.Need-of-row-requires
-of-row-requires c κs = let s = c .before .before .before .before .before .before .before .before .before .before .before .before in
-    let a = s .args in
-    let p = s .pre in
-    (p .0, (p .1 .0, p .1 .1 .0))
+abbrev start : tie.After-of-row → tie.Start
+start c = c .before .before .before .before .before .before .before .before .before .before .before .before
+
+-- from the end, what was called
+abbrev tabled : tie.After-best-word → tie.After-of-row
+tabled c = c .before .before .before .before .before .before .before .before .before .before .before .before
+
+abbrev found : tie.After-soft-costs → tie.After-best-word
+found c = c .before .before .before .before .before .before .before .before .before .before .before
+
+abbrev held : tie.After-weight → tie.After-soft-costs
+held c = c .before .before .before .before .before .before .before .before .before .before .before .before
 
 best-word-requires : tie.Need-best-word-requires
-best-word-requires c κs = let s = c .before .before .before .before .before .before .before .before .before .before .before .before .before .before .before .before .before .before .before .before .before .before .before .before in
-    let a = s .args in
-    let p = s .pre in
-    let t = c .before .before .before .before .before .before .before .before .before .before .before .of-row in
-    (p .0, (t .ensures, (p .1 .1 .1 .length-g, p .1 .1 .1 .length-word)))
+best-word-requires c κs = let t = c .before .before .before .before .before .before .before .before .before .before .before in let p = start t .pre in (p .0, (t .of-row .ensures, (p .1 .1 .1 .0, p .1 .1 .1 .1 .length-word)))
 
 soft-costs-requires : tie.Need-soft-costs-requires
-soft-costs-requires c κs = let s = c .before .before .before .before .before .before .before .before .before .before .before .before .before .before .before .before .before .before .before .before .before .before .before .before .before .before .before .before .before .before .before .before .before .before .before in
-    let a = s .args in
-    let p = s .pre in
-    let t = c .before .before .before .before .before .before .before .before .before .before .before .before .before .before .before .before .before .before .before .before .before .before .of-row in
-    let b = c .before .before .before .before .before .before .before .before .before .before .best-word in
-    (p .0, (t .ensures, ((b .kept .1 .1 .1 .1 .1 .1 .1 .1 .1 .1 .1 .1 .1 .0 ∙ p .1 .1 .1 .length-g, b .ensures .marginals), (p .1 .1 .1 .length-zero, p .1 .1 .1 .length-one))))
+soft-costs-requires c κs = let b = c .before .before .before .before .before .before .before .before .before .before in let t = tabled b in let p = start t .pre in let o = p .1 .1 .1 in
+    (p .0, (t .of-row .ensures, ((b .best-word .kept .1 .1 .1 .1 .1 .1 .0 ∙ o .0 .length-g, b .best-word .ensures .marginals), (o .1 .length-zero, o .1 .length-one))))
 
 soft-rows-requires : tie.Need-soft-rows-requires
-soft-rows-requires c κs = let s = c .before .before .before .before .before .before .before .before .before .before .before .before .before .before .before .before .before .before .before .before .before .before .before .before .before .before .before .before .before .before .before .before .before .before .before .before .before .before .before .before .before .before .before .before .before in
-    let a = s .args in
-    let p = s .pre in
-    let x = c .before .before .before .before .before .before .before .before .before .soft-costs in
-    rows-ok (a .code) (a .m) (a .r) (a .q) (a .n) (a .size) (a .count) (a .row .now) (a .cs .now) (p .0) (x .last .1 .1 .1 .1 .1 .1 .1 .1 .1 .1 .1 .1 .1 .1 .0) (x .last .1 .1 .1 .1 .1 .1 .1 .1 .1 .1 .1 .1 .1 .1 .1 .0) (a .soft .now) (x .kept .1 .1 .1 .1 .1 .1 .1 .1 .1 .1 .1 .1 .1 .1 .0 ∙ p .1 .1 .1 .length-zero) (x .kept .1 .1 .1 .1 .1 .1 .1 .1 .1 .1 .1 .1 .1 .1 .1 .0 ∙ p .1 .1 .1 .length-one) (p .1 .1 .1 .length-soft) (x .ensures)
+soft-rows-requires c κs = let x = c .before .before .before .before .before .before .before .before .before in let p = start (tabled (found x)) .pre in let o = p .1 .1 .1 .1 in
+    rows-ok (p .0) (x .soft-costs .kept .1 .1 .1 .1 .1 .1 .1 .0 ∙ o .length-zero) (x .soft-costs .kept .1 .1 .1 .1 .1 .1 .1 .1 .0 ∙ o .length-one) (o .length-soft) (x .soft-costs .ensures)
 
-weight-requires : tie.Need-weight-requires
-weight-requires c κs = let s = c .before .before .before .before .before .before .before .before .before .before .before .before .before .before .before .before .before .before .before .before .before .before .before .before .before .before .before .before .before .before .before .before .before .before .before .before .before .before .before .before .before .before .before .before .before .before .before in
-    let a = s .args in
-    let p = s .pre in
-    (p .0 .good-row, row-60 (a .code) (a .m) (a .r) (a .q) (a .n) (a .size) (a .count) (a .row .now) (a .cs .now) (p .0))
-
-mul-minus : tie.Need-mul-minus
-mul-minus c = let s = c .before .before .before .before .before .before .before .before .before .before .before .before .before .before .before .before .before .before .before .before .before .before .before .before .before .before .before .before .before .before .before .before .before .before .before .before .before .before .before .before .before .before .before .before .before .before .before .before in
-    let a = s .args in
-    let p = s .pre in
-    let t = c .before .before .before .before .before .before .before .before .before .before .before .before .before .before .before .before .before .before .before .before .before .before .before .before .before .before .before .before .before .before .before .before .before .before .before .of-row in
-    let b = c .before .before .before .before .before .before .before .before .before .before .before .before .before .before .before .before .before .before .before .before .before .before .before .best-word in
-    record { fits = omega (arith, least-small (a .code) (a .m) (a .r) (a .q) (a .n) (a .size) (a .count) (a .row .now) (a .cs .now) (p .0) (t .last .1 .1 .1 .1 .1 .1 .1 .1 .1 .1 .1 .1 .0) (a .cs .now) (b .last .1 .1 .1 .1 .1 .1 .1 .1 .1 .1 .1 .1 .1 .0) (b .last .1 .1 .1 .1 .1 .1 .1 .1 .1 .1 .1 .1 .1 .1 .0) (b .result) (b .ensures)) }
-
-minus-requires : tie.Need-minus-requires
-minus-requires c κs = let s = c .before .before .before .before .before .before .before .before .before .before .before .before .before .before .before .before .before .before .before .before .before .before .before .before .before .before .before .before .before .before .before .before .before .before .before .before .before .before .before .before .before .before .before .before .before .before .before .before in
-    let a = s .args in
-    let p = s .pre in
-    let t = c .before .before .before .before .before .before .before .before .before .before .before .before .before .before .before .before .before .before .before .before .before .before .before .before .before .before .before .before .before .before .before .before .before .before .before .of-row in
-    let b = c .before .before .before .before .before .before .before .before .before .before .before .before .before .before .before .before .before .before .before .before .before .before .before .best-word in
-    (omega (arith, c .weight .ensures, weight-small (a .code) (a .m) (a .r) (a .q) (a .n) (a .size) (a .count) (a .row .now) (a .cs .now) (p .0)), omega (arith, least-small (a .code) (a .m) (a .r) (a .q) (a .n) (a .size) (a .count) (a .row .now) (a .cs .now) (p .0) (t .last .1 .1 .1 .1 .1 .1 .1 .1 .1 .1 .1 .1 .0) (a .cs .now) (b .last .1 .1 .1 .1 .1 .1 .1 .1 .1 .1 .1 .1 .1 .0) (b .last .1 .1 .1 .1 .1 .1 .1 .1 .1 .1 .1 .1 .1 .1 .0) (b .result) (b .ensures)))
-
-same-length : tie.Need-same-length
-same-length c = c .before .before .before .before .before .before .before .before .before .before .before .before .before .before .before .before .before .before .before .before .before .before .before .before .before .before .before .before .before .before .before .before .before .before .before .before .of-row .kept .1 .1 .1 .1 .1 .1 .1 .1 .1 .1 .0
-
-same-length-2 : tie.Need-same-length-2
-same-length-2 c = c .before .before .before .before .before .before .before .before .before .before .before .before .before .before .before .before .before .before .before .before .before .before .before .before .before .before .before .before .before .before .before .before .before .before .before .before .of-row .kept .1 .1 .1 .1 .1 .1 .1 .1 .1 .1 .1 .0
-
-same-length-3 : tie.Need-same-length-3
-same-length-3 c = c .before .before .before .before .before .before .before .before .before .before .before .before .before .soft-costs .kept .1 .1 .1 .1 .1 .1 .1 .1 .1 .1 .1 .1 .0 ∙ c .before .before .before .before .before .before .before .before .before .before .before .before .before .before .before .before .before .before .before .before .before .before .before .before .before .before .before .before .before .before .before .before .before .before .before .before .of-row .kept .1 .1 .1 .1 .1 .1 .1 .1 .1 .1 .1 .1 .0
+small : (c : tie.After-weight) → found (held c) .best-word .result ≤ 7620
+small c = let b = found (held c) in least-small (start (tabled b) .pre .0) (b .best-word .ensures)
 
 returns : tie.Need-returns
-returns c = let s = c .before .before .before .before .before .before .before .before .before .before .before .before .before .before .before .before .before .before .before .before .before .before .before .before .before .before .before .before .before .before .before .before .before .before .before .before .before .before .before .before .before .before .before .before .before .before .before .before .before in
-    let a = s .args in
-    let p = s .pre in
-    let t = c .before .before .before .before .before .before .before .before .before .before .before .before .before .before .before .before .before .before .before .before .before .before .before .before .before .before .before .before .before .before .before .before .before .before .before .before .of-row in
-    let b = c .before .before .before .before .before .before .before .before .before .before .before .before .before .before .before .before .before .before .before .before .before .before .before .before .best-word in
-    let x = c .before .before .before .before .before .before .before .before .before .before .before .before .before .soft-costs in
-    let y = c .before .before .before .soft-rows in
-    decoding (a .code) (a .m) (a .r) (a .q) (a .n) (a .size) (a .count) (a .row .now) (a .cs .now) (p .0) (t .last .1 .1 .1 .1 .1 .1 .1 .1 .1 .1 .1 .1 .0) (a .cs .now) (b .last .1 .1 .1 .1 .1 .1 .1 .1 .1 .1 .1 .1 .1 .0) (b .last .1 .1 .1 .1 .1 .1 .1 .1 .1 .1 .1 .1 .1 .1 .0) (b .result) (b .ensures) (x .last .1 .1 .1 .1 .1 .1 .1 .1 .1 .1 .1 .1 .1 .1 .0) (x .last .1 .1 .1 .1 .1 .1 .1 .1 .1 .1 .1 .1 .1 .1 .1 .0) (x .ensures) (a .soft .now) (y .last .1 .1 .1 .1 .0) (p .1 .1 .1 .length-soft) (y .ensures)
-    (toZ w32 (ofZ w32 (c .minus .result))) (c .minus .result) (c .before .weight .result) (toZ-ofZ (record { sfits = c .minus .ok })) (c .minus .ensures) (c .before .weight .ensures)
+returns c = let v = c .before in let x = held v in let b = found x in let p = start (tabled b) .pre in
+    decoding (p .0) (b .best-word .ensures) (x .soft-costs .ensures) (p .1 .1 .1 .1 .length-soft) (v .before .before .soft-rows .ensures)
+    (toZ-ofZ (record { sfits = c .minus .ok })) (c .minus .ensures) (v .weight .ensures)
 
 pub decode-with-spec : {M : Type 1} → statement M
 decode-with-spec =
     tie.close
     (tie.spec
-    of-row-requires
+    (λ c κs. search needs)
     best-word-requires
     soft-costs-requires
     soft-rows-requires
-    weight-requires
-    mul-minus
-    minus-requires
-    same-length
-    same-length-2
-    same-length-3
+    (λ c κs. let z = start (tabled (found (c .before .before .before .before .before .before .before .before .before .before .before))) .pre .0 in (z .good-row, row-60 z))
+    (λ c. omega (arith, small c))
+    (λ c κs. (omega (arith, c .weight .ensures, weight-small (start (tabled (found (held c))) .pre .0)), omega (arith, small c)))
+    (λ c. tabled (found (held (c .before))) .of-row .kept .1 .1 .1 .0)
+    (λ c. tabled (found (held (c .before))) .of-row .kept .1 .1 .1 .1 .0)
+    (λ c. let x = held (c .before) in x .soft-costs .kept .1 .1 .1 .1 .1 .0 ∙ tabled (found x) .of-row .kept .1 .1 .1 .1 .1 .0)
     (λ c. search needs)
     (λ c. search needs)
     (λ c. search needs)

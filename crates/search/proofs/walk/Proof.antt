@@ -34,9 +34,10 @@ walk-requires c κs = let a = c .before .before in let b = a .before in let s = 
 
 returns : tie.Need-returns
 unfolding configurations
-returns c = let w = c .before .before in let a = w .before .before .before in let b = a .before in let s = start3 b in let h = s .args .shape in
-    (walked-as h (h .size) cap (s .args .t .now) (is-3 b) refl (a .all-of-code-3 .ensures) (w .walk .ensures .0),
-    marginals-as h (h .size) cap (s .args .t .now) (is-3 b) refl (a .all-of-code-3 .ensures) (w .walk .last .1 .1 .1 .1 .0) (w .walk .ensures .1))
+returns c = let w = c .before .before in let a = w .before .before .before in let b = a .before in let s = start3 b in let h = s .args .shape in (
+  walked-as h (h .size) cap (s .args .t .now) (is-3 b) refl (a .all-of-code-3 .ensures) (w .walk .ensures .0),
+  marginals-as h (h .size) cap (s .args .t .now) (is-3 b) refl (a .all-of-code-3 .ensures) (w .walk .last .1 .1 .1 .1 .0) (w .walk .ensures .1),
+)
 
 walk-requires-2 : tie.Need-walk-requires-2
 unfolding configurations
@@ -45,9 +46,10 @@ walk-requires-2 c κs = let a = c .before .before in let b = a .before in let s 
 
 returns-2 : tie.Need-returns-2
 unfolding configurations
-returns-2 c = let w = c .before .before in let a = w .before .before .before in let b = a .before in let s = start1 b in let h = s .args .shape in
-    (walked-as h (h .size) cap (s .args .t .now) (is-1 b) refl (a .all-of-code-1 .ensures) (w .walk2 .ensures .0),
-    marginals-as h (h .size) cap (s .args .t .now) (is-1 b) refl (a .all-of-code-1 .ensures) (w .walk2 .last .1 .1 .1 .1 .0) (w .walk2 .ensures .1))
+returns-2 c = let w = c .before .before in let a = w .before .before .before in let b = a .before in let s = start1 b in let h = s .args .shape in (
+  walked-as h (h .size) cap (s .args .t .now) (is-1 b) refl (a .all-of-code-1 .ensures) (w .walk2 .ensures .0),
+  marginals-as h (h .size) cap (s .args .t .now) (is-1 b) refl (a .all-of-code-1 .ensures) (w .walk2 .last .1 .1 .1 .1 .0) (w .walk2 .ensures .1),
+)
 
 walk-requires-3 : tie.Need-walk-requires-3
 unfolding configurations
@@ -56,9 +58,10 @@ walk-requires-3 c κs = let a = c .before .before in let b = a .before in let s 
 
 returns-3 : tie.Need-returns-3
 unfolding configurations
-returns-3 c = let w = c .before .before in let a = w .before .before .before in let b = a .before in let s = start2 b in let h = s .args .shape in
-    (walked-as h (h .size) cap (s .args .t .now) (is-2 b) refl (a .all-of-code-2 .ensures) (w .walk3 .ensures .0),
-    marginals-as h (h .size) cap (s .args .t .now) (is-2 b) refl (a .all-of-code-2 .ensures) (w .walk3 .last .1 .1 .1 .1 .0) (w .walk3 .ensures .1))
+returns-3 c = let w = c .before .before in let a = w .before .before .before in let b = a .before in let s = start2 b in let h = s .args .shape in (
+  walked-as h (h .size) cap (s .args .t .now) (is-2 b) refl (a .all-of-code-2 .ensures) (w .walk3 .ensures .0),
+  marginals-as h (h .size) cap (s .args .t .now) (is-2 b) refl (a .all-of-code-2 .ensures) (w .walk3 .last .1 .1 .1 .1 .0) (w .walk3 .ensures .1),
+)
 
 pub walk-spec : {M : Type 1} → statement M
 walk-spec =

@@ -1,0 +1,63 @@
+-- `decoder::decode_in` meets its contract.
+-- Assumes nothing.
+use mathlib.Core.Path.{_≡_, sym}
+use Prim.Native.Nat.{_*_, _≤_}
+use native.Mathlib.Omega.{arith}
+use borrow.Author.Needs.{needs}
+use lib.Seq.{length-take-le}
+use Rattle.search.proofs.Tabling.{short, size-small}
+use Rattle.decoder.proofs.Refusals.{caps}
+use Rattle.decoder.proofs.decode_in.Statement.{statement}
+use Rattle.decoder.proofs.decode_in.Tie as tie
+
+-- the parts that are lent are parts of their rooms
+places : (s : tie.Start) → s .args .shape .n * 4 ≤ 60
+places s = omega (arith, short (s .pre .0 .input))
+
+halves : (s : tie.Start) → s .args .shape .n * 2 * 4 ≤ 120
+halves s = omega (arith, short (s .pre .0 .input))
+
+states : (s : tie.Start) → s .args .shape .size * 4 ≤ 256
+states s = omega (arith, size-small (s .pre .0 .input .coded))
+
+decode-with-requires : tie.Need-decode-with-requires
+decode-with-requires c κs = let s = c .before .before .before .before .before .before .before .before .before .before .before .before .before .before .before .before .before .before .before in let p = s .pre in (
+  p .0 .input,
+  (
+    c .before .before .before .before .before .before .before .before .before .before .before .before .before .before .before .before .columns .ensures,
+    (
+      record { length-zs = length-take-le _ _ (places s); length-os = length-take-le _ _ (places s); length-t = p .1 },
+      (
+        record { length-g = length-take-le _ _ (states s); caps = λ i h. caps _ i (states s) h },
+        record { length-zero = length-take-le _ _ (halves s); length-one = length-take-le _ _ (halves s); length-word = p .0 .long-word; length-soft = p .0 .long-soft },
+      ),
+    ),
+  ),
+)
+
+pub decode-in-spec : {M : Type 1} → statement M
+decode-in-spec =
+    tie.close
+    (tie.spec
+    (λ c κs. c .before .before .pre .0 .input .coded)
+    (λ c. search needs)
+    (λ c. search needs)
+    (λ c. search needs)
+    (λ c. search needs)
+    (λ c. search needs)
+    (λ c. search needs)
+    (λ c. record { fits = omega (arith, places (c .before .before .before .before .before .before .before .before .before)) })
+    (λ c. search needs)
+    (λ c. record { fits = omega (arith, halves (c .before .before .before .before .before .before .before .before .before)) })
+    (λ c. search needs)
+    (λ c. search needs)
+    (λ c. sym (length-take-le _ _ (places (c .before .before .before .before .before .before .before .before .before .before .before .before))))
+    (λ c. sym (length-take-le _ _ (places (c .before .before .before .before .before .before .before .before .before .before .before .before .before))))
+    (λ c. sym (length-take-le _ _ (states (c .before .before .before .before .before .before .before .before .before .before .before .before .before .before .before))))
+    (λ c. sym (length-take-le _ _ (halves (c .before .before .before .before .before .before .before .before .before .before .before .before .before .before .before .before))))
+    (λ c. sym (length-take-le _ _ (halves (c .before .before .before .before .before .before .before .before .before .before .before .before .before .before .before .before .before))))
+    decode-with-requires
+    (λ c. search needs)
+    (λ c. search needs)
+    (λ c. search needs)
+    (λ c. search needs))
