@@ -1,0 +1,22 @@
+-- `test_records::codes::read_gives` is safe and ends.
+-- Assumes nothing.
+use mathlib.Core.Path.{sym}
+use lib.Seq.{length-take-le}
+use borrow.Author.Needs.{needs}
+use Rattle.test_records.proofs.codes.read_gives.Statement.{statement}
+use Rattle.test_records.proofs.codes.read_gives.Tie as tie
+
+pub read-gives-spec : {M : Type 1} → statement M
+read-gives-spec =
+    tie.close
+    (tie.spec
+    (λ c κs. search needs)
+    (λ c κs. search needs)
+    (λ c. search needs)
+    (λ c. sym (length-take-le _ _ (search needs)))
+    (λ c. search needs)
+    (λ c. sym (length-take-le _ _ (search needs)))
+    (λ c. search needs)
+    (λ c. sym (length-take-le _ _ (search needs)))
+    (λ c κs. search needs)
+    (λ c. search needs))
