@@ -1,4 +1,5 @@
-// The fields: the tables of powers, inverses, and the refusals of the calls on elements.
+// The fields: the tables of powers, inverses, and the refusals of the calls on elements. An element is written as a number: its m, then
+// two hexadecimal digits for its value.
 use crate::tally::Tally;
 use field::Answer;
 use field::Element;
@@ -7,41 +8,33 @@ const POWERS_3: [u8; 7] = [1, 2, 4, 3, 6, 7, 5];
 
 const POWERS_4: [u8; 15] = [1, 2, 4, 8, 3, 6, 12, 11, 5, 10, 7, 14, 15, 13, 9];
 
+// The calls: an element is made; a sum; a product; an inverse; the product with the inverse.
+const NEW: u32 = 0;
+
+const SUM: u32 = 1;
+
+const PRODUCT: u32 = 2;
+
+const INVERSE: u32 = 3;
+
+const UNDONE: u32 = 4;
+
 pub fn agree() -> Tally {
-    table(3, &field::ANTILOG_3, &POWERS_3)
-        .plus(table(4, &field::ANTILOG_4, &POWERS_4))
-        .plus(answers())
-        .plus(refusals_alone())
-        .plus(refusals_of_two())
+    refusals(answers(tables()))
 }
 
-// A field's table of powers, the powers and their inverses.
-fn table(m: u32, antilogs: &[u8], listed: &[u8]) -> Tally {
-    powers(m, listed)
-        .plus(inverses(m, listed))
-        .with(check::same(antilogs, listed))
+fn tables() -> Tally {
+    let t = table(Tally::none(), 3, &field::ANTILOG_3, &POWERS_3);
+    table(t, 4, &field::ANTILOG_4, &POWERS_4)
 }
 
-// Each listed power times α is the next one, and the last times α is 1.
-fn powers(m: u32, listed: &[u8]) -> Tally {
-    let mut t = Tally::none();
+// A field's table of powers: each listed power times α is the next one, and the last times α is 1; the inverse of each has the product 1
+// with it.
+fn table(tally: Tally, m: u32, antilogs: &[u8], listed: &[u8]) -> Tally {
+    let mut t = tally.with(check::same(antilogs, listed));
     let mut i: usize = 0;
     while i < listed.len() {
-        t = t.with(is_next(m, listed[i], at_or_one(listed, i + 1)));
-        i += 1;
-    }
-    t
-}
-
-// The inverse of each listed power has the product 1 with it.
-fn inverses(m: u32, listed: &[u8]) -> Tally {
-    let mut t = Tally::none();
-    let mut i: usize = 0;
-    while i < listed.len() {
-        t = t.with(is_undone(Element {
-            m,
-            value: listed[i],
-        }));
+        t = power(t, m, listed[i], at_or_one(listed, i + 1));
         i += 1;
     }
     t
@@ -51,66 +44,72 @@ fn at_or_one(listed: &[u8], i: usize) -> u8 {
     if i < listed.len() { listed[i] } else { 1 }
 }
 
-fn is_next(m: u32, power: u8, next: u8) -> bool {
-    let alpha = Element { m, value: 2 };
-    is_element(Element { m, value: power }.product(alpha), m, next)
+fn power(t: Tally, m: u32, value: u8, next: u8) -> Tally {
+    let a = named(m, value);
+    let u = gives(t, PRODUCT, a, named(m, 2), 0, named(m, next));
+    gives(u, UNDONE, a, 0, 0, named(m, 1))
 }
 
-fn is_undone(e: Element) -> bool {
-    match e.inverse() {
-        Answer::Found(f) => is_element(e.product(f), e.m, 1),
-        Answer::Refused(_) => false,
-    }
+fn named(m: u32, value: u8) -> u64 {
+    (m as u64) * 256 + value as u64
 }
 
-fn is_element(a: Answer, m: u32, value: u8) -> bool {
-    match a {
-        Answer::Found(e) => e.m == m && e.value == value,
-        Answer::Refused(_) => false,
-    }
-}
-
-fn is_refusal(a: Answer, number: u32) -> bool {
-    match a {
-        Answer::Found(_) => false,
-        Answer::Refused(n) => n == number,
+fn element(a: u64) -> Element {
+    Element {
+        m: (a / 256 % 256) as u32,
+        value: (a % 256) as u8,
     }
 }
 
 // The inverse of 0 is given as 0.
-fn answers() -> Tally {
-    let three = Element { m: 3, value: 5 };
-    Tally::none()
-        .with(is_element(Element { m: 3, value: 0 }.inverse(), 3, 0))
-        .with(is_element(Element { m: 4, value: 0 }.inverse(), 4, 0))
-        .with(is_element(Element::new(3, 7), 3, 7))
-        .with(is_element(Element::new(4, 15), 4, 15))
-        .with(is_element(three.sum(Element { m: 3, value: 6 }), 3, 3))
-}
-
-// A wrong m meets 1, then a number not below 2^m meets 6.
-fn refusals_alone() -> Tally {
-    let large = Element { m: 3, value: 8 };
-    let neither = Element { m: 5, value: 200 };
-    Tally::none()
-        .with(is_refusal(Element::new(2, 1), 1))
-        .with(is_refusal(Element::new(5, 200), 1))
-        .with(is_refusal(Element::new(3, 8), 6))
-        .with(is_refusal(Element::new(4, 16), 6))
-        .with(is_refusal(neither.inverse(), 1))
-        .with(is_refusal(large.inverse(), 6))
+fn answers(tally: Tally) -> Tally {
+    let mut t = gives(tally, INVERSE, 0x300, 0, 0, 0x300);
+    t = gives(t, INVERSE, 0x400, 0, 0, 0x400);
+    t = gives(t, NEW, 0x307, 0, 0, 0x307);
+    t = gives(t, NEW, 0x40f, 0, 0, 0x40f);
+    gives(t, SUM, 0x305, 0x306, 0, 0x303)
 }
 
 // A wrong m or two different ones meet 1, then a number not below 2^m meets 6.
-fn refusals_of_two() -> Tally {
-    let three = Element { m: 3, value: 5 };
-    let four = Element { m: 4, value: 5 };
-    let large = Element { m: 3, value: 8 };
-    let neither = Element { m: 5, value: 200 };
-    Tally::none()
-        .with(is_refusal(three.sum(four), 1))
-        .with(is_refusal(large.sum(four), 1))
-        .with(is_refusal(three.sum(large), 6))
-        .with(is_refusal(large.product(three), 6))
-        .with(is_refusal(neither.product(neither), 1))
+fn refusals(tally: Tally) -> Tally {
+    let mut t = gives(tally, NEW, 0x201, 0, 1, 0);
+    t = gives(t, NEW, 0x5c8, 0, 1, 0);
+    t = gives(t, NEW, 0x308, 0, 6, 0);
+    t = gives(t, NEW, 0x410, 0, 6, 0);
+    t = gives(t, INVERSE, 0x5c8, 0, 1, 0);
+    t = gives(t, INVERSE, 0x308, 0, 6, 0);
+    t = gives(t, SUM, 0x305, 0x405, 1, 0);
+    t = gives(t, SUM, 0x308, 0x405, 1, 0);
+    t = gives(t, SUM, 0x305, 0x308, 6, 0);
+    t = gives(t, PRODUCT, 0x308, 0x305, 6, 0);
+    gives(t, PRODUCT, 0x5c8, 0x5c8, 1, 0)
+}
+
+// A call on one or two elements answers a number: 0 and an element, or a refusal's and none.
+fn gives(t: Tally, call: u32, a: u64, b: u64, number: u32, found: u64) -> Tally {
+    t.with(is_answer(answer(call, element(a), element(b)), number, found))
+}
+
+fn answer(call: u32, a: Element, b: Element) -> Answer {
+    match call {
+        NEW => Element::new(a.m, a.value),
+        SUM => a.sum(b),
+        PRODUCT => a.product(b),
+        INVERSE => a.inverse(),
+        _ => undone(a),
+    }
+}
+
+fn undone(a: Element) -> Answer {
+    match a.inverse() {
+        Answer::Found(b) => a.product(b),
+        Answer::Refused(n) => Answer::Refused(n),
+    }
+}
+
+fn is_answer(a: Answer, number: u32, found: u64) -> bool {
+    match a {
+        Answer::Found(e) => number == 0 && named(e.m, e.value) == found,
+        Answer::Refused(n) => n == number && found == 0,
+    }
 }

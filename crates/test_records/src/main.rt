@@ -4,6 +4,7 @@ mod decodings;
 mod fields;
 mod marks;
 mod paper;
+mod parts;
 mod samples;
 mod sheets;
 mod splits;

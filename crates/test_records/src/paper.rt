@@ -1,4 +1,5 @@
 // Document 01's sheet of 31 words: its questions, read one after another by a reader over it, are written again as the same bytes.
+use crate::parts;
 use crate::sheets;
 use crate::tally::Tally;
 
@@ -129,8 +130,8 @@ const PAPER: [u8; 124] = [
     240,
 ];
 
-pub fn agree() -> Tally {
-    rewritten(PAPER, 1).plus(rewritten(with_number_0(PAPER), 0))
+pub fn agree(t: Tally) -> Tally {
+    rewritten(rewritten(t, PAPER, 1), with_number_0(PAPER), 0)
 }
 
 // The first question's number is 0.
@@ -140,19 +141,20 @@ fn with_number_0(sheet: [u8; 124]) -> [u8; 124] {
     s
 }
 
-fn rewritten(sheet: [u8; 124], first: u32) -> Tally {
+// The questions are read one after another into their parts of the rows and of the words, which are then written.
+fn rewritten(tally: Tally, sheet: [u8; 124], first: u32) -> Tally {
     let mut row_room = [9i16; 63];
     let rows: &mut [i16] = &mut row_room;
     let mut word_room = [9u8; 21];
     let words: &mut [u8] = &mut word_room;
-    let a = read_one(&sheet, 0, first, rows, words);
-    let b = read_one(&sheet, 1, 2, rows, words);
-    let c = read_one(&sheet, 2, 3, rows, words);
-    a.plus(b).plus(c).plus(written(&sheet, first, rows, words))
+    let mut t = read_one(tally, &sheet, 0, first, rows, words);
+    t = read_one(t, &sheet, 1, 2, rows, words);
+    t = read_one(t, &sheet, 2, 3, rows, words);
+    written(t, &sheet, first, rows, words)
 }
 
-// Reads a question into its part of the rows and of the words.
 fn read_one(
+    t: Tally,
     sheet: &[u8; 124],
     at: usize,
     number: u32,
@@ -160,35 +162,16 @@ fn read_one(
     words: &mut [u8],
 ) -> Tally {
     let i = at % 3;
-    let a = i * 21;
-    let b = i * 7;
-    if rows.len() != 63 {
-        return Tally::none();
-    }
-    if words.len() != 21 {
-        return Tally::none();
-    }
-    read_into(
-        sheet,
-        at,
-        number,
-        &mut rows[a..a + 21],
-        &mut words[b..b + 7],
-    )
-}
-
-fn read_into(sheet: &[u8], at: usize, number: u32, row: &mut [i16], word: &mut [u8]) -> Tally {
+    let row = parts::of_row_mut(parts::past_row_mut(rows, i * 21), 21);
+    let word = parts::of_mut(parts::past_mut(words, i * 7), 7);
     let step = lent_reader::read_from(sheet, at, row, word);
     let answer = step.answer;
-    Tally::none()
-        .with(sheets::is_found(answer, 1, number))
-        .with(step.next == std::num::wrapping_add_usize(at, 1))
+    t.with(sheets::number_of(answer) == sheets::found(1, number))
+        .with(step.next == i + 1)
 }
 
-fn written(sheet: &[u8; 124], first: u32, rows: &[i16], words: &[u8]) -> Tally {
+fn written(t: Tally, sheet: &[u8; 124], first: u32, rows: &[i16], words: &[u8]) -> Tally {
     let mut again = [9u8; 124];
     let number = sheet_writer::write_sheet(&[1, 1, 1], &[first, 2, 3], rows, words, &mut again);
-    Tally::none()
-        .with(number == 0)
-        .with(check::same(&again, sheet))
+    t.with(number == 0).with(check::same(&again, sheet))
 }

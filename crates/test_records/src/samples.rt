@@ -1,4 +1,5 @@
 // The quantiser: the samples on record, the edges beside them, and the refusals in their order with the row kept.
+use crate::parts;
 use crate::tally::Tally;
 
 // Samples by their bits: the four on record (1.0, 1/64, -1/64, 3.984375), both zeros, both infinities, the least subnormal, the floats
@@ -52,25 +53,23 @@ const QUANTISED: [i16; 21] = [
 ];
 
 pub fn agree() -> Tally {
-    values(on_record()).plus(refusals(with_nan()))
+    refusals(values(on_record()), with_nan())
 }
 
 fn values(samples: [f32; 21]) -> Tally {
-    let row = QUANTISED;
-    let kept = [9i16; 21];
-    gives(1, samples, 0, row, 21)
-        .plus(gives(2, samples, 0, row, 21))
-        .plus(gives(4, samples, 1, kept, 21))
-        .plus(gives(3, samples, 2, kept, 21))
+    let mut t = gives(Tally::none(), 1, samples, 0, QUANTISED, 21);
+    t = gives(t, 2, samples, 0, QUANTISED, 21);
+    t = gives(t, 4, samples, 1, [9i16; 21], 21);
+    gives(t, 3, samples, 2, [9i16; 21], 21)
 }
 
 // The last of the samples is not a number.
-fn refusals(samples: [f32; 21]) -> Tally {
+fn refusals(tally: Tally, samples: [f32; 21]) -> Tally {
     let kept = [9i16; 21];
-    gives(1, samples, 7, kept, 21)
-        .plus(gives(0, samples, 1, kept, 21))
-        .plus(gives(3, samples, 2, kept, 21))
-        .plus(gives(1, samples, 4, kept, 20))
+    let mut t = gives(tally, 1, samples, 7, kept, 21);
+    t = gives(t, 0, samples, 1, kept, 21);
+    t = gives(t, 3, samples, 2, kept, 21);
+    gives(t, 1, samples, 4, kept, 20)
 }
 
 fn with_nan() -> [f32; 21] {
@@ -97,13 +96,16 @@ fn on_record() -> [f32; 21] {
 }
 
 // Quantising into so many nines answers a number and leaves the start of a row: a comparison a place.
-fn gives(code: u32, samples: [f32; 21], number: u32, row: [i16; 21], long: usize) -> Tally {
+fn gives(
+    t: Tally,
+    code: u32,
+    samples: [f32; 21],
+    number: u32,
+    row: [i16; 21],
+    long: usize,
+) -> Tally {
     let mut space = [9i16; 21];
-    let a = long % 22;
-    gives_in(code, &samples, number, &row[..a], &mut space[..a])
-}
-
-fn gives_in(code: u32, samples: &[f32], number: u32, row: &[i16], space: &mut [i16]) -> Tally {
-    let answer = quantiser::quantise(code, samples, space);
-    Tally::none().with(answer == number).places(space, row)
+    let answer = quantiser::quantise(code, &samples, parts::of_row_mut(&mut space, long));
+    t.with(answer == number)
+        .places(parts::of_row(&space, long), parts::of_row(&row, long))
 }

@@ -1,30 +1,63 @@
 // The split: coset leaders, configurations and BCH words, with source document 000's lists (5), (6) and (12), and the refusals.
 // Of its generator (10) holds what the roots decide: it lists the values at α^2, and at α the multiples of (1, α^4, α^2) take its place.
 // Of its matrix (4), which has 22 columns for 21 bits, the sum of the glue vectors is taken as (7) writes it, layer by layer.
-use crate::decodings;
+use crate::parts;
 use crate::tally::Tally;
 use crate::words;
 use field::Answer;
 use field::Element;
-use split::Splitting;
 
-// (5): the positions of the leaders' ones, as bits.
-const LEADERS: [u16; 8] = [0, 1, 2, 8, 4, 64, 16, 32];
+// (7), layer by layer, and the layers of the other word on record.
+const SUM_7: [u8; 21] = [
+    1,
+    0,
+    1,
+    0,
+    0,
+    0,
+    1,
+    1,
+    1,
+    0,
+    1,
+    0,
+    0,
+    0,
+    0,
+    0,
+    0,
+    0,
+    0,
+    0,
+    0,
+];
 
-// (6) and (12): a hexadecimal digit for each place.
-const CONFIGURATIONS: [u16; 8] = [
-    0x0000,
-    0x1640,
-    0x2730,
-    0x3170,
-    0x4560,
-    0x5320,
-    0x6250,
-    0x7410,
+const SUM_OTHER: [u8; 21] = [
+    1,
+    1,
+    1,
+    0,
+    0,
+    1,
+    0,
+    0,
+    0,
+    1,
+    0,
+    1,
+    1,
+    1,
+    1,
+    0,
+    1,
+    1,
+    1,
+    0,
+    0,
 ];
 
 pub fn agree() -> Tally {
-    counts().plus(lists()).plus(codewords()).plus(refusals())
+    refusals(codewords(lists(counts())))
 }
 
 fn counts() -> Tally {
@@ -34,46 +67,32 @@ fn counts() -> Tally {
         .with(configurations::configurations_of(3) == 256)
 }
 
-fn lists() -> Tally {
-    let mut t = Tally::none();
-    for k in 0..8 {
-        t = t.plus(entry(k));
-    }
+// The entries of each list: of (5) the position of the leader's one, as a bit, and of (6) and (12) the configuration.
+fn lists(tally: Tally) -> Tally {
+    let mut t = entry(tally, 0, 0, 0, 0);
+    t = entry(t, 1, 1, 6, 4);
+    t = entry(t, 2, 2, 7, 3);
+    t = entry(t, 3, 8, 1, 7);
+    t = entry(t, 4, 4, 5, 6);
+    t = entry(t, 5, 64, 3, 2);
+    t = entry(t, 6, 16, 2, 5);
+    t = entry(t, 7, 32, 4, 1);
     t.with(!is_generated_at_square([3, 6, 1, 0]))
 }
 
-// Entry k of each list.
-fn entry(k: usize) -> Tally {
+// Entry k of each list; a configuration starts with its number.
+fn entry(t: Tally, k: u16, leader: u16, second: u16, third: u16) -> Tally {
     let i = k % 8;
-    let c = configurations::configuration(1, i);
-    Tally::none()
-        .with(split::leader(1, i as u16) == LEADERS[i])
-        .with(is_tuple(c, CONFIGURATIONS[i]))
-        .with(is_generated(i as u16, c))
+    let c = configurations::configuration(1, i as usize);
+    t.with(split::leader(1, i) == leader)
+        .with(is_triple(c, k, second, third))
+        .with(is_triple(c, k, times(6, k), times(4, k)))
         .with(is_generated_at_square(c))
 }
 
-// Whether a tuple has the hexadecimal digits of a number for its places.
-fn is_tuple(c: [u16; 4], digits: u16) -> bool {
-    same_tuple(
-        c,
-        [
-            digits / 4096,
-            digits / 256 % 16,
-            digits / 16 % 16,
-            digits % 16,
-        ],
-    )
-}
-
-// Whether two tuples differ in no bit.
-fn same_tuple(a: [u16; 4], b: [u16; 4]) -> bool {
-    (a[0] ^ b[0]) | (a[1] ^ b[1]) | (a[2] ^ b[2]) | (a[3] ^ b[3]) == 0
-}
-
-// Whether a tuple is k times (1, α^4, α^2).
-fn is_generated(k: u16, c: [u16; 4]) -> bool {
-    same_tuple(c, [k, times(6, k), times(4, k), 0])
+// Whether a tuple of code 1 has these syndromes.
+fn is_triple(c: [u16; 4], first: u16, second: u16, third: u16) -> bool {
+    (c[0] ^ first) | (c[1] ^ second) | (c[2] ^ third) | c[3] == 0
 }
 
 // Whether the squares of a tuple, its values at α^2, are a multiple of (10): (α^3, α^4, 1).
@@ -101,101 +120,60 @@ fn value(a: Answer) -> u16 {
     }
 }
 
-// The second word has the layers of (7).
-fn codewords() -> Tally {
-    gives(
-            0x3610000,
-            0x5320,
-            [
-                1,
-                0,
-                1,
-                0,
-                0,
-                0,
-                1,
-                1,
-                1,
-                0,
-                1,
-                0,
-                0,
-                0,
-                0,
-                0,
-                0,
-                0,
-                0,
-                0,
-                0,
-            ],
-        )
-        .plus(gives(
-            0x1154622,
-            0x7410,
-            [
-                1,
-                1,
-                1,
-                0,
-                0,
-                1,
-                0,
-                0,
-                0,
-                1,
-                0,
-                1,
-                1,
-                1,
-                1,
-                0,
-                1,
-                1,
-                1,
-                0,
-                0,
-            ],
-        ))
-        .plus(gives(0x7777777, 0x0000, [1u8; 21]))
+// The first word has the layers of (7).
+fn codewords(tally: Tally) -> Tally {
+    let mut t = gives(tally, 0x3610000, 5, 3, 2, SUM_7);
+    t = gives(t, 0x1154622, 7, 4, 1, SUM_OTHER);
+    gives(t, 0x7777777, 0, 0, 0, [1u8; 21])
 }
 
 // Splitting a word of code 1 answers a configuration and leaves an output.
-fn gives(word: u64, tuple: u16, bch: [u8; 21]) -> Tally {
+fn gives(t: Tally, word: u64, first: u16, second: u16, third: u16, bch: [u8; 21]) -> Tally {
     let mut space = [9u8; 21];
-    answers(split_into(1, 7, word, &mut space), 0, tuple).with(check::same(&space, &bch))
+    splits(t, 1, 7, word, 0, first, second, third, &mut space).with(check::same(&space, &bch))
 }
 
-fn split_into(code: u32, n: usize, word: u64, space: &mut [u8]) -> Splitting {
+// The split of n symbols answers a number and a configuration.
+fn splits(
+    t: Tally,
+    code: u32,
+    n: usize,
+    word: u64,
+    number: u32,
+    first: u16,
+    second: u16,
+    third: u16,
+    space: &mut [u8],
+) -> Tally {
     let symbols = words::symbols(n, word);
-    let a = n % 17;
-    split::split(code, &symbols[..a], space)
-}
-
-fn answers(s: Splitting, number: u32, tuple: u16) -> Tally {
+    let s = split::split(code, parts::of(&symbols, n), space);
     let found = s.configuration;
-    Tally::none()
-        .with(s.number == number)
-        .with(is_tuple(found, tuple))
+    t.with(s.number == number)
+        .with(is_triple(found, first, second, third))
 }
 
 // Codes, lengths, symbols, and words that are no codewords.
-fn refusals() -> Tally {
-    refuses(4, 1, 0x8, 1, 1)
-        .plus(refuses(1, 6, 0x800000, 3, 1))
-        .plus(refuses(1, 7, 0x8000000, 4, 20))
-        .plus(refuses(1, 7, 0x8000000, 6, 21))
-        .plus(refuses(1, 7, 0x1000000, 8, 21))
-        .plus(refuses(2, 7, 0x3610000, 8, 21))
+fn refusals(tally: Tally) -> Tally {
+    let mut t = refuses(tally, 4, 1, 0x8, 1, 1);
+    t = refuses(t, 1, 6, 0x800000, 3, 1);
+    t = refuses(t, 1, 7, 0x8000000, 4, 20);
+    t = refuses(t, 1, 7, 0x8000000, 6, 21);
+    t = refuses(t, 1, 7, 0x1000000, 8, 21);
+    refuses(t, 2, 7, 0x3610000, 8, 21)
 }
 
 // Splitting n symbols into so many nines is refused by a number, with a configuration of zeros, and the output keeps its nines.
-fn refuses(code: u32, n: usize, word: u64, number: u32, long: usize) -> Tally {
+fn refuses(t: Tally, code: u32, n: usize, word: u64, number: u32, long: usize) -> Tally {
     let mut space = [9u8; 21];
-    let a = long % 22;
-    refuses_into(code, n, word, number, &mut space[..a])
-}
-
-fn refuses_into(code: u32, n: usize, word: u64, number: u32, space: &mut [u8]) -> Tally {
-    answers(split_into(code, n, word, space), number, 0x0000).with(decodings::are_nines(space))
+    splits(
+        t,
+        code,
+        n,
+        word,
+        number,
+        0,
+        0,
+        0,
+        parts::of_mut(&mut space, long),
+    ).with(check::same(&space, &[9u8; 21]))
 }

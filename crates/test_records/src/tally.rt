@@ -20,11 +20,9 @@ impl Tally {
         }
     }
 
-    pub fn plus(self, other: Tally) -> Tally {
-        Tally {
-            agreed: std::num::wrapping_add_u64(self.agreed, other.agreed),
-            total: std::num::wrapping_add_u64(self.total, other.total),
-        }
+    // Whether all agreed.
+    pub fn is_whole(self) -> bool {
+        self.agreed == self.total
     }
 
     // One comparison of a whole word with a symbol at every place.
