@@ -20,12 +20,8 @@ const INVERSE: u32 = 3;
 const UNDONE: u32 = 4;
 
 pub fn agree() -> Tally {
-    refusals(answers(tables()))
-}
-
-fn tables() -> Tally {
     let t = table(Tally::none(), 3, &field::ANTILOG_3, &POWERS_3);
-    table(t, 4, &field::ANTILOG_4, &POWERS_4)
+    answers(table(t, 4, &field::ANTILOG_4, &POWERS_4))
 }
 
 // A field's table of powers: each listed power times α is the next one, and the last times α is 1; the inverse of each has the product 1
@@ -61,18 +57,14 @@ fn element(a: u64) -> Element {
     }
 }
 
-// The inverse of 0 is given as 0.
+// The inverse of 0 is given as 0. A wrong m or two different ones meet 1, then a number not below 2^m meets 6.
 fn answers(tally: Tally) -> Tally {
     let mut t = gives(tally, INVERSE, 0x300, 0, 0, 0x300);
     t = gives(t, INVERSE, 0x400, 0, 0, 0x400);
     t = gives(t, NEW, 0x307, 0, 0, 0x307);
     t = gives(t, NEW, 0x40f, 0, 0, 0x40f);
-    gives(t, SUM, 0x305, 0x306, 0, 0x303)
-}
-
-// A wrong m or two different ones meet 1, then a number not below 2^m meets 6.
-fn refusals(tally: Tally) -> Tally {
-    let mut t = gives(tally, NEW, 0x201, 0, 1, 0);
+    t = gives(t, SUM, 0x305, 0x306, 0, 0x303);
+    t = gives(t, NEW, 0x201, 0, 1, 0);
     t = gives(t, NEW, 0x5c8, 0, 1, 0);
     t = gives(t, NEW, 0x308, 0, 6, 0);
     t = gives(t, NEW, 0x410, 0, 6, 0);

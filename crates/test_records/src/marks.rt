@@ -4,42 +4,32 @@ use crate::tally::Tally;
 use crate::words;
 
 pub fn agree() -> Tally {
-    refusals(other_rows(questions()))
-}
-
-// The three questions of the sheet on record: all 10, and the words of 0x30000000, 0x30000163 and 0x30000001.
-fn questions() -> Tally {
+    // The three questions of the sheet on record: all 10, and the words of 0x30000000, 0x30000163 and 0x30000001.
     let mut t = gives(Tally::none(), 10, 10, 0x0000000, 2, 0);
     t = gives(t, 10, 10, 0x3610000, 1, 100);
-    gives(t, 10, 10, 0x1000000, 0, 0)
-}
-
-// All -10; all 10 but bit 0 at -10; all zero, where every codeword is best.
-fn other_rows(tally: Tally) -> Tally {
-    let mut t = gives(tally, -10, -10, 0x7777777, 2, 0);
+    t = gives(t, 10, 10, 0x1000000, 0, 0);
+    // All -10; all 10 but bit 0 at -10; all zero, where every codeword is best.
+    t = gives(t, -10, -10, 0x7777777, 2, 0);
     t = gives(t, -10, -10, 0x0000000, 1, 420);
     t = gives(t, 10, -10, 0x0000000, 2, 0);
     t = gives(t, 10, -10, 0x1000000, 0, 0);
     t = gives(t, 0, 0, 0x7777777, 2, 0);
     t = gives(t, 0, 0, 0x1154622, 2, 0);
-    gives(t, 0, 0, 0x1000000, 0, 0)
-}
-
-// Codes, rows, words and values.
-fn refusals(tally: Tally) -> Tally {
-    let mut t = refuses(tally, 4, -128, 20, 6, 0x800000, 1);
+    t = gives(t, 0, 0, 0x1000000, 0, 0);
+    // Codes, rows, words and values.
+    t = refuses(t, 4, -128, 20, 6, 0x800000, 1);
     t = refuses(t, 0, -128, 20, 6, 0x800000, 1);
     t = refuses(t, 1, -128, 20, 6, 0x800000, 2);
     t = refuses(t, 3, -128, 21, 6, 0x800000, 2);
     t = refuses(t, 1, -128, 21, 6, 0x800000, 3);
     t = refuses(t, 1, -128, 21, 7, 0x8000000, 5);
-    refuses(t, 1, 10, 21, 7, 0x8000000, 6)
+    t = refuses(t, 1, 10, 21, 7, 0x8000000, 6);
+    t
 }
 
 // In code 1, a row of equal reliabilities but for the first, with a word: the verdict and the shortfall.
 fn gives(t: Tally, all: i16, first: i16, word: u64, verdict: u32, shortfall: i32) -> Tally {
-    let mut row = [all; 21];
-    row[0] = first;
+    let row = words::row(all, first, all);
     t.with(is_mark(1, &row, 7, word, 0, verdict, shortfall))
 }
 

@@ -1,7 +1,31 @@
-// Document 01's sheet of 31 words: its questions, read one after another by a reader over it, are written again as the same bytes.
-use crate::parts;
+// Document 01's sheet of 31 words: its questions are read one after another by a reader over it, and written again are the same bytes.
 use crate::sheets;
 use crate::tally::Tally;
+
+// The words of its questions, which are of code 1 and have 10 throughout their rows.
+const WORDS: [u8; 21] = [
+    0,
+    0,
+    0,
+    0,
+    0,
+    0,
+    0,
+    3,
+    6,
+    1,
+    0,
+    0,
+    0,
+    0,
+    1,
+    0,
+    0,
+    0,
+    0,
+    0,
+    0,
+];
 
 const PAPER: [u8; 124] = [
     1,
@@ -130,48 +154,40 @@ const PAPER: [u8; 124] = [
     240,
 ];
 
+// The sheet as it stands, and with the number 0 for the first question.
 pub fn agree(t: Tally) -> Tally {
-    rewritten(rewritten(t, PAPER, 1), with_number_0(PAPER), 0)
+    let mut other = PAPER;
+    other[0] = 0;
+    written(
+        read(written(read(t, &PAPER, 1), &PAPER, 1), &other, 0),
+        &other,
+        0,
+    )
 }
 
-// The first question's number is 0.
-fn with_number_0(sheet: [u8; 124]) -> [u8; 124] {
-    let mut s = sheet;
-    s[0] = 0;
-    s
+// The questions are read one after another, each in one comparison, and none is left behind them nor further on.
+fn read(tally: Tally, sheet: &[u8; 124], first: u64) -> Tally {
+    let mut t = tally.with(sheet::judge_sheet(sheet) == 103);
+    t = reads(t, sheet, 0, 0x100000000 + first % 2, 1, 10, 0x0000000);
+    t = reads(t, sheet, 1, 0x100000002, 2, 10, 0x3610000);
+    t = reads(t, sheet, 2, 0x100000003, 3, 10, 0x1000000);
+    t = reads(t, sheet, 3, 0, 3, 9, 0x9999999);
+    reads(t, sheet, 200, 0, 200, 9, 0x9999999)
 }
 
-// The questions are read one after another into their parts of the rows and of the words, which are then written.
-fn rewritten(tally: Tally, sheet: [u8; 124], first: u32) -> Tally {
-    let mut row_room = [9i16; 63];
-    let rows: &mut [i16] = &mut row_room;
-    let mut word_room = [9u8; 21];
-    let words: &mut [u8] = &mut word_room;
-    let mut t = read_one(tally, &sheet, 0, first, rows, words);
-    t = read_one(t, &sheet, 1, 2, rows, words);
-    t = read_one(t, &sheet, 2, 3, rows, words);
-    written(t, &sheet, first, rows, words)
+fn reads(t: Tally, sheet: &[u8], at: usize, answer: u64, next: usize, r: i16, word: u64) -> Tally {
+    t.with(sheets::reads(Tally::none(), sheet, at, answer, next, r, word).is_whole())
 }
 
-fn read_one(
-    t: Tally,
-    sheet: &[u8; 124],
-    at: usize,
-    number: u32,
-    rows: &mut [i16],
-    words: &mut [u8],
-) -> Tally {
-    let i = at % 3;
-    let row = parts::of_row_mut(parts::past_row_mut(rows, i * 21), 21);
-    let word = parts::of_mut(parts::past_mut(words, i * 7), 7);
-    let step = lent_reader::read_from(sheet, at, row, word);
-    let answer = step.answer;
-    t.with(sheets::number_of(answer) == sheets::found(1, number))
-        .with(step.next == i + 1)
-}
-
-fn written(t: Tally, sheet: &[u8; 124], first: u32, rows: &[i16], words: &[u8]) -> Tally {
+// Written, the questions are the same bytes.
+fn written(t: Tally, sheet: &[u8; 124], first: u32) -> Tally {
     let mut again = [9u8; 124];
-    let number = sheet_writer::write_sheet(&[1, 1, 1], &[first, 2, 3], rows, words, &mut again);
+    let number = sheet_writer::write_sheet(
+        &[1, 1, 1],
+        &[first, 2, 3],
+        &[10i16; 63],
+        &WORDS,
+        &mut again,
+    );
     t.with(number == 0).with(check::same(&again, sheet))
 }

@@ -20,10 +20,6 @@ pub fn past_mut<'a>(s: &'a mut [u8], n: usize) -> &'a mut [u8] {
     if n < s.len() { &mut s[n..] } else { s }
 }
 
-pub fn past_row_mut<'a>(s: &'a mut [i16], n: usize) -> &'a mut [i16] {
-    if n < s.len() { &mut s[n..] } else { s }
-}
-
 pub fn of_numbers<'a>(s: &'a [u32], n: usize) -> &'a [u32] {
     if n < s.len() { &s[..n] } else { s }
 }

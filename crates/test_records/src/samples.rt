@@ -53,27 +53,22 @@ const QUANTISED: [i16; 21] = [
 ];
 
 pub fn agree() -> Tally {
-    refusals(values(on_record()), with_nan())
-}
-
-fn values(samples: [f32; 21]) -> Tally {
+    let samples = on_record();
     let mut t = gives(Tally::none(), 1, samples, 0, QUANTISED, 21);
     t = gives(t, 2, samples, 0, QUANTISED, 21);
-    t = gives(t, 4, samples, 1, [9i16; 21], 21);
-    gives(t, 3, samples, 2, [9i16; 21], 21)
+    let kept = [9i16; 21];
+    t = gives(t, 4, samples, 1, kept, 21);
+    t = gives(t, 3, samples, 2, kept, 21);
+    let wrong = with_nan(samples);
+    t = gives(t, 1, wrong, 7, kept, 21);
+    t = gives(t, 0, wrong, 1, kept, 21);
+    t = gives(t, 3, wrong, 2, kept, 21);
+    gives(t, 1, wrong, 4, kept, 20)
 }
 
 // The last of the samples is not a number.
-fn refusals(tally: Tally, samples: [f32; 21]) -> Tally {
-    let kept = [9i16; 21];
-    let mut t = gives(tally, 1, samples, 7, kept, 21);
-    t = gives(t, 0, samples, 1, kept, 21);
-    t = gives(t, 3, samples, 2, kept, 21);
-    gives(t, 1, samples, 4, kept, 20)
-}
-
-fn with_nan() -> [f32; 21] {
-    let mut samples = on_record();
+fn with_nan(on_record: [f32; 21]) -> [f32; 21] {
+    let mut samples = on_record;
     samples[20] = float_of(0x7fc00000);
     samples
 }
@@ -106,6 +101,9 @@ fn gives(
 ) -> Tally {
     let mut space = [9i16; 21];
     let answer = quantiser::quantise(code, &samples, parts::of_row_mut(&mut space, long));
-    t.with(answer == number)
-        .places(parts::of_row(&space, long), parts::of_row(&row, long))
+    t.with(answer == number).places(
+        parts::of_row(&space, long),
+        parts::of_row(&row, long),
+        false,
+    )
 }

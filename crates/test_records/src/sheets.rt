@@ -3,6 +3,7 @@
 use crate::paper;
 use crate::parts;
 use crate::tally::Tally;
+use crate::words;
 use sheet_reader::Yield;
 
 // Where the last reliability of the sheet's first question stands, where that is of code 1.
@@ -29,14 +30,14 @@ fn rows() -> Tally {
     let mut sheet = [9u8; 44];
     let number = write(1, &[127i16; 21], &mut sheet);
     let mut t = last_changed(Tally::none().with(number == 0), sheet);
-    t = reads(t, &sheet, 0, found(1, 7), 1, 127, 0);
+    t = reads(t, &sheet, 0, 0x100000007, 1, 127, 0x0000000);
     t = t.with(has_none(Tally::none(), &sheet, 1).is_whole());
     t = has_none(t, &sheet, 3);
     has_none(t, &sheet, 18446744073709551615)
 }
 
 fn has_none(t: Tally, sheet: &[u8; 44], at: usize) -> Tally {
-    reads(t, sheet, at, 0, at, 9, 9)
+    reads(t, sheet, at, 0, at, 9, 0x9999999)
 }
 
 fn last_changed(t: Tally, sheet: [u8; 44]) -> Tally {
@@ -53,29 +54,33 @@ fn judged_with(sheet: [u8; 44], byte: u8) -> u32 {
     sheet::judge_sheet(&s)
 }
 
-// The reader answers, moves to a place, and leaves a row of equal reliabilities and a word of equal symbols: nines where it finds nothing.
-fn reads(t: Tally, sheet: &[u8], at: usize, answer: u64, next: usize, r: i16, symbol: u8) -> Tally {
+// The reader answers, moves to a place, and leaves a row of equal reliabilities and a word: nines where it finds nothing.
+pub fn reads(
+    t: Tally,
+    sheet: &[u8],
+    at: usize,
+    answer: u64,
+    next: usize,
+    r: i16,
+    word: u64,
+) -> Tally {
     let mut row = [9i16; 21];
-    let mut word = [9u8; 7];
-    let step = lent_reader::read_from(sheet, at, &mut row, &mut word);
-    let got = step.answer;
-    t.with(number_of(got) == answer)
+    let mut symbols = [9u8; 7];
+    let step = lent_reader::read_from(sheet, at, &mut row, &mut symbols);
+    let found = step.answer;
+    t.with(number_of(found) == answer)
         .with(step.next == next)
         .row(row, r)
-        .word(word, symbol)
+        .with(check::same(&symbols, parts::of(&words::symbols(7, word), 7)))
 }
 
-// An answer as a number: a refusal's, 0 where none is left, and above all of these a question's code and number.
-pub fn number_of(y: Yield) -> u64 {
+// An answer as a number: a refusal's, 0 where none is left, and above all of these a question's code, with its number in eight digits.
+fn number_of(y: Yield) -> u64 {
     match y {
-        Yield::Found { code, number } => found(code, number),
+        Yield::Found { code, number } => (code as u64) * 4294967296 + number as u64,
         Yield::NoneLeft => 0,
         Yield::Refused(e) => e as u64,
     }
-}
-
-pub fn found(code: u32, number: u32) -> u64 {
-    (code as u64) * 4294967296 + number as u64
 }
 
 // A row with -128 is not written, and the output keeps its nines.
@@ -92,10 +97,11 @@ fn two_hundred(t: Tally) -> Tally {
     let mut sheet = [9u8; 8044];
     let number = write(200, &[127i16; 4200], parts::of_mut(&mut sheet, 8004));
     let judged = sheet::judge_sheet(parts::of(&sheet, 8004));
-    write(1, &[127i16; 21], parts::past_mut(&mut sheet, 8000));
+    let more = write(1, &[127i16; 21], parts::past_mut(&mut sheet, 8000));
     sheet[8040] = 201;
     t.with(number == 0)
         .with(judged == 300)
+        .with(more == 0)
         .with(sheet::judge_sheet(&sheet) == 12)
 }
 
@@ -112,8 +118,8 @@ fn refused_anywhere(tally: Tally) -> Tally {
     let mut t = tally
         .with(sheet::judge_sheet(&[]) == 9)
         .with(sheet::judge_sheet(&[0, 0, 0, 0x19]) == 1);
-    t = reads(t, &[], 0, 9, 0, 9, 9);
-    t = reads(t, &[0, 0, 0, 0x19], 0, 1, 0, 9, 9);
-    t = reads(t, &[0, 0, 0, 0x19], 1, 1, 1, 9, 9);
-    reads(t, &[0, 0, 0, 0xf0, 0, 0, 0, 0x11], 1, 13, 1, 9, 9)
+    t = reads(t, &[], 0, 9, 0, 9, 0x9999999);
+    t = reads(t, &[0, 0, 0, 0x19], 0, 1, 0, 9, 0x9999999);
+    t = reads(t, &[0, 0, 0, 0x19], 1, 1, 1, 9, 0x9999999);
+    reads(t, &[0, 0, 0, 0xf0, 0, 0, 0, 0x11], 1, 13, 1, 9, 0x9999999)
 }

@@ -57,19 +57,17 @@ const SUM_OTHER: [u8; 21] = [
 ];
 
 pub fn agree() -> Tally {
-    refusals(codewords(lists(counts())))
+    refusals(codewords(lists()))
 }
 
-fn counts() -> Tally {
-    Tally::none()
+// How many configurations each code has, and of code 1 the entries of each list: of (5) the position of the leader's one, as a bit, and of
+// (6) and (12) the configuration.
+fn lists() -> Tally {
+    let mut t = Tally::none()
         .with(configurations::configurations_of(1) == 8)
         .with(configurations::configurations_of(2) == 64)
-        .with(configurations::configurations_of(3) == 256)
-}
-
-// The entries of each list: of (5) the position of the leader's one, as a bit, and of (6) and (12) the configuration.
-fn lists(tally: Tally) -> Tally {
-    let mut t = entry(tally, 0, 0, 0, 0);
+        .with(configurations::configurations_of(3) == 256);
+    t = entry(t, 0, 0, 0, 0);
     t = entry(t, 1, 1, 6, 4);
     t = entry(t, 2, 2, 7, 3);
     t = entry(t, 3, 8, 1, 7);
@@ -101,22 +99,18 @@ fn is_generated_at_square(c: [u16; 4]) -> bool {
     times(c[0], c[0]) == times(3, third) && times(c[1], c[1]) == times(6, third)
 }
 
-// The product of two numbers below 8 in the field of 8.
+// The product of two numbers in the field of 8, and 8 where one is not of it.
 fn times(a: u16, b: u16) -> u16 {
-    value(element(a).product(element(b)))
+    match element(a).product(element(b)) {
+        Answer::Found(e) => e.value as u16,
+        Answer::Refused(_) => 8,
+    }
 }
 
 fn element(a: u16) -> Element {
     Element {
         m: 3,
-        value: (a % 8) as u8,
-    }
-}
-
-fn value(a: Answer) -> u16 {
-    match a {
-        Answer::Found(e) => e.value as u16,
-        Answer::Refused(_) => 8,
+        value: (a % 256) as u8,
     }
 }
 

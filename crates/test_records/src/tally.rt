@@ -25,25 +25,28 @@ impl Tally {
         self.agreed == self.total
     }
 
-    // One comparison of a whole word with a symbol at every place.
-    pub fn word(self, found: [u8; 7], symbol: u8) -> Tally {
-        self.with(check::same(&found, &[symbol; 7]))
-    }
-
     // One comparison of the lengths, and one of each place with the same number.
     pub fn row(self, found: [i16; 21], number: i16) -> Tally {
-        self.places(&found, &[number; 21])
+        self.places(&found, &[number; 21], false)
     }
 
-    // One comparison of the lengths, and one of each place.
-    pub fn places(self, found: &[i16], expected: &[i16]) -> Tally {
+    // One comparison of the lengths, and one of each place, or where `layered` of the places of layer 1, every third.
+    pub fn places(self, found: &[i16], expected: &[i16], layered: bool) -> Tally {
         let mut t = self.with(found.len() == expected.len());
         let mut i: usize = 0;
         while i < found.len() {
-            t = t.with(is_at(expected, i, found[i]));
+            t = t.place(i, layered, is_at(expected, i, found[i]));
             i += 1;
         }
         t
+    }
+
+    fn place(self, i: usize, layered: bool, agrees: bool) -> Tally {
+        if layered && i % 3 != 0 {
+            self
+        } else {
+            self.with(agrees)
+        }
     }
 }
 

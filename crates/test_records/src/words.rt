@@ -1,4 +1,4 @@
-// Words written as numbers: a hexadecimal digit for each symbol, the first one leading.
+// Words written as numbers, a hexadecimal digit for each symbol, the first one leading; and rows.
 
 // The n symbols of a word, 16 at most; nines behind them.
 pub fn symbols(n: usize, digits: u64) -> [u8; 16] {
@@ -11,4 +11,12 @@ pub fn symbols(n: usize, digits: u64) -> [u8; 16] {
         rest = rest / 16;
     }
     word
+}
+
+// A row of equal reliabilities but for the first and the last.
+pub fn row(all: i16, first: i16, last: i16) -> [i16; 21] {
+    let mut row = [all; 21];
+    row[0] = first;
+    row[20] = last;
+    row
 }

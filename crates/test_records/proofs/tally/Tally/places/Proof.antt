@@ -7,10 +7,10 @@ use Rattle.test_records.proofs.tally.Tally.places.Statement.{statement}
 use Rattle.test_records.proofs.tally.Tally.places.Tie as tie
 
 abbrev Inv-loop : tie.InvT-loop
-Inv-loop found expected t₀ i₀ t i = i ≤ length found
+Inv-loop found expected layered t₀ i₀ t i = i ≤ length found
 
 abbrev μ-loop : tie.MeasureT-loop
-μ-loop found expected t₀ i₀ t i = length found - i
+μ-loop found expected layered t₀ i₀ t i = length found - i
 
 pub places-spec : {M : Type 1} → statement M
 places-spec =
