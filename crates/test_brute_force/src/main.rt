@@ -5,8 +5,6 @@ mod compare;
 mod rows;
 mod words;
 
-use compare::Tally;
-
 fn main() {
     let mut words_1 = [0u32; 32768];
     run(1, 24, &mut words_1);
@@ -16,17 +14,20 @@ fn main() {
 
 fn run(code: u32, rows: u32, words: &mut [u32]) {
     let found = words::list(code, words);
-    report(code, found, all_rows(code, rows, words));
+    io::write_all(1, b"code ");
+    count(code as u64, b": ");
+    count(found, b" codewords, ");
+    count(rows as u64, b" rows; agree: ");
+    report(all_rows(code, rows, words));
 }
 
-fn all_rows(code: u32, rows: u32, words: &[u32]) -> Tally {
-    let mut t = Tally::nothing();
+fn all_rows(code: u32, rows: u32, words: &[u32]) -> [u64; 7] {
+    let mut t = [0u64; 7];
     let mut state = code;
-    let mut k: u32 = 0;
-    while k < rows {
+    for k in 0..rows {
         state = rows::next(state);
-        t = compare::with_row(t, code, words, k, state);
-        k += 1;
+        let u = compare::with_row(t, code, words, k, state);
+        t = u;
     }
     t
 }
@@ -37,20 +38,12 @@ fn count(n: u64, what: &[u8]) {
     io::write_all(1, what);
 }
 
-fn report(code: u32, found: u64, t: Tally) {
-    io::write_all(1, b"code ");
-    count(code as u64, b": ");
-    count(found, b" codewords, ");
-    count(t.rows, b" rows; agree: ");
-    count(t.metrics, b" metrics, ");
-    count(t.words, b" best words, ");
-    count(t.softs, b" soft outputs, ");
-    report_marks(t);
-}
-
-fn report_marks(t: Tally) {
-    count(t.marks, b" marks of ");
-    count(t.best, b" best, ");
-    count(t.short, b" short, ");
-    count(t.none, b" none\n");
+fn report(t: [u64; 7]) {
+    count(t[compare::METRICS], b" metrics, ");
+    count(t[compare::WORDS], b" best words, ");
+    count(t[compare::SOFTS], b" soft outputs, ");
+    count(t[compare::MARKS], b" marks of ");
+    count(t[compare::BEST], b" best, ");
+    count(t[compare::SHORT], b" short, ");
+    count(t[compare::NONE], b" none\n");
 }

@@ -25,28 +25,21 @@ fn digit(c: u8) -> u32
     (c as u32) % 8
 }
 
-fn three(a: u8, b: u8, c: u8) -> u32
-    ensures { λ r. ⌜ r < 512 ⌝ }
-{
-    digit(a) + 8 * digit(b) + 64 * digit(c)
-}
-
 // The number of a word of seven symbols.
 pub fn packed(w: [u8; 7]) -> u32 {
-    three(w[0], w[1], w[2]) + 512 * three(w[3], w[4], w[5]) + 262144 * digit(w[6])
+    let mut word: u32 = 0;
+    for i in 0..7 {
+        word = std::num::wrapping_add_u32(word / 8, 262144 * digit(w[i]));
+    }
+    word
 }
 
-// α·x, where α is a zero of X^3 + X + 1, whose bits are those of 11.
-fn doubled(x: u32) -> u32 {
-    let y = x % 8 * 2;
-    if y < 8 { y } else { y ^ 11 }
-}
-
-// α^t·x
+// α^t·x, where α is a zero of X^3 + X + 1, whose bits are those of 11.
 fn scaled(t: u32, x: u32) -> u32 {
     let mut v = x;
     for _ in 0..t {
-        v = doubled(v);
+        let y = v % 8 * 2;
+        v = y ^ (y / 8 * 11);
     }
     v
 }
