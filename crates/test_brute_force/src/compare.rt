@@ -46,11 +46,14 @@ fn wide(x: i16) -> i32 {
 }
 
 // How many of a row's soft outputs are the greatest metric with a 0 less that with a 1.
-fn softs_agree(soft: &[i16; 21], most: &[u32; 42]) -> u64 {
+fn softs_agree(soft: &[i16; 21], levels: &[u32; 21], words: &[u32]) -> u64 {
     let mut n: u64 = 0;
+    let mut bit: u32 = 1;
     for b in 0..21 {
-        let agrees = wide(soft[b]) == difference(most[2 * b], most[2 * b + 1]);
-        n = std::num::wrapping_add_u64(n, words::one_if(agrees));
+        let zero = words::greatest(levels, words, bit, 0);
+        let one = words::greatest(levels, words, bit, bit);
+        n = std::num::wrapping_add_u64(n, words::one_if(wide(soft[b]) == difference(zero, one)));
+        bit = std::num::wrapping_add_u32(bit, bit);
     }
     n
 }
@@ -134,21 +137,14 @@ fn decoding(code: u32, row: &[i16; 21]) -> Answer {
 }
 
 // The decoding of a row.
-fn with_decoding(
-    t: [u64; 7],
-    code: u32,
-    r: Row,
-    best: u32,
-    a: Answer,
-    most: &[u32; 42],
-) -> [u64; 7] {
+fn with_decoding(t: [u64; 7], code: u32, r: Row, best: u32, a: Answer, words: &[u32]) -> [u64; 7] {
     let levels = r.levels;
     let soft = a.soft;
     let metric = a.number == 0 && a.metric == difference(best, RAISED);
     let e = expected(code, a.word, words::metric(&levels, a.word), best);
     let u = more(t, METRICS, words::one_if(metric));
     let v = more(u, WORDS, words::one_if(e.verdict == 2));
-    more(v, SOFTS, softs_agree(&soft, most))
+    more(v, SOFTS, softs_agree(&soft, &levels, words))
 }
 
 // One row, decoded and marked.
@@ -156,9 +152,8 @@ pub fn with_row(t: [u64; 7], code: u32, words: &[u32], k: u32, state: u32) -> [u
     let r = rows::drawn(k, state);
     let levels = r.levels;
     let row = r.row;
-    let mut most = [0u32; 42];
-    let best = words::greatest(&levels, words, &mut most);
+    let best = words::greatest(&levels, words, 0, 0);
     let a = decoding(code, &row);
-    let u = with_decoding(t, code, r, best, a, &most);
+    let u = with_decoding(t, code, r, best, a, words);
     with_marks(u, code, words, r, best, a.word, state)
 }

@@ -14,11 +14,8 @@ fn main() {
 
 fn run(code: u32, rows: u32, words: &mut [u32]) {
     let found = words::list(code, words);
-    io::write_all(1, b"code ");
-    count(code as u64, b": ");
-    count(found, b" codewords, ");
-    count(rows as u64, b" rows; agree: ");
-    report(all_rows(code, rows, words));
+    report(code, found, rows);
+    report_decodings(all_rows(code, rows, words));
 }
 
 fn all_rows(code: u32, rows: u32, words: &[u32]) -> [u64; 7] {
@@ -38,10 +35,21 @@ fn count(n: u64, what: &[u8]) {
     io::write_all(1, what);
 }
 
-fn report(t: [u64; 7]) {
+fn report(code: u32, found: u64, rows: u32) {
+    io::write_all(1, b"code ");
+    count(code as u64, b": ");
+    count(found, b" codewords, ");
+    count(rows as u64, b" rows; agree: ");
+}
+
+fn report_decodings(t: [u64; 7]) {
     count(t[compare::METRICS], b" metrics, ");
     count(t[compare::WORDS], b" best words, ");
     count(t[compare::SOFTS], b" soft outputs, ");
+    report_marks(t);
+}
+
+fn report_marks(t: [u64; 7]) {
     count(t[compare::MARKS], b" marks of ");
     count(t[compare::BEST], b" best, ");
     count(t[compare::SHORT], b" short, ");

@@ -115,24 +115,21 @@ fn greater(a: u32, b: u32) -> u32 {
     if a < b { b } else { a }
 }
 
-// The greatest metrics of the words with a 0 and with a 1 at each bit, in turn, when one word more is seen.
-fn note(word: u32, metric: u32, most: &mut [u32; 42]) {
-    let mut rest = word;
-    for b in 0..21 {
-        let at = 2 * b + (rest % 2) as usize;
-        most[at] = greater(most[at], metric);
-        rest = rest / 2;
+// The metric of a word whose bits under a mask are as wanted, raised; 0, which no metric is below, for any other.
+fn metric_where(levels: &[u32; 21], word: u32, mask: u32, wanted: u32) -> u32 {
+    if word & mask == wanted {
+        metric(levels, word)
+    } else {
+        0
     }
 }
 
-// The greatest metric of all words, and in `most` of those with a 0 and with a 1 at each bit; all of them raised.
-pub fn greatest(levels: &[u32; 21], words: &[u32], most: &mut [u32; 42]) -> u32 {
+// The greatest metric of the words whose bits under a mask are as wanted, raised.
+pub fn greatest(levels: &[u32; 21], words: &[u32], mask: u32, wanted: u32) -> u32 {
     let mut best: u32 = 0;
     let mut i: usize = 0;
     while i < words.len() {
-        let x = metric(levels, words[i]);
-        note(words[i], x, most);
-        best = greater(best, x);
+        best = greater(best, metric_where(levels, words[i], mask, wanted));
         i += 1;
     }
     best

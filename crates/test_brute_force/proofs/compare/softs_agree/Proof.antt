@@ -6,10 +6,10 @@ use Rattle.test_brute_force.proofs.compare.softs_agree.Statement.{state
 use Rattle.test_brute_force.proofs.compare.softs_agree.Tie as tie
 
 abbrev Inv-loop : tie.InvT-loop
-Inv-loop soft most n₀ b₀ n b = b ≤ 21
+Inv-loop soft levels words n₀ bit₀ b₀ n bit b = b ≤ 21
 
 abbrev μ-loop : tie.MeasureT-loop
-μ-loop soft most n₀ b₀ n b = 21 - b
+μ-loop soft levels words n₀ bit₀ b₀ n bit b = 21 - b
 
 pub softs-agree-spec : {M : Type 1} → statement M
 softs-agree-spec =
@@ -18,16 +18,12 @@ softs-agree-spec =
     Inv-loop
     μ-loop
     (λ c. search needs)
-    (λ c. search needs)
-    (λ c. search needs)
+    (λ c κs. search needs)
     (λ c κs. search needs)
     (λ c. search needs)
     (λ c. search needs)
-    (λ c. search needs)
-    (λ c. search needs)
-    (λ c. search needs)
-    (λ c. search needs)
-    (λ c. search needs)
+    (λ c κs. search needs)
+    (λ c κs. search needs)
     (λ c κs. search needs)
     (λ c κs. search needs)
     (λ c κs. search needs)

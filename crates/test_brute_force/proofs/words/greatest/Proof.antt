@@ -7,10 +7,10 @@ use Rattle.test_brute_force.proofs.words.greatest.Statement.{statement}
 use Rattle.test_brute_force.proofs.words.greatest.Tie as tie
 
 abbrev Inv-loop : tie.InvT-loop
-Inv-loop levels words most₀ best₀ i₀ most best i = i ≤ length words
+Inv-loop levels words mask wanted best₀ i₀ best i = i ≤ length words
 
 abbrev μ-loop : tie.MeasureT-loop
-μ-loop levels words most₀ best₀ i₀ most best i = length words - i
+μ-loop levels words mask wanted best₀ i₀ best i = length words - i
 
 pub greatest-spec : {M : Type 1} → statement M
 greatest-spec =
@@ -19,9 +19,6 @@ greatest-spec =
     Inv-loop
     μ-loop
     (λ c. search needs)
-    (λ c. search needs)
-    (λ c. search needs)
-    (λ c κs. search needs)
     (λ c. search needs)
     (λ c. search needs)
     (λ c κs. search needs)
