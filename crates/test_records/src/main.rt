@@ -14,18 +14,17 @@ mod words;
 use tally::Tally;
 
 fn main() {
-    report(b"fields", fields::agree());
-    report(b"codes", codes::agree());
-    report(b"split", splits::agree());
-    report(b"quantiser", samples::agree());
-    report(b"decoder", decodings::agree());
-    report(b"marker", marks::agree());
-    report(b"sheets", sheets::agree());
+    report(b"fields: ", fields::agree());
+    report(b"codes: ", codes::agree());
+    report(b"split: ", splits::agree());
+    report(b"quantiser: ", samples::agree());
+    report(b"decoder: ", decodings::agree());
+    report(b"marker: ", marks::agree());
+    report(b"sheets: ", sheets::agree());
 }
 
 fn report(topic: &[u8], t: Tally) {
     io::write_all(1, topic);
-    io::write_all(1, b": ");
     io::print_decimal(1, t.agreed);
     io::write_all(1, b" of ");
     io::print_decimal(1, t.total);

@@ -29,26 +29,28 @@ pub fn agree() -> Tally {
 
 // In code 1, a row of equal reliabilities but for the first, with a word: the verdict and the shortfall.
 fn gives(t: Tally, all: i16, first: i16, word: u64, verdict: u32, shortfall: i32) -> Tally {
-    let row = words::row(all, first, all);
-    t.with(is_mark(1, &row, 7, word, 0, verdict, shortfall))
+    marks(t, 1, all, first, 21, 7, word, 0, verdict, shortfall)
 }
 
 // So many equal reliabilities with a word of n symbols are refused by a number.
 fn refuses(t: Tally, code: u32, all: i16, long: usize, n: usize, word: u64, number: u32) -> Tally {
-    let row = [all; 21];
-    t.with(is_mark(code, parts::of_row(&row, long), n, word, number, 0, 0))
+    marks(t, code, all, all, long, n, word, number, 0, 0)
 }
 
-fn is_mark(
+fn marks(
+    t: Tally,
     code: u32,
-    row: &[i16],
+    all: i16,
+    first: i16,
+    long: usize,
     n: usize,
     word: u64,
     number: u32,
     verdict: u32,
     shortfall: i32,
-) -> bool {
+) -> Tally {
+    let row = words::row(all, first, all);
     let symbols = words::symbols(n, word);
-    let m = marker::judge_word(code, row, parts::of(&symbols, n));
-    m.number == number && m.verdict == verdict && m.shortfall == shortfall
+    let m = marker::judge_word(code, parts::of_row(&row, long), parts::of(&symbols, n));
+    t.with(m.number == number && m.verdict == verdict && m.shortfall == shortfall)
 }

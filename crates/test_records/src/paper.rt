@@ -156,13 +156,10 @@ const PAPER: [u8; 124] = [
 
 // The sheet as it stands, and with the number 0 for the first question.
 pub fn agree(t: Tally) -> Tally {
-    let mut other = PAPER;
-    other[0] = 0;
-    written(
-        read(written(read(t, &PAPER, 1), &PAPER, 1), &other, 0),
-        &other,
-        0,
-    )
+    let mut sheet = PAPER;
+    let u = written(read(t, &sheet, 1), &sheet, 1);
+    sheet[0] = 0;
+    written(read(u, &sheet, 0), &sheet, 0)
 }
 
 // The questions are read one after another, each in one comparison, and none is left behind them nor further on.

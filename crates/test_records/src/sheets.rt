@@ -115,11 +115,12 @@ fn one_too_many(t: Tally) -> Tally {
 // An empty sheet, and readers at places that nobody handed out: a sheet of one head of code 9 is refused, whatever the place, and so are
 // bytes behind the end.
 fn refused_anywhere(tally: Tally) -> Tally {
+    let head = [0u8, 0, 0, 0x19];
     let mut t = tally
         .with(sheet::judge_sheet(&[]) == 9)
-        .with(sheet::judge_sheet(&[0, 0, 0, 0x19]) == 1);
+        .with(sheet::judge_sheet(&head) == 1);
     t = reads(t, &[], 0, 9, 0, 9, 0x9999999);
-    t = reads(t, &[0, 0, 0, 0x19], 0, 1, 0, 9, 0x9999999);
-    t = reads(t, &[0, 0, 0, 0x19], 1, 1, 1, 9, 0x9999999);
+    t = reads(t, &head, 0, 1, 0, 9, 0x9999999);
+    t = reads(t, &head, 1, 1, 1, 9, 0x9999999);
     reads(t, &[0, 0, 0, 0xf0, 0, 0, 0, 0x11], 1, 13, 1, 9, 0x9999999)
 }

@@ -57,7 +57,18 @@ const SUM_OTHER: [u8; 21] = [
 ];
 
 pub fn agree() -> Tally {
-    refusals(codewords(lists()))
+    // The first word has the layers of (7).
+    let mut t = gives(lists(), 1, 7, 0x3610000, 0, 5, 3, 2, 21, SUM_7);
+    t = gives(t, 1, 7, 0x1154622, 0, 7, 4, 1, 21, SUM_OTHER);
+    t = gives(t, 1, 7, 0x7777777, 0, 0, 0, 0, 21, [1u8; 21]);
+    // Codes, lengths, symbols, and words that are no codewords: a configuration of zeros, and the output keeps its nines.
+    let kept = [9u8; 21];
+    t = gives(t, 4, 1, 0x8, 1, 0, 0, 0, 1, kept);
+    t = gives(t, 1, 6, 0x800000, 3, 0, 0, 0, 1, kept);
+    t = gives(t, 1, 7, 0x8000000, 4, 0, 0, 0, 20, kept);
+    t = gives(t, 1, 7, 0x8000000, 6, 0, 0, 0, 21, kept);
+    t = gives(t, 1, 7, 0x1000000, 8, 0, 0, 0, 21, kept);
+    gives(t, 2, 7, 0x3610000, 8, 0, 0, 0, 21, kept)
 }
 
 // How many configurations each code has, and of code 1 the entries of each list: of (5) the position of the leader's one, as a bit, and of
@@ -114,21 +125,8 @@ fn element(a: u16) -> Element {
     }
 }
 
-// The first word has the layers of (7).
-fn codewords(tally: Tally) -> Tally {
-    let mut t = gives(tally, 0x3610000, 5, 3, 2, SUM_7);
-    t = gives(t, 0x1154622, 7, 4, 1, SUM_OTHER);
-    gives(t, 0x7777777, 0, 0, 0, [1u8; 21])
-}
-
-// Splitting a word of code 1 answers a configuration and leaves an output.
-fn gives(t: Tally, word: u64, first: u16, second: u16, third: u16, bch: [u8; 21]) -> Tally {
-    let mut space = [9u8; 21];
-    splits(t, 1, 7, word, 0, first, second, third, &mut space).with(check::same(&space, &bch))
-}
-
-// The split of n symbols answers a number and a configuration.
-fn splits(
+// Splitting n symbols into so many nines answers a number and a configuration, and leaves an output.
+fn gives(
     t: Tally,
     code: u32,
     n: usize,
@@ -137,37 +135,19 @@ fn splits(
     first: u16,
     second: u16,
     third: u16,
-    space: &mut [u8],
+    long: usize,
+    bch: [u8; 21],
 ) -> Tally {
     let symbols = words::symbols(n, word);
-    let s = split::split(code, parts::of(&symbols, n), space);
+    let mut space = [9u8; 21];
+    let s = split::split(
+        code,
+        parts::of(&symbols, n),
+        parts::of_mut(&mut space, long),
+    );
+    let left = check::same(&space, &bch);
     let found = s.configuration;
     t.with(s.number == number)
         .with(is_triple(found, first, second, third))
-}
-
-// Codes, lengths, symbols, and words that are no codewords.
-fn refusals(tally: Tally) -> Tally {
-    let mut t = refuses(tally, 4, 1, 0x8, 1, 1);
-    t = refuses(t, 1, 6, 0x800000, 3, 1);
-    t = refuses(t, 1, 7, 0x8000000, 4, 20);
-    t = refuses(t, 1, 7, 0x8000000, 6, 21);
-    t = refuses(t, 1, 7, 0x1000000, 8, 21);
-    refuses(t, 2, 7, 0x3610000, 8, 21)
-}
-
-// Splitting n symbols into so many nines is refused by a number, with a configuration of zeros, and the output keeps its nines.
-fn refuses(t: Tally, code: u32, n: usize, word: u64, number: u32, long: usize) -> Tally {
-    let mut space = [9u8; 21];
-    splits(
-        t,
-        code,
-        n,
-        word,
-        number,
-        0,
-        0,
-        0,
-        parts::of_mut(&mut space, long),
-    ).with(check::same(&space, &[9u8; 21]))
+        .with(left)
 }
