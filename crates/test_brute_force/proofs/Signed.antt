@@ -1,9 +1,9 @@
--- 0 less a number of the lower half fits, at every width, and what fits 16 bits fits 32. Assumes nothing.
+-- 0 less a number of the lower half fits, at every width. Assumes nothing.
 use mathlib.Core.Path.{_≡_, sym, ap, _∙_, subst}
 use Prim.Native.Nat.{ℕ, zero, suc, _<_, _^_}
 use native.Mathlib.Omega.{arith}
 use lib.IntN.{ℤ, pos, negℤ, _-ℤ_, +ℤ-idl}
-use mir.Syntax.{Width, w16, w32}
+use mir.Syntax.{Width}
 use mir.Val.{SFits, toZ, hbits}
 use mir.Facts.{toZ-pos}
 
@@ -14,6 +14,3 @@ negative-fits w (suc r) h = record { sfits = omega arith }
 pub negated-fits : (w : Width) (r : ℕ) → r < 2 ^ hbits w → SFits w (pos 0 -ℤ toZ w r)
 negated-fits w r h =
     subst (λ (z : ℤ). SFits w z) (sym (+ℤ-idl (negℤ (toZ w r)) ∙ ap negℤ (toZ-pos w h))) (negative-fits w r h)
-
-pub wider : (z : ℤ) → SFits w16 z → SFits w32 z
-wider z h = record { sfits = omega (arith, h .sfits) }

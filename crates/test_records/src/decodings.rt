@@ -26,8 +26,8 @@ pub fn agree() -> Tally {
     refuses(t, 1, 128, 128, 128, 21, 7, 20, 4)
 }
 
-// In code 1, decoding a row of equal reliabilities but for the first answers a metric and leaves a word of equal symbols, and equal soft
-// outputs, in layer 1 at least.
+// In code 1, decoding a row of equal reliabilities but for the first answers a metric and leaves a word of equal symbols and equal soft
+// outputs; where `layered`, those of layer 1 alone are compared.
 fn gives(
     t: Tally,
     all: i16,

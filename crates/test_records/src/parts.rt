@@ -1,4 +1,6 @@
-// The first n elements of a slice, or all of it where there are not so many. Beside these no function takes a part of a slice by its length.
+// Parts of slices. A length that is a number of the program's is turned into a part here alone, so that its callers have nothing to prove.
+
+// The first n elements, or all of them where there are not so many.
 pub fn of<'a>(s: &'a [u8], n: usize) -> &'a [u8] {
     if n < s.len() { &s[..n] } else { s }
 }
@@ -15,11 +17,11 @@ pub fn of_row_mut<'a>(s: &'a mut [i16], n: usize) -> &'a mut [i16] {
     if n < s.len() { &mut s[..n] } else { s }
 }
 
-// What stands behind the first n elements of a slice.
-pub fn past_mut<'a>(s: &'a mut [u8], n: usize) -> &'a mut [u8] {
-    if n < s.len() { &mut s[n..] } else { s }
-}
-
 pub fn of_numbers<'a>(s: &'a [u32], n: usize) -> &'a [u32] {
     if n < s.len() { &s[..n] } else { s }
+}
+
+// What stands behind the first n elements.
+pub fn past_mut<'a>(s: &'a mut [u8], n: usize) -> &'a mut [u8] {
+    if n < s.len() { &mut s[n..] } else { s }
 }

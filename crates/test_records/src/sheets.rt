@@ -1,5 +1,5 @@
 // Sheets: a row value of 127 taken and -128 refused by 5, 200 questions taken and 201 refused by 12, and an empty sheet file. Sheets are read
-// by a reader over them; a reader that nobody handed out gets no other answer; and what was read is written again.
+// by a reader over them; a reader that nobody handed out gets no other answer; and document 01's sheet is read and written.
 use crate::paper;
 use crate::parts;
 use crate::tally::Tally;
