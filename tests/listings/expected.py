@@ -1,5 +1,5 @@
 #!/usr/bin/env python3
-"""The sheets that the programs `listings` and `long_listing` list, and the texts that they must print.
+"""The sheets that the programs `test_listings` and `test_long_listing` list, and the texts that they must print.
 
     tests/listings/expected.py          compare the committed files with what is computed here
     tests/listings/expected.py --write  write them anew
@@ -446,22 +446,22 @@ def texts():
     for name, data, refusal in cases():
         text = listing(data)
         assert (text == f"refused {refusal}\n") == (refusal is not None), (name, text)
-        files[f"listings/data/{name}"] = data
+        files[f"test_listings/data/{name}"] = data
         names += name + "\n"
         out += f"{name}\n{text}"
         if name == LONG:
-            files["long_listing/stdin"] = data
-            files["long_listing/stdout"] = text.encode()
-    files["listings/args"] = names.encode()
-    files["listings/stdout"] = out.encode()
+            files["test_long_listing/stdin"] = data
+            files["test_long_listing/stdout"] = text.encode()
+    files["test_listings/args"] = names.encode()
+    files["test_listings/stdout"] = out.encode()
     return files
 
 
 def main():
     files = texts()
-    data = os.path.join(ROOT, "listings", "data")
+    data = os.path.join(ROOT, "test_listings", "data")
     there = set(os.listdir(data)) if os.path.isdir(data) else set()
-    wrong = [f"listings/data/{n} is of no case" for n in sorted(there) if f"listings/data/{n}" not in files]
+    wrong = [f"test_listings/data/{n} is of no case" for n in sorted(there) if f"test_listings/data/{n}" not in files]
     for name, content in files.items():
         path = os.path.join(ROOT, name)
         if "--write" in sys.argv[1:]:

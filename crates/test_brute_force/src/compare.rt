@@ -1,0 +1,159 @@
+// One row: the decoding and the marks of some words, against the greatest metrics of the listed codewords.
+use crate::rows;
+use crate::rows::Row;
+use crate::words;
+use marker::Mark;
+
+// What is counted: the metrics, best words, soft outputs and marks that agree, and the words with each verdict, none, short and best.
+pub const METRICS: usize = 0;
+
+pub const WORDS: usize = 1;
+
+pub const SOFTS: usize = 2;
+
+pub const MARKS: usize = 3;
+
+pub const NONE: usize = 4;
+
+pub const SHORT: usize = 5;
+
+pub const BEST: usize = 6;
+
+// More of one count. (No program counts so far that it wraps.)
+fn more(counts: [u64; 7], i: usize, n: u64) -> [u64; 7] {
+    let mut t = counts;
+    let at = i % 7;
+    t[at] = std::num::wrapping_add_u64(t[at], n);
+    t
+}
+
+// a - b as a signed number; the metrics compared here are far below 2^16.
+fn difference(a: u32, b: u32) -> i32 {
+    if a < b {
+        negative(b - a)
+    } else {
+        ((a - b) % 65536) as i32
+    }
+}
+
+fn negative(x: u32) -> i32 {
+    let n = (x % 65536) as i32;
+    0 - n
+}
+
+fn wide(x: i16) -> i32 {
+    x as i32
+}
+
+// How many of a row's soft outputs are the greatest metric with a 0 less that with a 1.
+fn softs_agree(soft: &[i16; 21], levels: &[u32; 21], words: &[u32]) -> u64 {
+    let mut n: u64 = 0;
+    let mut bit: u32 = 1;
+    for b in 0..21 {
+        let zero = words::greatest(levels, words, bit, 0);
+        let one = words::greatest(levels, words, bit, bit);
+        n = std::num::wrapping_add_u64(n, words::one_if(wide(soft[b]) == difference(zero, one)));
+        bit = std::num::wrapping_add_u32(bit, bit);
+    }
+    n
+}
+
+// What every metric is raised by.
+const RAISED: u32 = 2667;
+
+// The mark that a word has by its own metric and the greatest, both raised.
+fn expected(code: u32, word: u32, own: u32, best: u32) -> Mark {
+    if !words::is_codeword(code, word) {
+        return Mark {
+            number: 0,
+            verdict: 0,
+            shortfall: 0,
+        };
+    }
+    Mark {
+        number: 0,
+        verdict: if own == best { 2 } else { 1 },
+        shortfall: difference(best, own),
+    }
+}
+
+// The mark of a word.
+fn with_mark(t: [u64; 7], code: u32, r: Row, best: u32, word: u32) -> [u64; 7] {
+    let row = r.row;
+    let levels = r.levels;
+    let e = expected(code, word, words::metric(&levels, word), best);
+    let m = marker::judge_word(code, &row, &words::symbols(word));
+    let agrees = m.number == 0 && m.verdict == e.verdict && m.shortfall == e.shortfall;
+    let u = more(t, MARKS, words::one_if(agrees));
+    more(u, NONE + (e.verdict % 3) as usize, 1)
+}
+
+// A listed word by a number that was drawn.
+fn one_of(words: &[u32], x: u32) -> u32 {
+    let i = x as usize;
+    if i < words.len() { words[i] } else { 0 }
+}
+
+// The marks of eight words: the decoded one, the constant ones, the hard decisions, a codeword that was drawn and one near the decoded
+// word, and two with one bit turned.
+fn with_marks(
+    t: [u64; 7],
+    code: u32,
+    words: &[u32],
+    r: Row,
+    best: u32,
+    decoded: u32,
+    state: u32,
+) -> [u64; 7] {
+    let drawn = one_of(words, rows::next(state) / 65536 % 512);
+    let a = with_mark(t, code, r, best, decoded);
+    let b = with_mark(a, code, r, best, 0);
+    let c = with_mark(b, code, r, best, 2097151);
+    let d = with_mark(c, code, r, best, r.hard);
+    let e = with_mark(d, code, r, best, drawn);
+    let f = with_mark(e, code, r, best, decoded ^ one_of(words, 1));
+    let g = with_mark(f, code, r, best, drawn ^ 16);
+    with_mark(g, code, r, best, decoded ^ 1048576)
+}
+
+// What the decoder answers to a row.
+struct Answer {
+    number: u32,
+    metric: i32,
+    word: u32,
+    soft: [i16; 21],
+}
+
+fn decoding(code: u32, row: &[i16; 21]) -> Answer {
+    let mut word = [0u8; 7];
+    let mut soft = [0i16; 21];
+    let d = decoder::decode(code, row, &mut word, &mut soft);
+    Answer {
+        number: d.number,
+        metric: d.metric,
+        word: words::packed(word),
+        soft,
+    }
+}
+
+// The decoding of a row.
+fn with_decoding(t: [u64; 7], code: u32, r: Row, best: u32, a: Answer, words: &[u32]) -> [u64; 7] {
+    let levels = r.levels;
+    let soft = a.soft;
+    let metric = a.number == 0 && a.metric == difference(best, RAISED);
+    let e = expected(code, a.word, words::metric(&levels, a.word), best);
+    let u = more(t, METRICS, words::one_if(metric));
+    let v = more(u, WORDS, words::one_if(e.verdict == 2));
+    more(v, SOFTS, softs_agree(&soft, &levels, words))
+}
+
+// One row, decoded and marked.
+pub fn with_row(t: [u64; 7], code: u32, words: &[u32], k: u32, state: u32) -> [u64; 7] {
+    let r = rows::drawn(k, state);
+    let levels = r.levels;
+    let row = r.row;
+    let best = words::greatest(&levels, words, 0, 0);
+    let a = decoding(code, &row);
+    let u = with_decoding(t, code, r, best, a, words);
+    with_marks(u, code, words, r, best, a.word, state)
+}

@@ -1,0 +1,153 @@
+// The split: coset leaders, configurations and BCH words, with source document 000's lists (5), (6) and (12), and the refusals.
+// Of its generator (10) holds what the roots decide: it lists the values at α^2, and at α the multiples of (1, α^4, α^2) take its place.
+// Of its matrix (4), which has 22 columns for 21 bits, the sum of the glue vectors is taken as (7) writes it, layer by layer.
+use crate::parts;
+use crate::tally::Tally;
+use crate::words;
+use field::Answer;
+use field::Element;
+
+// (7), layer by layer, and the layers of the other word on record.
+const SUM_7: [u8; 21] = [
+    1,
+    0,
+    1,
+    0,
+    0,
+    0,
+    1,
+    1,
+    1,
+    0,
+    1,
+    0,
+    0,
+    0,
+    0,
+    0,
+    0,
+    0,
+    0,
+    0,
+    0,
+];
+
+const SUM_OTHER: [u8; 21] = [
+    1,
+    1,
+    1,
+    0,
+    0,
+    1,
+    0,
+    0,
+    0,
+    1,
+    0,
+    1,
+    1,
+    1,
+    1,
+    0,
+    1,
+    1,
+    1,
+    0,
+    0,
+];
+
+pub fn agree() -> Tally {
+    // The first word has the layers of (7).
+    let mut t = gives(lists(), 1, 7, 0x3610000, 0, 5, 3, 2, 21, SUM_7);
+    t = gives(t, 1, 7, 0x1154622, 0, 7, 4, 1, 21, SUM_OTHER);
+    t = gives(t, 1, 7, 0x7777777, 0, 0, 0, 0, 21, [1u8; 21]);
+    // Codes, lengths, symbols, and words that are no codewords: a configuration of zeros, and the output keeps its nines.
+    let kept = [9u8; 21];
+    t = gives(t, 4, 1, 0x8, 1, 0, 0, 0, 1, kept);
+    t = gives(t, 1, 6, 0x800000, 3, 0, 0, 0, 1, kept);
+    t = gives(t, 1, 7, 0x8000000, 4, 0, 0, 0, 20, kept);
+    t = gives(t, 1, 7, 0x8000000, 6, 0, 0, 0, 21, kept);
+    t = gives(t, 1, 7, 0x1000000, 8, 0, 0, 0, 21, kept);
+    gives(t, 2, 7, 0x3610000, 8, 0, 0, 0, 21, kept)
+}
+
+// How many configurations each code has, and of code 1 the entries of each list: of (5) the position of the leader's one, as a bit, and of
+// (6) and (12) the configuration.
+fn lists() -> Tally {
+    let mut t = Tally::none()
+        .with(configurations::configurations_of(1) == 8)
+        .with(configurations::configurations_of(2) == 64)
+        .with(configurations::configurations_of(3) == 256);
+    t = entry(t, 0, 0, 0, 0);
+    t = entry(t, 1, 1, 6, 4);
+    t = entry(t, 2, 2, 7, 3);
+    t = entry(t, 3, 8, 1, 7);
+    t = entry(t, 4, 4, 5, 6);
+    t = entry(t, 5, 64, 3, 2);
+    t = entry(t, 6, 16, 2, 5);
+    t = entry(t, 7, 32, 4, 1);
+    t.with(!is_generated_at_square([3, 6, 1, 0]))
+}
+
+// Entry k of each list; a configuration starts with its number.
+fn entry(t: Tally, k: u16, leader: u16, second: u16, third: u16) -> Tally {
+    let i = k % 8;
+    let c = configurations::configuration(1, i as usize);
+    t.with(split::leader(1, i) == leader)
+        .with(is_triple(c, k, second, third))
+        .with(is_triple(c, k, times(6, k), times(4, k)))
+        .with(is_generated_at_square(c))
+}
+
+// Whether a tuple of code 1 has these syndromes.
+fn is_triple(c: [u16; 4], first: u16, second: u16, third: u16) -> bool {
+    (c[0] ^ first) | (c[1] ^ second) | (c[2] ^ third) | c[3] == 0
+}
+
+// Whether the squares of a tuple, its values at α^2, are a multiple of (10): (α^3, α^4, 1).
+fn is_generated_at_square(c: [u16; 4]) -> bool {
+    let third = times(c[2], c[2]);
+    times(c[0], c[0]) == times(3, third) && times(c[1], c[1]) == times(6, third)
+}
+
+// The product of two numbers in the field of 8, and 8 where one is not of it.
+fn times(a: u16, b: u16) -> u16 {
+    match element(a).product(element(b)) {
+        Answer::Found(e) => e.value as u16,
+        Answer::Refused(_) => 8,
+    }
+}
+
+fn element(a: u16) -> Element {
+    Element {
+        m: 3,
+        value: (a % 256) as u8,
+    }
+}
+
+// Splitting n symbols into so many nines answers a number and a configuration, and leaves an output.
+fn gives(
+    t: Tally,
+    code: u32,
+    n: usize,
+    word: u64,
+    number: u32,
+    first: u16,
+    second: u16,
+    third: u16,
+    long: usize,
+    bch: [u8; 21],
+) -> Tally {
+    let symbols = words::symbols(n, word);
+    let mut space = [9u8; 21];
+    let s = split::split(
+        code,
+        parts::of(&symbols, n),
+        parts::of_mut(&mut space, long),
+    );
+    let left = check::same(&space, &bch);
+    let found = s.configuration;
+    t.with(s.number == number)
+        .with(is_triple(found, first, second, third))
+        .with(left)
+}
