@@ -71,14 +71,9 @@ pub fn agree() -> Tally {
     gives(t, 2, 7, 0x3610000, 8, 0, 0, 0, 21, kept)
 }
 
-// How many configurations each code has, and of code 1 the entries of each list: of (5) the position of the leader's one, as a bit, and of
-// (6) and (12) the configuration.
+// Of code 1 the entries of each list: of (5) the position of the leader's one, as a bit, and of (6) and (12) the configuration.
 fn lists() -> Tally {
-    let mut t = Tally::none()
-        .with(configurations::configurations_of(1) == 8)
-        .with(configurations::configurations_of(2) == 64)
-        .with(configurations::configurations_of(3) == 256);
-    t = entry(t, 0, 0, 0, 0);
+    let mut t = entry(Tally::none(), 0, 0, 0, 0);
     t = entry(t, 1, 1, 6, 4);
     t = entry(t, 2, 2, 7, 3);
     t = entry(t, 3, 8, 1, 7);
@@ -92,8 +87,12 @@ fn lists() -> Tally {
 // Entry k of each list; a configuration starts with its number.
 fn entry(t: Tally, k: u16, leader: u16, second: u16, third: u16) -> Tally {
     let i = k % 8;
-    let c = configurations::configuration(1, i as usize);
-    t.with(split::leader(1, i) == leader)
+    let all = configurations::all_of_code_1();
+    let at = 4 * (i as usize);
+    let c = [all[at], all[at + 1], all[at + 2], all[at + 3]];
+    let chosen = code::by_number(1);
+    let shape = chosen.shape;
+    t.with(split::leader(shape, i) == leader)
         .with(is_triple(c, k, second, third))
         .with(is_triple(c, k, times(6, k), times(4, k)))
         .with(is_generated_at_square(c))
