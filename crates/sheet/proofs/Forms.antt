@@ -1,6 +1,6 @@
 -- The forms: reliabilities in two's complement, and symbols. Their items fit, and both ways of a row are inverse to each other.
 -- Assumes nothing.
-use mathlib.Core.Path.{_≡_, refl, sym, ap, ap₂, _∙_}
+use mathlib.Core.Path.{_≡_, refl, sym, ap, ap₂}
 use mathlib.Core.Logic.{_⊎_, inl, inr}
 use mathlib.Core.Bool.{Bool, true, false, _&&_, _||_, cond, and-assoc, or-false}
 use mathlib.Core.List.{List, [], _∷_, _++_}

@@ -8,14 +8,14 @@ use Prim.Native.Nat.{ℕ, zero, suc, _*_, _-_, _^_, _<_, _≤_, min}
 use native.Mathlib.Nat.{div-eq-of-lt, lt-of-lt-of-le, min-eq-left, mul-suc, le-trans, pow-le-pow-right, min-le-left, mul-zero}
 use native.Mathlib.Omega.{arith}
 use borrow.Author.Tests.{eqb-true, eq-eqb, leb-true, leb-false}
-use lib.Dec.{eqb, leb}
+use lib.Dec.{leb}
 use lib.ListN.{length, getD, take, drop, length-append, length-take, length-drop, take-append-drop, drop-of-length-le}
 use lib.Seq.{take-all, take-at, drop-at}
 use Rattle.refusal.specs.Refusal.{unless, first}
 use Rattle.refusal.proofs.Tests.{passed, first-none}
 use Rattle.code.proofs.Words.{Below}
 use Rattle.sheet.specs.declared.Form.{Form}
-use Rattle.sheet.specs.Sheet.{digits, packed, worded, kind, body, used, items, unused, items-words, word-refusal, items-refusal, items-in}
+use Rattle.sheet.specs.Sheet.{packed, worded, kind, body, used, items, unused, items-words, word-refusal, items-refusal, items-in}
 use Rattle.sheet.specs.Within.{Fine}
 use Rattle.sheet.proofs.Digits.{digits-length, digits-below, digits-packed, packed-digits, packed-lt}
 

@@ -1,18 +1,18 @@
 -- Both round trips, question by question, for any form of the reliabilities.
 -- Assumes nothing.
-use mathlib.Core.Path.{_≡_, refl, sym, ap, ap₂, _∙_, subst}
-use mathlib.Core.Bool.{Bool, true, _&&_}
+use mathlib.Core.Path.{_≡_, refl, sym, ap, ap₂, _∙_}
+use mathlib.Core.Bool.{true, _&&_}
 use mathlib.Core.List.{List, [], _∷_, _++_, append-assoc}
 use Prim.Native.Nat.{ℕ, zero, suc, _+_, _*_, _-_, _%_, _^_, _<_, _≤_}
 use native.Mathlib.Nat.{mod-lt, mod-eq-of-lt, div-eq-of-lt, zero-lt-suc}
 use native.Mathlib.Omega.{arith}
 use borrow.Author.Tests.{eqb-true, eq-eqb, ltb-true, lt-ltb}
-use lib.Dec.{eqb, lit<, lit≤}
+use lib.Dec.{lit<, lit≤}
 use lib.ListN.{length, drop}
 use lib.Seq.{drop-at}
 use Rattle.refusal.specs.Refusal.{unless, first}
 use Rattle.refusal.proofs.Tests.{passed, first-none}
-use Rattle.code.specs.Code.{code-good, number-refusal, width, long, symbols-good}
+use Rattle.code.specs.Code.{code-good, width, long, symbols-good}
 use Rattle.code.specs.Bits.{row-long}
 use Rattle.code.proofs.Words.{Below}
 use Rattle.code.proofs.Promise.{codes}
@@ -22,7 +22,7 @@ use Rattle.sheet.specs.declared.Form.{Form}
 use Rattle.sheet.specs.Sheet.{Question, question, reliabilities, symbols, head-kind, end-kind, most, numbers, worded, kind, body, head-code, low, row-items, row-of, sheet-bound, row-words, symbol-words, items-words, items-in, question-words, all-words, as-bytes, written-in, as-words, row-refusal, symbol-refusal, after-row, after, question-refusal, head-refusal, end-refusal, next-refusal, rest-refusal, sheet-refusal, question-in, questions-from, questions, question-good, all-good}
 use Rattle.sheet.specs.Within.{Row-form}
 use Rattle.sheet.specs.Promise.{Written-read, Read-written}
-use Rattle.sheet.proofs.Items.{Held, both, empty, below-join, items-words-below, kind-worded, body-worded, items-words-length, written-accepted, written-back, accepted-back}
+use Rattle.sheet.proofs.Items.{both, empty, below-join, items-words-below, kind-worded, body-worded, items-words-length, written-accepted, written-back, accepted-back}
 use Rattle.sheet.proofs.Forms.{row-form, row-tested, symbol-tested, items-below, row-back, items-back, row-items-length, row-of-length, symbols-below, row-room, symbol-room}
 use Rattle.sheet.proofs.Bytes.{bytes-length, as-words-bytes, as-bytes-words}
 use Rattle.sheet.proofs.Turns.{Rest, ends, asks, rest-parts}

@@ -1,6 +1,6 @@
 -- One turn of each loop that judges: a digit, a word, a question.
 -- Assumes nothing.
-use mathlib.Core.Path.{_≡_, refl, sym, ap, ap₂, _∙_}
+use mathlib.Core.Path.{_≡_, refl, sym, ap, _∙_}
 use mathlib.Core.Logic.{_⊎_, inl, inr}
 use mathlib.Core.Bool.{Bool, true, false, _&&_, _||_, cond, and-assoc, and-true}
 use mathlib.Core.List.{List, [], _∷_}
@@ -18,7 +18,7 @@ use Rattle.code.specs.Code.{width, long}
 use Rattle.code.specs.Bits.{row-long}
 use Rattle.code.proofs.Words.{Below}
 use Rattle.sheet.specs.declared.Form.{Form}
-use Rattle.sheet.specs.Sheet.{reliabilities, symbols, digits, kind, body, head-code, low, head-kind, end-kind, most, used, items, unused, count, row-words, symbol-words, question-long, word-refusal, items-refusal, row-refusal, symbol-refusal, question-refusal, head-refusal, end-refusal, next-refusal, rest-refusal, after-row, after, questions-from, questions, sheet-refusal, as-words}
+use Rattle.sheet.specs.Sheet.{reliabilities, symbols, digits, kind, body, head-code, low, head-kind, end-kind, most, used, items, count, row-words, symbol-words, question-long, word-refusal, items-refusal, row-refusal, symbol-refusal, question-refusal, head-refusal, end-refusal, next-refusal, rest-refusal, after-row, after, questions-from, questions, sheet-refusal, as-words}
 use Rattle.sheet.specs.Within.{Row-form, outside, judged-from}
 use Rattle.sheet.specs.Calls.{judgement, judged}
 use Rattle.sheet.proofs.Digits.{digits-below}
@@ -65,7 +65,7 @@ symbols-judged m ws = same-items symbols (symbols-fine .some) 6 _ _ (symbols-out
 
 module _ (f : Form) (some : 0 < f .each) where
   -- the words that items take: one more than those after it
-  count-more : (n : ℕ) → 0 < n → count f n ≡ suc (count f (n - f .each))
+  pub count-more : (n : ℕ) → 0 < n → count f n ≡ suc (count f (n - f .each))
   unfolding count
   count-more n h =
       div-eq-sub-div some (omega arith) ∙ rw add-one (ap suc (by (le-or-lt (f .each) n)))

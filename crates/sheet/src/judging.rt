@@ -2,7 +2,7 @@
 use crate::Form;
 use crate::words;
 ghost use mathlib.Core.Path.{_≡_};
-ghost use mathlib.Core.Bool.{_&&_, _||_};
+ghost use mathlib.Core.Bool.{_||_};
 ghost use Prim.Native.Nat.{_/_, _<_, _≤_};
 ghost use lib.Dec.{ltb, leb};
 ghost use lib.ListN.{length, drop};
@@ -25,12 +25,6 @@ fn is_outside(d: u32, low: u32, high: u32) -> bool
     high <= d
 }
 
-fn both(a: bool, b: bool) -> bool
-    ensures { λ r. ⌜ r ≡ (a && b) ⌝ }
-{
-    if a { b } else { false }
-}
-
 // One pass over n digits: a good one does not stand from `low` to `high` - 1.
 fn scanned(v: u32, base: u32, n: usize, low: u32, high: u32) -> Scan
     requires { ⌜ 0 < base ⌝ }
@@ -40,7 +34,7 @@ fn scanned(v: u32, base: u32, n: usize, low: u32, high: u32) -> Scan
     let mut good = true;
     let mut left = n;
     while 0 < left {
-        good = both(good, is_outside(rest % base, low, high));
+        good = words::both(good, is_outside(rest % base, low, high));
         rest = rest / base;
         left -= 1;
     }

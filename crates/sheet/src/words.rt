@@ -1,6 +1,7 @@
 // The words of a sheet and their parts.
 use crate::Form;
 ghost use mathlib.Core.Path.{_≡_};
+ghost use mathlib.Core.Bool.{_&&_};
 ghost use Prim.Native.Nat.{_+_, _*_, _^_, _<_, min};
 ghost use lib.ListN.{getD};
 ghost use Rattle.code.specs.Code.{width};
@@ -73,6 +74,12 @@ pub fn low_of(w: u32) -> u32
     ensures { λ r. ⌜ r ≡ low w ⌝ }
 {
     w % NUMBERS
+}
+
+pub fn both(a: bool, b: bool) -> bool
+    ensures { λ r. ⌜ r ≡ (a && b) ⌝ }
+{
+    if a { b } else { false }
 }
 
 pub fn least(a: usize, b: usize) -> usize

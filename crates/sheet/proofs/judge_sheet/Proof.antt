@@ -1,7 +1,6 @@
 -- `sheet::judge_sheet` meets its contract.
 -- Assumes nothing.
 use denote.Ref.{now}
-use Rattle.sheet.specs.Sheet.{most}
 use Rattle.sheet.proofs.Forms.{row-form}
 use Rattle.sheet.proofs.Turns.{judged-whole}
 use borrow.Author.Needs.{needs}
