@@ -2,34 +2,22 @@
 -- Assumes nothing.
 use mathlib.Core.Path.{_≡_, refl, sym, ap, ap₂, _∙_, subst}
 use mathlib.Core.Logic.{_⊎_, inl, inr}
-use mathlib.Core.Bool.{Bool, true, false, _&&_, not, cond, false≢true}
+use mathlib.Core.Bool.{Bool, true, false, _&&_, false≢true}
 use mathlib.Core.List.{List, [], _∷_, _++_, append-nil}
 use Prim.Native.Nat.{ℕ, zero, suc, _*_, _-_, _^_, _<_, _≤_, min}
-use native.Mathlib.Nat.{div-eq-of-lt, lt-of-lt-of-le, min-eq-left, mul-suc, le-trans, pow-le-pow-right, min-le-left, min-zero, zero-sub, mul-zero, sub-eq-zero-of-le}
+use native.Mathlib.Nat.{div-eq-of-lt, lt-of-lt-of-le, min-eq-left, mul-suc, le-trans, pow-le-pow-right, min-le-left, mul-zero}
 use native.Mathlib.Omega.{arith}
-use borrow.Author.Tests.{eqb-true, eq-eqb, not-false, leb-true, leb-false}
-use lib.Dec.{eqb, leb}
+use borrow.Author.Tests.{eqb-true, eq-eqb, leb-true, leb-false}
+use lib.Dec.{leb}
 use lib.ListN.{length, getD, take, drop, length-append, length-take, length-drop, take-append-drop, drop-of-length-le}
 use lib.Seq.{take-all, take-at, drop-at}
+use Rattle.refusal.specs.Refusal.{unless, first}
+use Rattle.refusal.proofs.Tests.{passed, first-none}
 use Rattle.code.proofs.Words.{Below}
 use Rattle.sheet.specs.declared.Form.{Form}
-use Rattle.sheet.specs.Sheet.{digits, packed, worded, kind, body, used, items, unused, items-words, first, word-refusal, items-refusal, items-in}
+use Rattle.sheet.specs.Sheet.{packed, worded, kind, body, used, items, unused, items-words, word-refusal, items-refusal, items-in}
 use Rattle.sheet.specs.Within.{Fine}
 use Rattle.sheet.proofs.Digits.{digits-length, digits-below, digits-packed, packed-digits, packed-lt}
-
--- what a passed test leaves
-pub passed : (t : Bool) (a x : ℕ) → cond t (suc a) x ≡ 0 → (t ≡ false) × (x ≡ 0)
-passed true a x e = absurd (omega arith)
-passed false a x e = (refl, e)
-
-pub held : (t : Bool) (a x : ℕ) → cond t x (suc a) ≡ 0 → (t ≡ true) × (x ≡ 0)
-held true a x e = (refl, e)
-held false a x e = absurd (omega arith)
-
-pub first-none : (a b : ℕ) → first a b ≡ 0 → (a ≡ 0) × (b ≡ 0)
-unfolding first
-first-none zero b e = (refl, e)
-first-none (suc a) b e = absurd (omega arith)
 
 pub both : (a b : Bool) → (a && b) ≡ true → (a ≡ true) × (b ≡ true)
 both true b e = (refl, e)
@@ -75,41 +63,33 @@ pub record Tested (f : Form) (good : List ℕ → Bool) : Type 0 where
   pub none : good [] ≡ true
   pub splits : (a b : List ℕ) → good (a ++ b) ≡ (good a && good b)
 
--- what an accepted run of words holds
+-- an accepted run of words is that of n items
 pub record Held (f : Form) (good : List ℕ → Bool) (k n : ℕ) (ws : List ℕ) : Type 0 where
-  pub enough : k ≤ length ws
-  pub again : items-words f k (items-in f k n ws) ≡ take k ws
-  pub fine : good (items-in f k n ws) ≡ true
-  pub inside : Below (f .base) (items-in f k n ws)
+  pub ds : List ℕ
+  pub long : length ds ≡ n
+  pub fine : good ds ≡ true
+  pub inside : Below (f .base) ds
+  pub again : ws ≡ items-words f k ds ++ drop k ws
+
+pub empty : {A : Type 0} (l : List A) → length l ≡ 0 → l ≡ []
+empty [] e = refl
+empty (x ∷ l) e = absurd (omega arith)
 
 module _ (f : Form) where
   items-length : (n w : ℕ) → length (items f n w) ≡ used f n
   unfolding items
   items-length n w = digits-length (f .base) (used f n) (body w)
 
-  no-items : (k : ℕ) (ws : List ℕ) → items-in f k 0 ws ≡ []
-  unfolding items-in items used digits
-  no-items zero ws = refl
-  no-items (suc k) ws =
-      ap₂ _++_ (ap (λ (x : ℕ). digits (f .base) x (body (getD ws 0 0))) (min-zero (f .each)))
-      (ap (λ (x : ℕ). items-in f k x (drop 1 ws)) (zero-sub (f .each)) ∙ no-items k (drop 1 ws))
-
   -- the first word takes the first items
-  part : (n w k : ℕ) (ws : List ℕ) →
-      (take (f .each) (items f n w ++ items-in f k (n - f .each) ws) ≡ items f n w)
-      × (drop (f .each) (items f n w ++ items-in f k (n - f .each) ws) ≡ items-in f k (n - f .each) ws)
+  part : (n w : ℕ) (ds : List ℕ) → length ds ≡ n - f .each → (take (f .each) (items f n w ++ ds) ≡ items f n w) × (drop (f .each) (items f n w ++ ds) ≡ ds)
   unfolding used
-  part n w k ws = by (le-or-lt (f .each) n)
+  part n w ds e = by (le-or-lt (f .each) n)
     where
-      by : (f .each ≤ n) ⊎ (n < f .each) →
-          (take (f .each) (items f n w ++ items-in f k (n - f .each) ws) ≡ items f n w)
-          × (drop (f .each) (items f n w ++ items-in f k (n - f .each) ws) ≡ items-in f k (n - f .each) ws)
-      by (inl h) =
-          let l : length (items f n w) ≡ f .each = items-length n w ∙ min-eq-left h in
-          (take-at (items f n w) (items-in f k (n - f .each) ws) (f .each) l, drop-at (items f n w) (items-in f k (n - f .each) ws) (f .each) l)
+      by : (f .each ≤ n) ⊎ (n < f .each) → (take (f .each) (items f n w ++ ds) ≡ items f n w) × (drop (f .each) (items f n w ++ ds) ≡ ds)
+      by (inl h) = let l : length (items f n w) ≡ f .each = items-length n w ∙ min-eq-left h in (take-at (items f n w) ds (f .each) l, drop-at (items f n w) ds (f .each) l)
       by (inr h) =
           let l : length (items f n w) ≤ f .each = omega (arith, items-length n w) in
-          let z : items-in f k (n - f .each) ws ≡ [] = ap (λ (x : ℕ). items-in f k x ws) (sub-eq-zero-of-le (omega arith)) ∙ no-items k ws in
+          let z : ds ≡ [] = empty ds (omega arith) in
           (rw (z, append-nil) (take-all (f .each) (items f n w) l), rw (z, append-nil) (drop-of-length-le (items f n w) l))
 
   pub items-in-length : (k n : ℕ) (ws : List ℕ) → n ≤ f .each * k → length (items-in f k n ws) ≡ n
@@ -160,7 +140,7 @@ module _ (f : Form) (good : List ℕ → Bool) (t : Tested f good) where
 
   pub written-accepted : (e k : ℕ) (ds rest : List ℕ) → Below (f .base) ds → good ds ≡ true →
       items-refusal f e good k (length ds) (items-words f k ds ++ rest) ≡ 0
-  unfolding items-refusal word-refusal first items-words
+  unfolding items-refusal word-refusal first unless items-words
   written-accepted e zero ds rest g h = refl
   written-accepted e (suc k) ds rest g h =
       let w = word ds g in
@@ -179,24 +159,23 @@ module _ (f : Form) (good : List ℕ → Bool) (t : Tested f good) where
       (written-back k (drop (f .each) ds) rest (below-parts (f .base) (f .each) ds g .1) (omega (arith, length-drop (f .each) ds, mul-suc (f .each) k)))
       ∙ take-append-drop (f .each) ds)
 
-  pub accepted-back : (e k n : ℕ) (ws : List ℕ) → items-refusal f (suc e) good k n ws ≡ 0 → Held f good k n ws
-  unfolding items-refusal word-refusal items-words items-in items unused
-  accepted-back e zero n ws h = record { enough = omega arith; again = refl; fine = t .none; inside = tt }
-  accepted-back e (suc k) n [] h = absurd (omega arith)
-  accepted-back e (suc k) n (w ∷ ws) h =
-      let o = first-none (word-refusal f (suc e) good n w) (items-refusal f (suc e) good k (n - f .each) ws) h in
-      let a = passed (not (eqb (kind w) (f .kind))) 9 _ (o .0) in
-      let b = passed (not (eqb (unused f n w) 0)) 10 _ (a .1) in
-      let d = held (good (items f n w)) e 0 (b .1) in
-      more (eqb-true (kind w) (f .kind) (not-false _ (a .0))) (eqb-true (unused f n w) 0 (not-false _ (b .0))) (d .0)
-      (accepted-back e k (n - f .each) ws (o .1))
+  pub accepted-back : (e k n : ℕ) (ws : List ℕ) → n ≤ f .each * k → items-refusal f (suc e) good k n ws ≡ 0 → Held f good k n ws
+  unfolding items-refusal word-refusal items-words used unused items
+  accepted-back e zero n ws l h = record { ds = []; long = omega (arith, mul-zero (f .each)); fine = t .none; inside = tt; again = refl }
+  accepted-back e (suc k) n [] l h = absurd (omega arith)
+  accepted-back e (suc k) n (w ∷ ws) l h =
+      let o = first-none _ _ h in
+      let a = passed _ _ _ (o .0) in
+      let b = passed _ _ _ (a .1) in
+      more (eqb-true _ _ (a .0)) (eqb-true _ _ (b .0)) (passed _ _ _ (b .1) .0) (accepted-back e k (n - f .each) ws (omega (arith, mul-suc (f .each) k)) (o .1))
     where
       more : kind w ≡ f .kind → unused f n w ≡ 0 → good (items f n w) ≡ true → Held f good k (n - f .each) ws → Held f good (suc k) n (w ∷ ws)
-      more right clear fine r = record {
-        enough = omega (arith, r .enough);
-        again =
-            rw (part f n w k ws .0, part f n w k ws .1)
-            (ap₂ _∷_ (ap₂ worded (sym right) (packed-digits (f .base) (used f n) (body w) clear) ∙ worded-again w) (r .again));
-        fine = t .splits (items f n w) (items-in f k (n - f .each) ws) ∙ ap₂ _&&_ fine (r .fine);
-        inside = below-join (f .base) (items f n w) (items-in f k (n - f .each) ws) (digits-below (f .base) (t .fine .some) (used f n) (body w)) (r .inside);
-      }
+      more right clear fine r =
+          let p = part f n w (r .ds) (r .long) in
+          record {
+            ds = items f n w ++ r .ds;
+            long = omega (arith, length-append (items f n w) (r .ds), items-length f n w, r .long);
+            fine = t .splits (items f n w) (r .ds) ∙ ap₂ _&&_ fine (r .fine);
+            inside = below-join (f .base) (items f n w) (r .ds) (digits-below (f .base) (t .fine .some) (used f n) (body w)) (r .inside);
+            again = rw (p .0, p .1) (ap₂ _∷_ (sym (ap₂ worded (sym right) (packed-digits (f .base) (used f n) (body w) clear) ∙ worded-again w)) (r .again));
+          }

@@ -1,4 +1,4 @@
 pub mod Sheet
-pub mod Within
 pub mod Calls
+pub mod Within
 pub mod Promise

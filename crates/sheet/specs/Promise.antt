@@ -6,7 +6,7 @@ use mathlib.Core.List.{List, [], _∷_}
 use Prim.Native.Nat.{ℕ, _≤_}
 use lib.Dec.{ltb}
 use lib.ListN.{length}
-use Rattle.sheet.specs.Sheet.{Question, most, all-good, written, sheet-refusal, questions}
+use Rattle.sheet.specs.Sheet.{Question, reliabilities, most, all-good, written, sheet-refusal, questions}
 
 unfoldable pub all-bytes : List ℕ → Bool
 all-bytes [] = true
@@ -14,13 +14,13 @@ all-bytes (x ∷ xs) = ltb x 256 && all-bytes xs
 
 -- writing a question list and reading the sheet returns the list
 unfoldable pub Written-read : Type 0
-Written-read = (qs : List Question) → all-good qs ≡ true → length qs ≤ most → (sheet-refusal (written qs) ≡ 0) × (questions (written qs) ≡ qs)
+Written-read = (qs : List Question) → all-good reliabilities qs ≡ true → length qs ≤ most → (sheet-refusal (written qs) ≡ 0) × (questions (written qs) ≡ qs)
 
 -- rewriting an accepted sheet returns its bytes
 unfoldable pub Read-written : Type 0
 Read-written =
     (bs : List ℕ) → all-bytes bs ≡ true → sheet-refusal bs ≡ 0 →
-    (all-good (questions bs) ≡ true) × (length (questions bs) ≤ most) × (written (questions bs) ≡ bs)
+    (all-good reliabilities (questions bs) ≡ true) × (length (questions bs) ≤ most) × (written (questions bs) ≡ bs)
 
 -- the longest sheet has 19,204 bytes: none that is accepted is longer, and one that is accepted is this long
 unfoldable pub sheet-most : ℕ

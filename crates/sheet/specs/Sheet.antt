@@ -1,12 +1,13 @@
 -- The sheet format (document 01, 'Sheets'): what a question list is written as, what a sheet is refused by, and the questions that it holds.
 -- Assumes nothing: these are definitions.
-use mathlib.Core.Bool.{Bool, true, _&&_, not, cond}
+use mathlib.Core.Bool.{Bool, true, _&&_, cond}
 use mathlib.Core.List.{List, [], _∷_, _++_, map}
 use Prim.Native.Nat.{ℕ, zero, suc, _+_, _*_, _-_, _/_, _%_, _^_, min}
 use lib.Dec.{ltb, eqb}
 use lib.ListN.{length, getD, take, drop}
 use lib.IntN.{ℤ, pos, negsuc}
-use Rattle.code.specs.Code.{code-good, width, long, symbols-good}
+use Rattle.refusal.specs.Refusal.{unless, first}
+use Rattle.code.specs.Code.{code-good, number-refusal, width, long, symbols-good}
 use Rattle.code.specs.Bits.{row-long}
 use Rattle.metric.specs.Row.{row-good}
 use Rattle.sheet.specs.declared.Form.{Form}
@@ -67,6 +68,10 @@ row-items f rs = map (unsigned-of (f .base)) rs
 unfoldable pub row-of : Form → (items : List ℕ) → List ℤ
 row-of f ds = map (signed-of (f .base)) ds
 
+-- the greatest size of a reliability in a form: two's complement reaches one further down, and the least number is none
+abbrev pub sheet-bound : Form → ℕ
+sheet-bound f = f .base / 2 - 1
+
 -- a word is 32 bits, the top four the kind
 unfoldable pub worded : (kind body : ℕ) → ℕ
 worded k v = k * 2 ^ 28 + v
@@ -110,18 +115,21 @@ question-words f q =
     worded head-kind (q .code * numbers + q .number)
     ∷ items-words f (row-words f m) (row-items f (q .row)) ++ items-words symbols (symbol-words m) (q .word)
 
-unfoldable pub all-words : List Question → List ℕ
-all-words [] = []
-all-words (q ∷ qs) = question-words reliabilities q ++ all-words qs
+unfoldable pub all-words : Form → List Question → List ℕ
+all-words f [] = []
+all-words f (q ∷ qs) = question-words f q ++ all-words f qs
 
 -- low byte first
 unfoldable pub as-bytes : (words : List ℕ) → List ℕ
 as-bytes [] = []
 as-bytes (w ∷ ws) = digits (2 ^ 8) 4 w ++ as-bytes ws
 
--- the sheet of a question list
-unfoldable pub written : List Question → List ℕ
-written qs = as-bytes (all-words qs ++ worded end-kind (length qs) ∷ [])
+-- the sheet of a question list, its rows in a form
+unfoldable pub written-in : Form → List Question → List ℕ
+written-in f qs = as-bytes (all-words f qs ++ worded end-kind (length qs) ∷ [])
+
+abbrev pub written : List Question → List ℕ
+written = written-in reliabilities
 
 -- READING
 unfoldable pub words-from : (words : ℕ) → (bytes : List ℕ) → List ℕ
@@ -141,15 +149,12 @@ items f n w = digits (f .base) (used f n) (body w)
 unfoldable pub unused : Form → (left word : ℕ) → ℕ
 unused f n w = body w / f .base ^ used f n
 
--- what refuses first
-unfoldable pub first : ℕ → ℕ → ℕ
-first zero e = e
-first (suc d) e = suc d
-
 -- a word of which n items are left: wrong kind 10, unused bits not zero 11, then the refusal that a bad item meets
 unfoldable pub word-refusal : Form → (bad : ℕ) → (good : List ℕ → Bool) → (left word : ℕ) → ℕ
 word-refusal f e good n w =
-    cond (not (eqb (kind w) (f .kind))) 10 (cond (not (eqb (unused f n w) 0)) 11 (cond (good (items f n w)) 0 e))
+    unless (eqb (kind w) (f .kind)) 10
+    (unless (eqb (unused f n w) 0) 11
+    (unless (good (items f n w)) e 0))
 
 -- n items in so many words; words run out 9
 unfoldable pub items-refusal : Form → (bad : ℕ) → (good : List ℕ → Bool) → (words left : ℕ) → List ℕ → ℕ
@@ -163,7 +168,7 @@ items-in f zero n ws = []
 items-in f (suc k) n ws = items f n (getD ws 0 0) ++ items-in f k (n - f .each) (drop 1 ws)
 
 unfoldable pub row-refusal : Form → (m : ℕ) → List ℕ → ℕ
-row-refusal f m ws = items-refusal f 5 (λ ds. row-good (row-of f ds)) (row-words f m) (row-long m) ws
+row-refusal f m ws = items-refusal f 5 (λ ds. row-good (sheet-bound f) (row-of f ds)) (row-words f m) (row-long m) ws
 
 unfoldable pub symbol-refusal : (m : ℕ) → List ℕ → ℕ
 symbol-refusal m ws = items-refusal symbols 6 (symbols-good m) (symbol-words m) (long m) ws
@@ -176,26 +181,37 @@ unfoldable pub after : Form → (m : ℕ) → List ℕ → List ℕ
 after f m ws = drop (symbol-words m) (after-row f m ws)
 
 unfoldable pub question-refusal : Form → (code : ℕ) → List ℕ → ℕ
-question-refusal f c ws = cond (not (code-good c)) 1 (first (row-refusal f (width c) ws) (symbol-refusal (width c) (after-row f (width c) ws)))
+question-refusal f c ws = first (number-refusal c) (first (row-refusal f (width c) ws) (symbol-refusal (width c) (after-row f (width c) ws)))
+
+-- a word that is no end, with what follows it, where so many heads are still allowed: wrong kind 10, one head more 12, then the question
+unfoldable pub head-refusal : Form → (left word : ℕ) → (follows : List ℕ) → ℕ
+head-refusal f k w ws =
+    unless (eqb (kind w) head-kind) 10
+    (unless (ltb 0 k) 12
+    (question-refusal f (head-code w) ws))
 
 -- an end word after so many questions, with so many words after it
 unfoldable pub end-refusal : (seen word after : ℕ) → ℕ
-end-refusal n w k = cond (not (eqb (head-code w) 0)) 11 (cond (not (eqb (low w) n)) 12 (cond (eqb k 0) 0 13))
+end-refusal n w k =
+    unless (eqb (head-code w) 0) 11
+    (unless (eqb (low w) n) 12
+    (unless (eqb k 0) 13 0))
 
--- the next word after so many questions is an end, or a head that `asked` judges with what follows it: words run out 9, wrong kind 10
-unfoldable pub next-refusal : (seen : ℕ) → (asked : (code : ℕ) → List ℕ → ℕ) → List ℕ → ℕ
-next-refusal n asked [] = 9
-next-refusal n asked (w ∷ ws) =
-    cond (eqb (kind w) end-kind) (end-refusal n w (length ws)) (cond (eqb (kind w) head-kind) (asked (head-code w) ws) 10)
+-- the next word is an end, or a head with its question, and `more` judges what follows that; words run out 9
+unfoldable pub next-refusal : Form → (left : ℕ) → (more : List ℕ → ℕ) → List ℕ → ℕ
+next-refusal f k more [] = 9
+next-refusal f k more (w ∷ ws) =
+    cond (eqb (kind w) end-kind) (end-refusal (most - k) w (length ws))
+    (first (head-refusal f k w ws) (more (after f (width (head-code w)) ws)))
 
--- the rest of a sheet in which so many heads are still allowed; one more is 12
-unfoldable pub rest-refusal : (left : ℕ) → List ℕ → ℕ
-rest-refusal zero ws = next-refusal most (λ c vs. 12) ws
-rest-refusal (suc k) ws = next-refusal (most - suc k) (λ c vs. first (question-refusal reliabilities c vs) (rest-refusal k (after reliabilities (width c) vs))) ws
+-- the rest of a sheet in which so many heads are still allowed
+unfoldable pub rest-refusal : Form → (left : ℕ) → List ℕ → ℕ
+rest-refusal f zero ws = next-refusal f 0 (λ vs. 0) ws
+rest-refusal f (suc k) ws = next-refusal f (suc k) (rest-refusal f k) ws
 
 -- 0, or the refusal of a sheet: the byte count first, then the first offending word
 unfoldable pub sheet-refusal : (sheet : List ℕ) → ℕ
-sheet-refusal bs = cond (eqb (length bs % 4) 0) (rest-refusal most (as-words bs)) 9
+sheet-refusal bs = unless (eqb (length bs % 4) 0) 9 (rest-refusal reliabilities most (as-words bs))
 
 -- the question of a head and of what follows it
 unfoldable pub question-in : Form → (head : ℕ) → (follows : List ℕ) → Question
@@ -203,23 +219,24 @@ question-in f w ws =
     let m = width (head-code w) in
     question (head-code w) (low w) (row-of f (items-in f (row-words f m) (row-long m) ws)) (items-in symbols (symbol-words m) (long m) (after-row f m ws))
 
-unfoldable pub questions-from : (left : ℕ) → List ℕ → List Question
-questions-from zero ws = []
-questions-from (suc k) [] = []
-questions-from (suc k) (w ∷ ws) =
-    cond (eqb (kind w) head-kind) (question-in reliabilities w ws ∷ questions-from k (after reliabilities (width (head-code w)) ws)) []
+unfoldable pub questions-from : Form → (left : ℕ) → List ℕ → List Question
+questions-from f zero ws = []
+questions-from f (suc k) [] = []
+questions-from f (suc k) (w ∷ ws) =
+    cond (eqb (kind w) head-kind) (question-in f w ws ∷ questions-from f k (after f (width (head-code w)) ws)) []
 
 -- the questions of an accepted sheet
 unfoldable pub questions : (sheet : List ℕ) → List Question
-questions bs = questions-from most (as-words bs)
+questions bs = questions-from reliabilities most (as-words bs)
 
--- a question that a sheet can hold
-unfoldable pub question-good : Question → Bool
-question-good q =
+-- a question that a sheet can hold, its row in a form
+unfoldable pub question-good : Form → Question → Bool
+question-good f q =
     let m = width (q .code) in
-    (code-good (q .code) && ltb (q .number) numbers)
-    && ((eqb (length (q .row)) (row-long m) && row-good (q .row)) && (eqb (length (q .word)) (long m) && symbols-good m (q .word)))
+    code-good (q .code) && (ltb (q .number) numbers
+    && (eqb (length (q .row)) (row-long m) && (row-good (sheet-bound f) (q .row)
+    && (eqb (length (q .word)) (long m) && symbols-good m (q .word)))))
 
-unfoldable pub all-good : List Question → Bool
-all-good [] = true
-all-good (q ∷ qs) = question-good q && all-good qs
+unfoldable pub all-good : Form → List Question → Bool
+all-good f [] = true
+all-good f (q ∷ qs) = question-good f q && all-good f qs

@@ -1,12 +1,15 @@
 -- What the inner functions ask and compute, where it is no definition of the format. No call offered to callers cites these.
 -- Assumes nothing: these are definitions.
 use mathlib.Core.Path.{_≡_}
-use mathlib.Core.Bool.{Bool, true, _&&_, _||_, cond}
+use mathlib.Core.Bool.{Bool, true, _&&_, _||_}
 use mathlib.Core.List.{List, [], _∷_}
-use Prim.Native.Nat.{ℕ, _^_, _<_, _≤_}
-use lib.Dec.{ltb, leb, eqb}
+use Prim.Native.Nat.{ℕ, _+_, _-_, _/_, _%_, _^_, _<_, _≤_}
+use lib.Dec.{ltb, leb}
+use lib.ListN.{length}
 use Rattle.sheet.specs.declared.Form.{Form}
-use Rattle.sheet.specs.Sheet.{reliabilities, symbols, head-kind, kind, head-code, question-refusal}
+use Rattle.sheet.specs.declared.judging.Scan.{Scan}
+use Rattle.sheet.specs.Sheet.{symbols, most, digits, rest-refusal, questions-from}
+use Rattle.sheet.specs.Calls.{judgement}
 
 -- a word has room for the items of a form, one at least, and an item fits an i16
 pub record Fine (f : Form) : Type 0 where
@@ -17,10 +20,10 @@ pub record Fine (f : Form) : Type 0 where
   pub few : f .each ≤ 28
   pub fits : f .base ^ f .each ≤ 2 ^ 28
 
--- a form of reliabilities has a kind of its own, and room for those of 8 bits
+-- a form of reliabilities has a kind of its own, and an even base: the least number of two's complement is one item
 pub record Row-form (f : Form) : Type 0 where
   pub form : Fine f
-  pub wide : 256 ≤ f .base
+  pub even : f .base % 2 ≡ 0
   pub other : f .kind ≡ symbols .kind → ⊥
 
 -- no item stands from `low` up to, but not including, `high`
@@ -28,6 +31,11 @@ unfoldable pub outside : (low high : ℕ) → (items : List ℕ) → Bool
 outside l h [] = true
 outside l h (d ∷ ds) = (ltb d l || leb h d) && outside l h ds
 
--- a word that is no end, with what follows it, where so many heads are still allowed
-unfoldable pub head-refusal : (left word : ℕ) → (follows : List ℕ) → ℕ
-head-refusal left w ws = cond (eqb (kind w) head-kind) (cond (eqb left 0) 12 (question-refusal reliabilities (head-code w) ws)) 10
+-- what stands above n digits, and whether none of them stands there
+pub record Scan-says (v base n low high : ℕ) (s : Scan) : Type 0 where
+  pub rest-is : s .rest ≡ v / base ^ n
+  pub good-is : s .good ≡ outside low high (digits base n v)
+
+-- what is judged of the rest of a sheet in which so many heads are still allowed
+unfoldable pub judged-from : Form → (left : ℕ) → List ℕ → ℕ
+judged-from f k ws = judgement (rest-refusal f k ws) (most - k + length (questions-from f k ws))

@@ -1,12 +1,11 @@
 // The words of a sheet and their parts.
 use crate::Form;
 ghost use mathlib.Core.Path.{_≡_};
-ghost use mathlib.Core.Bool.{true};
+ghost use mathlib.Core.Bool.{_&&_};
 ghost use Prim.Native.Nat.{_+_, _*_, _^_, _<_, min};
 ghost use lib.ListN.{getD};
-ghost use Rattle.field.specs.Field.{width-good};
 ghost use Rattle.code.specs.Code.{width};
-ghost use Rattle.sheet.specs.Sheet.{as-words, kind, body, head-code, low, count, row-words, question-long};
+ghost use Rattle.sheet.specs.Sheet.{as-words, kind, body, head-code, low, count, question-long};
 ghost use Rattle.sheet.specs.Within.{Fine};
 
 pub const HEAD: u32 = 1;
@@ -19,7 +18,8 @@ pub const MOST: usize = 200;
 // Question numbers and counts are below this.
 pub const NUMBERS: u32 = 16777216;
 
-const KINDS: u32 = 268435456;
+// A word's body is below this, and its kind stands above.
+pub const KINDS: u32 = 268435456;
 
 // The two forms of items: three reliabilities of 8 bits, and six symbols of 4.
 pub const RELIABILITIES: Form = Form {
@@ -76,6 +76,12 @@ pub fn low_of(w: u32) -> u32
     w % NUMBERS
 }
 
+pub fn both(a: bool, b: bool) -> bool
+    ensures { λ r. ⌜ r ≡ (a && b) ⌝ }
+{
+    if a { b } else { false }
+}
+
 pub fn least(a: usize, b: usize) -> usize
     ensures { λ r. ⌜ r ≡ min a b ⌝ }
 {
@@ -92,20 +98,12 @@ pub fn count_of(f: Form, n: usize) -> usize
     (n + (each - 1)) / each
 }
 
-// How many words the row of a question takes.
-pub fn row_words_of(f: Form, m: u32) -> usize
-    requires { ⌜ Fine f ⌝ }
-    requires { ⌜ width-good m ≡ true ⌝ }
-    ensures { λ r. ⌜ r ≡ row-words f m ⌝ }
-{
-    count_of(f, code::row_long_of(m))
-}
-
 // How many words a question of a code has after its head.
 pub fn question_words_of(f: Form, code: u32) -> usize
     requires { ⌜ Fine f ⌝ }
     ensures { λ r. ⌜ r ≡ question-long f (width code) ⌝ }
 {
-    let m = code::width_of(code);
-    row_words_of(f, m) + count_of(SYMBOLS, code::long_of(m))
+    let chosen = code::by_number(code);
+    let shape = chosen.shape;
+    count_of(f, shape.bits) + count_of(SYMBOLS, shape.n)
 }

@@ -9,27 +9,27 @@ use native.Mathlib.Omega.{arith}
 use borrow.Author.Tests.{eq-eqb, ne-eqb}
 use lib.ListN.{length, getD, drop}
 use lib.IntN.{ℤ}
-use Rattle.sheet.specs.Sheet.{Question, kind, head-code, head-kind, as-words, sheet-refusal, question-in, questions}
+use Rattle.sheet.specs.declared.Form.{Form}
+use Rattle.sheet.specs.Sheet.{Question, reliabilities, kind, head-code, head-kind, as-words, sheet-refusal, question-in, questions}
 use Rattle.sheet.specs.Calls.{judgement, judged}
 use Rattle.sheet_reader.specs.declared.Step.{Step}
 use Rattle.sheet_reader.specs.declared.Yield.the-variants.{NoneLeft, Refused}
 use Rattle.sheet_reader.specs.Calls.{filled, chosen, row-first, word-first, Choice-says}
 use Rattle.sheet_reader.specs.Within.{Stands, answered, behind, yielded, question-here, Place-says, skipped}
 use Rattle.sheet_reader.proofs.Order.{stands-first, Done, More, cases}
-use Rattle.sheet_reader.proofs.Places.{answered-none}
 
 -- one turn of the loop over heads
-module _ (ws : List ℕ) (at : ℕ) where
-  pub skip-none : (k : ℕ) → k ≤ 0 → skipped k ws at ≡ at
+module _ (f : Form) (ws : List ℕ) (at : ℕ) where
+  pub skip-none : (k : ℕ) → k ≤ 0 → skipped f k ws at ≡ at
   unfolding skipped
   skip-none k h = let z : k ≡ 0 = omega arith in rw z
 
-  pub skip-end : (k : ℕ) → (kind (getD ws at 0) ≡ head-kind → ⊥) → skipped k ws at ≡ at
+  pub skip-end : (k : ℕ) → (kind (getD ws at 0) ≡ head-kind → ⊥) → skipped f k ws at ≡ at
   unfolding skipped
   skip-end zero n = refl
   skip-end (suc k) n = rw (ne-eqb (kind (getD ws at 0)) head-kind n)
 
-  pub skip-more : (k : ℕ) → 0 < k → kind (getD ws at 0) ≡ head-kind → skipped k ws at ≡ skipped (k - 1) ws (behind (head-code (getD ws at 0)) at)
+  pub skip-more : (k : ℕ) → 0 < k → kind (getD ws at 0) ≡ head-kind → skipped f k ws at ≡ skipped f (k - 1) ws (behind f (head-code (getD ws at 0)) at)
   unfolding skipped
   skip-more zero h e = absurd (omega arith)
   skip-more (suc k) h e = let z : suc k - 1 ≡ k = omega arith in rw (z, eq-eqb (kind (getD ws at 0)) head-kind e)
@@ -43,7 +43,7 @@ stays {bs} (suc i) j at t n = by (stays i (suc j) at) (cases t)
     by more (inl d) = subst (λ (x : ℕ). Stands bs x at) (suc-add j i ∙ sym (add-suc j i)) (more (d .stays) n)
     by more (inr m) = absurd (n (m .head))
 
-skip-stands : {bs : List ℕ} (i j at : ℕ) → Stands bs j at → Stands bs (j + i) (skipped i (as-words bs) at)
+skip-stands : {bs : List ℕ} (i j at : ℕ) → Stands bs j at → Stands bs (j + i) (skipped reliabilities i (as-words bs) at)
 unfolding skipped
 skip-stands zero j at t = rw add-zero t
 skip-stands {bs} (suc i) j at t = by (skip-stands i (suc j)) (cases t)
@@ -51,14 +51,14 @@ skip-stands {bs} (suc i) j at t = by (skip-stands i (suc j)) (cases t)
     w : ℕ
     w = getD (as-words bs) at 0
 
-    by : ((b : ℕ) → Stands bs (suc j) b → Stands bs (suc j + i) (skipped i (as-words bs) b)) → Done t ⊎ More t → Stands bs (j + suc i) (skipped (suc i) (as-words bs) at)
+    by : ((b : ℕ) → Stands bs (suc j) b → Stands bs (suc j + i) (skipped reliabilities i (as-words bs) b)) → Done t ⊎ More t → Stands bs (j + suc i) (skipped reliabilities (suc i) (as-words bs) at)
     by more (inl d) = rw (ne-eqb (kind w) head-kind (d .no-head)) (stays (suc i) j at t (d .no-head))
     by more (inr m) =
         rw (eq-eqb (kind w) head-kind (m .head))
-        (subst (λ (x : ℕ). Stands bs x (skipped i (as-words bs) (behind (head-code w) at))) (suc-add j i ∙ sym (add-suc j i)) (more _ (m .next)))
+        (subst (λ (x : ℕ). Stands bs x (skipped reliabilities i (as-words bs) (behind reliabilities (head-code w) at))) (suc-add j i ∙ sym (add-suc j i)) (more _ (m .next)))
 
-pub place-there : (bs : List ℕ) (i : ℕ) → sheet-refusal bs ≡ 0 → Stands bs i (skipped i (as-words bs) 0)
-place-there bs i h = subst (λ (x : ℕ). Stands bs x (skipped i (as-words bs) 0)) (zero-add i) (skip-stands i 0 0 (stands-first bs h))
+pub place-there : (bs : List ℕ) (i : ℕ) → sheet-refusal bs ≡ 0 → Stands bs i (skipped reliabilities i (as-words bs) 0)
+place-there bs i h = subst (λ (x : ℕ). Stands bs x (skipped reliabilities i (as-words bs) 0)) (zero-add i) (skip-stands i 0 0 (stands-first bs h))
 
 -- a refused sheet
 pub refused : (bs : List ℕ) (i j : ℕ) (row : List ℤ) (word : List ℕ) → j ≡ judged bs → j < 100 → Choice-says bs i (Refused j) row row word word
@@ -70,11 +70,11 @@ refused bs i j row word e l = record { answer = by (sheet-refusal bs) e; row-is 
     by (suc n) h = ap Refused h
 
 -- from the yield at a place to the choice by number
-module _ {bs : List ℕ} {i at : ℕ} {row row-now : List ℤ} {word word-now : List ℕ} {s : Step} (t : Stands bs i at) (y : Place-says bs at s row row-now word word-now) where
+module _ {bs : List ℕ} {i at : ℕ} {row row-now : List ℤ} {word word-now : List ℕ} {s : Step} (t : Stands bs i at) (y : Place-says reliabilities bs at s row row-now word word-now) where
   none : Done t → Choice-says bs i (s .answer) row row-now word word-now
-  unfolding yielded filled chosen
+  unfolding yielded answered filled chosen
   none d =
-      let a : s .answer ≡ NoneLeft = ap (λ (x : Step). x .answer) (y .step) ∙ answered-none (getD (as-words bs) at 0) (length row) (length word) (d .no-head) in
+      let a : s .answer ≡ NoneLeft = ap (λ (x : Step). x .answer) (y .step) ∙ rw (ne-eqb (kind (getD (as-words bs) at 0)) head-kind (d .no-head)) in
       record {
         answer = a ∙ sym (ap₂ (λ (x : ℕ) (qs : List Question). chosen x qs (length row) (length word)) (t .accepted) (d .none));
         row-is = y .row-is ∙ rw a;

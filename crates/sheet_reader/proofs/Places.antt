@@ -1,103 +1,66 @@
--- Refusals are small, so 100 and a count is none; what is answered at a word, by its tests.
+-- Refusals are small, so 100 and a count is none.
 -- Assumes nothing.
 use mathlib.Core.Path.{_≡_, refl}
-use mathlib.Core.Bool.{Bool, true, false, not, cond}
+use mathlib.Core.Bool.{Bool, true, false, cond}
 use mathlib.Core.List.{List, [], _∷_}
-use Prim.Native.Nat.{ℕ, zero, suc, _-_, _%_, _<_, _≤_}
+use Prim.Native.Nat.{ℕ, zero, suc, _-_, _≤_}
 use native.Mathlib.Omega.{arith}
-use borrow.Author.Tests.{eq-eqb, ne-eqb}
 use lib.Dec.{eqb, lit≤}
 use lib.ListN.{length}
-use Rattle.code.specs.Code.{width, long, code-good, symbols-good}
-use Rattle.code.specs.Bits.{row-long}
-use Rattle.metric.specs.Row.{row-good}
+use Rattle.refusal.specs.Refusal.{unless, first}
+use Rattle.code.specs.Code.{number-refusal}
 use Rattle.sheet.specs.declared.Form.{Form}
-use Rattle.sheet.specs.Sheet.{
-  kind,
-  head-code,
-  low,
-  head-kind,
-  end-kind,
-  most,
-  row-of,
-  reliabilities,
-  symbols,
-  row-words,
-  symbol-words,
-  as-words,
-  unused,
-  items,
-  first,
-  word-refusal,
-  items-refusal,
-  row-refusal,
-  symbol-refusal,
-  after,
-  after-row,
-  question-refusal,
-  end-refusal,
-  next-refusal,
-  rest-refusal,
-  sheet-refusal,
-  questions,
-}
+use Rattle.sheet.specs.Sheet.{kind, end-kind, most, as-words, word-refusal, items-refusal, row-refusal, symbol-refusal, question-refusal, head-refusal, end-refusal, next-refusal, rest-refusal, sheet-refusal, questions}
 use Rattle.sheet.specs.Calls.{judgement, judged}
-use Rattle.sheet_reader.specs.declared.Yield.the-variants.{Found, NoneLeft, Refused}
-use Rattle.sheet_reader.specs.Within.{answered}
 
-cond-le : (t : Bool) (a b k : ℕ) → a ≤ k → b ≤ k → cond t a b ≤ k
-cond-le true a b k p q = p
-cond-le false a b k p q = q
+unless-le : (b : Bool) (n e : ℕ) → n ≤ 13 → e ≤ 13 → unless b n e ≤ 13
+unfolding unless
+unless-le true n e p q = q
+unless-le false n e p q = p
 
-first-le : (a b k : ℕ) → a ≤ k → b ≤ k → first a b ≤ k
+first-le : (a b : ℕ) → a ≤ 13 → b ≤ 13 → first a b ≤ 13
 unfolding first
-first-le zero b k p q = q
-first-le (suc a) b k p q = p
+first-le zero b p q = q
+first-le (suc a) b p q = p
 
-items-le : (f : Form) (e : ℕ) (good : List ℕ → Bool) → e ≤ 13 → (k n : ℕ) (ws : List ℕ) → items-refusal f e good k n ws ≤ 13
-unfolding items-refusal word-refusal
-items-le f e good h zero n ws = lit≤ tt
-items-le f e good h (suc k) n [] = lit≤ tt
-items-le f e good h (suc k) n (w ∷ ws) =
-    first-le (word-refusal f e good n w) (items-refusal f e good k (n - f .each) ws) 13
-    (cond-le (not (eqb (kind w) (f .kind))) 10 _ 13 (lit≤ tt)
-    (cond-le (not (eqb (unused f n w) 0)) 11 _ 13 (lit≤ tt) (cond-le (good (items f n w)) 0 e 13 (lit≤ tt) h)))
-    (items-le f e good h k (n - f .each) ws)
+cond-le : (t : Bool) (a b : ℕ) → a ≤ 13 → b ≤ 13 → cond t a b ≤ 13
+cond-le true a b p q = p
+cond-le false a b p q = q
 
-question-le : (c : ℕ) (ws : List ℕ) → question-refusal reliabilities c ws ≤ 13
-unfolding question-refusal row-refusal symbol-refusal
-question-le c ws =
-    cond-le (not (code-good c)) 1 _ 13 (lit≤ tt)
-    (first-le (row-refusal reliabilities (width c) ws) (symbol-refusal (width c) (after-row reliabilities (width c) ws)) 13
-    (items-le reliabilities 5 (λ ds. row-good (row-of reliabilities ds)) (lit≤ tt) (row-words reliabilities (width c)) (row-long (width c)) ws)
-    (items-le symbols 6 (symbols-good (width c)) (lit≤ tt) (symbol-words (width c)) (long (width c)) (after-row reliabilities (width c) ws)))
+module _ (f : Form) where
+  items-le : (e : ℕ) (good : List ℕ → Bool) → e ≤ 13 → (k n : ℕ) (ws : List ℕ) → items-refusal f e good k n ws ≤ 13
+  unfolding items-refusal word-refusal
+  items-le e good h zero n ws = lit≤ tt
+  items-le e good h (suc k) n [] = lit≤ tt
+  items-le e good h (suc k) n (w ∷ ws) =
+      first-le _ _ (unless-le _ 10 _ (lit≤ tt) (unless-le _ 11 _ (lit≤ tt) (unless-le _ e 0 h (lit≤ tt)))) (items-le e good h k (n - f .each) ws)
+
+question-le : (f : Form) (c : ℕ) (ws : List ℕ) → question-refusal f c ws ≤ 13
+unfolding question-refusal row-refusal symbol-refusal number-refusal
+question-le f c ws = first-le _ _ (unless-le _ 1 0 (lit≤ tt) (lit≤ tt)) (first-le _ _ (items-le f 5 _ (lit≤ tt) _ _ ws) (items-le _ 6 _ (lit≤ tt) _ _ _))
 
 end-le : (n w k : ℕ) → end-refusal n w k ≤ 13
 unfolding end-refusal
-end-le n w k =
-    cond-le (not (eqb (head-code w) 0)) 11 _ 13 (lit≤ tt) (cond-le (not (eqb (low w) n)) 12 _ 13 (lit≤ tt) (cond-le (eqb k 0) 0 13 13 (lit≤ tt) (lit≤ tt)))
+end-le n w k = unless-le _ 11 _ (lit≤ tt) (unless-le _ 12 _ (lit≤ tt) (unless-le _ 13 0 (lit≤ tt) (lit≤ tt)))
 
-next-le : (n : ℕ) (asked : ℕ → List ℕ → ℕ) → ((c : ℕ) (vs : List ℕ) → asked c vs ≤ 13) → (ws : List ℕ) → next-refusal n asked ws ≤ 13
-unfolding next-refusal
-next-le n asked h [] = lit≤ tt
-next-le n asked h (w ∷ ws) =
-    cond-le (eqb (kind w) end-kind) _ _ 13 (end-le n w (length ws)) (cond-le (eqb (kind w) head-kind) _ 10 13 (h (head-code w) ws) (lit≤ tt))
+module _ (f : Form) where
+  head-le : (k w : ℕ) (ws : List ℕ) → head-refusal f k w ws ≤ 13
+  unfolding head-refusal
+  head-le k w ws = unless-le _ 10 _ (lit≤ tt) (unless-le _ 12 _ (lit≤ tt) (question-le f _ ws))
 
-rest-le : (left : ℕ) (ws : List ℕ) → rest-refusal left ws ≤ 13
-unfolding rest-refusal
-rest-le zero ws = next-le most (λ c vs. 12) (λ c vs. lit≤ tt) ws
-rest-le (suc k) ws =
-    next-le (most - suc k) (λ c vs. first (question-refusal reliabilities c vs) (rest-refusal k (after reliabilities (width c) vs)))
-    (λ c vs. first-le (question-refusal reliabilities c vs) (rest-refusal k (after reliabilities (width c) vs)) 13 (question-le c vs) (rest-le k (after reliabilities (width c) vs))) ws
+  next-le : (k : ℕ) (more : List ℕ → ℕ) → ((vs : List ℕ) → more vs ≤ 13) → (ws : List ℕ) → next-refusal f k more ws ≤ 13
+  unfolding next-refusal
+  next-le k more h [] = lit≤ tt
+  next-le k more h (w ∷ ws) = cond-le (eqb (kind w) end-kind) _ _ (end-le _ w (length ws)) (first-le _ _ (head-le k w ws) (h _))
+
+  rest-le : (k : ℕ) (ws : List ℕ) → rest-refusal f k ws ≤ 13
+  unfolding rest-refusal
+  rest-le zero ws = next-le 0 (λ vs. 0) (λ vs. lit≤ tt) ws
+  rest-le (suc k) ws = next-le (suc k) (rest-refusal f k) (rest-le k) ws
 
 sheet-le : (bs : List ℕ) → sheet-refusal bs ≤ 13
 unfolding sheet-refusal
-sheet-le bs = cond-le (eqb (length bs % 4) 0) _ 9 13 (rest-le most (as-words bs)) (lit≤ tt)
-
-judgement-small : (r n : ℕ) → judgement r n < 100 → judgement r n ≡ r
-unfolding judgement
-judgement-small zero n h = absurd (omega arith)
-judgement-small (suc e) n h = refl
+sheet-le bs = unless-le _ 9 _ (lit≤ tt) (rest-le _ most (as-words bs))
 
 judgement-large : (r n : ℕ) → r ≤ 13 → 100 ≤ judgement r n → r ≡ 0
 unfolding judgement
@@ -105,28 +68,6 @@ judgement-large zero n l h = refl
 judgement-large (suc e) n l h = absurd (omega arith)
 
 -- what `judge_sheet` answers tells a refusal from a count
-pub judged-small : (bs : List ℕ) → judged bs < 100 → judged bs ≡ sheet-refusal bs
-unfolding judged
-judged-small bs h = judgement-small (sheet-refusal bs) (length (questions bs)) h
-
 pub judged-large : (bs : List ℕ) → 100 ≤ judged bs → sheet-refusal bs ≡ 0
 unfolding judged
 judged-large bs h = judgement-large (sheet-refusal bs) (length (questions bs)) (sheet-le bs) h
-
--- the answer at a word, test by test
-module _ (w r n : ℕ) where
-  pub answered-none : (kind w ≡ head-kind → ⊥) → answered w r n ≡ NoneLeft
-  unfolding answered
-  answered-none h = rw (ne-eqb (kind w) head-kind h)
-
-  pub answered-row : kind w ≡ head-kind → (r ≡ row-long (width (head-code w)) → ⊥) → answered w r n ≡ Refused 4
-  unfolding answered
-  answered-row h l = rw (eq-eqb (kind w) head-kind h, ne-eqb r (row-long (width (head-code w))) l)
-
-  pub answered-word : kind w ≡ head-kind → r ≡ row-long (width (head-code w)) → (n ≡ long (width (head-code w)) → ⊥) → answered w r n ≡ Refused 4
-  unfolding answered
-  answered-word h l k = rw (eq-eqb (kind w) head-kind h, eq-eqb r (row-long (width (head-code w))) l, ne-eqb n (long (width (head-code w))) k)
-
-  pub answered-found : kind w ≡ head-kind → r ≡ row-long (width (head-code w)) → n ≡ long (width (head-code w)) → answered w r n ≡ Found (head-code w) (low w)
-  unfolding answered
-  answered-found h l k = rw (eq-eqb (kind w) head-kind h, eq-eqb r (row-long (width (head-code w))) l, eq-eqb n (long (width (head-code w))) k)

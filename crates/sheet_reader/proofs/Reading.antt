@@ -1,60 +1,53 @@
--- The item at a place of a row or of a word, and one turn of the loops that fill the outputs.
+-- The items one after another, as they are taken from the words, and one turn of the loops that fill the outputs.
 -- Assumes nothing.
 use mathlib.Core.Path.{_≡_, refl, sym, ap, ap₂, _∙_}
-use mathlib.Core.Logic.{_⊎_, inl, inr}
-use mathlib.Core.List.{List, _++_, append-assoc, append-nil}
-use Prim.Native.Nat.{ℕ, zero, suc, _+_, _*_, _-_, _/_, _%_, _^_, _<_, _≤_}
-use native.Mathlib.Nat.{div-eq-of-lt, mod-eq-of-lt, mod-eq-sub-mod, div-eq-sub-div, mod-lt, mul-suc, mul-zero, add-comm}
+use mathlib.Core.List.{List, _∷_, _++_, append-assoc, append-nil}
+use Prim.Native.Nat.{ℕ, zero, suc, _+_, _-_, _/_, _%_, _<_, _≤_, min}
+use native.Mathlib.Nat.{mod-lt, add-zero, sub-zero, zero-lt-suc}
 use native.Mathlib.Numerals.{add-one}
 use native.Mathlib.Omega.{arith}
-use lib.ListN.{length, getD, take, drop, set, length-set, drop-of-length-le, List·getD-append, List·getD-map}
-use lib.Seq.{getD-append-add, getD-drop, drop-cons, take-suc, take-all, set-at, length-take-le}
+use lib.ListN.{length, getD, take, drop, set, length-set, drop-of-length-le, List·getD-map}
+use lib.Seq.{getD-drop, drop-drop, drop-cons, take-suc, take-all, set-at, length-take-le}
 use Rattle.sheet.specs.declared.Form.{Form}
-use Rattle.sheet.specs.Sheet.{body, used, items, count, items-in, row-of, signed-of}
+use Rattle.sheet.specs.Sheet.{body, digits, used, items, count, items-in, row-of, signed-of}
 use Rattle.sheet.specs.Within.{Fine}
-use Rattle.sheet.proofs.Digits.{digits-length, digits-at}
-use Rattle.sheet.proofs.Items.{le-or-lt, items-in-length}
+use Rattle.sheet.proofs.Items.{items-in-length}
 use Rattle.sheet.proofs.Forms.{count-room, row-of-length}
-use Rattle.sheet_reader.specs.Within.{items-from, Item-says}
-
--- item j of those that begin at a word
-abbrev item : Form → (ws : List ℕ) → (j : ℕ) → ℕ
-item f ws j = body (getD ws (j / f .each) 0) / f .base ^ (j % f .each) % f .base
+use Rattle.sheet.proofs.Turns.{count-more}
+use Rattle.sheet_reader.specs.declared.items.Spot.{Spot}
+use Rattle.sheet_reader.specs.Within.{items-from, spot-items, Taken-says}
 
 module _ (f : Form) (z : Fine f) where
-  items-at : (k n : ℕ) (ws : List ℕ) (j : ℕ) → j < n → n ≤ f .each * k → getD (items-in f k n ws) j 0 ≡ item f ws j
-  unfolding items-in items used
-  items-at zero n ws j h l = absurd (omega (arith, mul-zero (f .each)))
-  items-at (suc k) n ws j h l =
-      by (λ p. items-at k (n - f .each) (drop 1 ws) (j - f .each) p (omega (arith, mul-suc (f .each) k))) (le-or-lt (f .each) j)
-    where
-      w : ℕ
-      w = getD ws 0 0
+  module _ (ws : List ℕ) where
+    abbrev next-items : (n rest left next : ℕ) → List ℕ
+    next-items n v l k = digits (f .base) (min l n) v ++ items-from f (n - l) (drop k ws)
 
-      rest : List ℕ
-      rest = items-in f k (n - f .each) (drop 1 ws)
+    of-word : (n v l k : ℕ) → (l ≡ 0 → ⊥) → next-items (suc n) v l k ≡ (v % f .base) ∷ next-items n (v / f .base) (l - 1) k
+    unfolding digits
+    of-word n v zero k h = absurd (h refl)
+    of-word n v (suc l) k h =
+        let a : min (suc l) (suc n) ≡ suc (min l n) = omega arith in
+        let b : suc n - suc l ≡ n - l = omega arith in
+        let c : suc l - 1 ≡ l = omega arith in
+        rw (a, b, c)
 
-      size : length (items f n w) ≡ used f n
-      size = digits-length (f .base) (used f n) (body w)
+    new-word : (n v k : ℕ) → next-items (suc n) v 0 k ≡ next-items (suc n) (body (getD ws k 0)) (f .each) (k + 1)
+    unfolding items-from items-in items used digits
+    new-word n v k =
+        let a : min 0 (suc n) ≡ 0 = omega arith in
+        rw (a, sub-zero, count-more f (z .holds) (suc n) (zero-lt-suc n), getD-drop k ws 0 0, add-zero, drop-drop 1 k ws)
 
-      by : (j - f .each < n - f .each → getD rest (j - f .each) 0 ≡ item f (drop 1 ws) (j - f .each)) →
-          (f .each ≤ j) ⊎ (j < f .each) → getD (items f n w ++ rest) j 0 ≡ item f ws j
-      by more (inl p) =
-          let e : j ≡ length (items f n w) + (j - f .each) = omega (arith, size) in
-          ap (λ (x : ℕ). getD (items f n w ++ rest) x 0) e ∙ getD-append-add (items f n w) rest (j - f .each) 0 ∙ more (omega arith)
-          ∙ ap (λ (x : ℕ). body x / f .base ^ ((j - f .each) % f .each) % f .base) (getD-drop 1 ws ((j - f .each) / f .each) 0)
-          ∙ ap₂ (λ (a b : ℕ). body (getD ws a 0) / f .base ^ b % f .base) (add-comm 1 ((j - f .each) / f .each) ∙ sym (div-eq-sub-div (z .holds) p)) (sym (mod-eq-sub-mod p))
-      by more (inr p) =
-          List·getD-append (items f n w) rest 0 j (omega (arith, size)) ∙ digits-at (f .base) (used f n) (body w) j (omega arith)
-          ∙ ap₂ (λ (a b : ℕ). body (getD ws a 0) / f .base ^ b % f .base) (sym (div-eq-of-lt p)) (sym (mod-eq-of-lt p))
+    pub taken-on : (s : Spot) → (s .left ≡ 0 → ⊥) → Taken-says f ws s (record { item = s .rest % f .base; rest = s .rest / f .base; left = s .left - 1; next = s .next })
+    unfolding spot-items
+    taken-on s h = record { is = λ n. of-word n (s .rest) (s .left) (s .next) h; small = mod-lt _ (z .some); near = omega arith }
 
-  pub item-says : (ws : List ℕ) (at i : ℕ) → Item-says f (drop at ws) i (body (getD ws (at + i / f .each) 0) / f .base ^ (i % f .each) % f .base)
-  unfolding items-from
-  item-says ws at i = record {
-    is = λ n h. sym (items-at (count f n) n (drop at ws) i h (count-room f z n)
-        ∙ ap (λ (x : ℕ). body x / f .base ^ (i % f .each) % f .base) (getD-drop at ws (i / f .each) 0));
-    small = mod-lt _ (z .some);
-  }
+    pub taken-new : (s : Spot) (v : ℕ) → s .left ≡ 0 → v ≡ body (getD ws (s .next) 0) → Taken-says f ws s (record { item = v % f .base; rest = v / f .base; left = f .each - 1; next = s .next + 1 })
+    unfolding spot-items
+    taken-new s v e h = record {
+      is = λ n. rw (e, h) (new-word n (s .rest) (s .next) ∙ of-word n (body (getD ws (s .next) 0)) (f .each) (s .next + 1) (λ x. absurd (omega (arith, x, z .holds))));
+      small = mod-lt _ (z .some);
+      near = omega arith;
+    }
 
   pub items-from-length : (n : ℕ) (ws : List ℕ) → length (items-from f n ws) ≡ n
   unfolding items-from
@@ -62,6 +55,26 @@ module _ (f : Form) (z : Fine f) where
 
   pub row-length : (n : ℕ) (ws : List ℕ) → length (row-of f (items-from f n ws)) ≡ n
   row-length n ws = row-of-length f (items-from f n ws) ∙ items-from-length n ws
+
+-- a reader of n items that begin at a word stands before item i
+pub record Reading (f : Form) (ws : List ℕ) (at n i : ℕ) (s : Spot) : Type 0 where
+  pub holds : drop i (items-from f n (drop at ws)) ≡ spot-items f ws (n - i) s
+  pub near : s .next ≤ at + i
+
+module _ {f : Form} {ws : List ℕ} {at n : ℕ} where
+  pub reading-first : Reading f ws at n 0 (record { item = 0; rest = 0; left = 0; next = at })
+  unfolding spot-items digits
+  reading-first = let a : min 0 (n - 0) ≡ 0 = omega arith in record { holds = rw (a, sub-zero, sub-zero); near = omega arith }
+
+  module _ {i : ℕ} {s r : Spot} (h : i < n) (t : Taken-says f ws s r) (d : Reading f ws at n i s) where
+    ahead : drop i (items-from f n (drop at ws)) ≡ r .item ∷ spot-items f ws (n - (i + 1)) r
+    ahead = let e : n - i ≡ suc (n - (i + 1)) = omega arith in d .holds ∙ rw e (t .is (n - (i + 1)))
+
+    pub item-is : r .item ≡ getD (items-from f n (drop at ws)) i 0
+    item-is = sym (rw (getD-drop, add-zero) at (ap (λ (l : List ℕ). getD l 0 0) ahead))
+
+    pub reading-more : Reading f ws at n (i + 1) r
+    reading-more = record { holds = rw drop-drop at (ap (drop 1) ahead); near = omega (arith, t .near, d .near) }
 
 pub row-at : (f : Form) (ds : List ℕ) (i : ℕ) → getD (row-of f ds) i (signed-of (f .base) 0) ≡ signed-of (f .base) (getD ds i 0)
 unfolding row-of

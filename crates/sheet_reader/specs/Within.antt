@@ -1,17 +1,18 @@
 -- What the inner functions, and the function for the crates above, ask and leave behind. No call offered to callers cites these.
 -- Assumes nothing: these are definitions.
 use mathlib.Core.Path.{_≡_}
-use mathlib.Core.Bool.{_&&_, not, cond}
-use mathlib.Core.List.{List}
-use Prim.Native.Nat.{ℕ, zero, suc, _+_, _<_}
+use mathlib.Core.Bool.{Bool, _&&_, cond}
+use mathlib.Core.List.{List, _∷_, _++_}
+use Prim.Native.Nat.{ℕ, zero, suc, _+_, _-_, _<_, _≤_, min}
 use lib.Dec.{eqb}
 use lib.ListN.{length, getD, drop}
 use lib.IntN.{ℤ}
 use Rattle.code.specs.Code.{width, long}
 use Rattle.code.specs.Bits.{row-long}
 use Rattle.sheet.specs.declared.Form.{Form}
-use Rattle.sheet.specs.Sheet.{Question, head-kind, kind, head-code, low, reliabilities, symbols, count, items-in, row-of, row-words, symbol-words, question-long, after-row, as-words, rest-refusal, sheet-refusal, question-in, questions-from, questions}
+use Rattle.sheet.specs.Sheet.{Question, head-kind, kind, head-code, low, reliabilities, symbols, digits, count, items-in, row-of, question-long, as-words, rest-refusal, sheet-refusal, question-in, questions-from, questions}
 use Rattle.sheet_reader.specs.declared.Step.{Step}
+use Rattle.sheet_reader.specs.declared.items.Spot.{Spot}
 use Rattle.sheet_reader.specs.declared.Yield.{Yield}
 use Rattle.sheet_reader.specs.declared.Yield.the-variants.{Found, NoneLeft, Refused}
 use Rattle.sheet_reader.specs.Calls.{filled}
@@ -20,55 +21,62 @@ use Rattle.sheet_reader.specs.Calls.{filled}
 pub record Stands (bs : List ℕ) (i at : ℕ) : Type 0 where
   pub accepted : sheet-refusal bs ≡ 0
   pub left : ℕ
-  pub rest : rest-refusal left (drop at (as-words bs)) ≡ 0
-  pub holds : questions-from left (drop at (as-words bs)) ≡ drop i (questions bs)
+  pub rest : rest-refusal reliabilities left (drop at (as-words bs)) ≡ 0
+  pub holds : questions-from reliabilities left (drop at (as-words bs)) ≡ drop i (questions bs)
 
 -- the answer at a word of an accepted sheet
+abbrev pub yield-of : (head fits : Bool) → (code number : ℕ) → Yield
+yield-of h b c n = cond h (cond b (Found c n) (Refused 4)) NoneLeft
+
 unfoldable pub answered : (word : ℕ) → (row-length word-length : ℕ) → Yield
 answered w r n =
     let m = width (head-code w) in
-    cond (not (eqb (kind w) head-kind)) NoneLeft
-    (cond (eqb r (row-long m) && eqb n (long m)) (Found (head-code w) (low w)) (Refused 4))
+    yield-of (eqb (kind w) head-kind) (eqb r (row-long m) && eqb n (long m)) (head-code w) (low w)
 
 -- the word behind a question of a code that begins at a word
-unfoldable pub behind : (code at : ℕ) → ℕ
-behind c at = at + (1 + question-long reliabilities (width c))
+unfoldable pub behind : Form → (code at : ℕ) → ℕ
+behind f c at = at + (1 + question-long f (width c))
 
 -- a question is passed; any other answer leaves the reader where it stands
-unfoldable pub moved : Yield → (at : ℕ) → ℕ
-moved (Found c n) at = behind c at
-moved NoneLeft at = at
-moved (Refused e) at = at
+unfoldable pub moved : Form → Yield → (at : ℕ) → ℕ
+moved f (Found c n) at = behind f c at
+moved f NoneLeft at = at
+moved f (Refused e) at = at
 
-unfoldable pub yielded : (sheet : List ℕ) → (at row-length word-length : ℕ) → Step
-yielded bs at r n =
+unfoldable pub yielded : Form → (sheet : List ℕ) → (at row-length word-length : ℕ) → Step
+yielded f bs at r n =
     let a = answered (getD (as-words bs) at 0) r n in
-    record { answer = a; next = moved a at }
+    record { answer = a; next = moved f a at }
 
 -- the question at a place
-unfoldable pub question-here : (sheet : List ℕ) → (at : ℕ) → Question
-question-here bs at = question-in reliabilities (getD (as-words bs) at 0) (drop (at + 1) (as-words bs))
+unfoldable pub question-here : Form → (sheet : List ℕ) → (at : ℕ) → Question
+question-here f bs at = question-in f (getD (as-words bs) at 0) (drop (at + 1) (as-words bs))
 
 -- n items that begin at the first of these words
 unfoldable pub items-from : Form → (n : ℕ) → (words : List ℕ) → List ℕ
 items-from f n ws = items-in f (count f n) n ws
 
--- one of them, however many there are
-pub record Item-says (f : Form) (ws : List ℕ) (i item : ℕ) : Type 0 where
-  pub is : (n : ℕ) → i < n → item ≡ getD (items-from f n ws) i 0
-  pub small : item < f .base
+-- the next n items of a reader of items: of the word that it has begun, then of the words after it
+unfoldable pub spot-items : Form → (words : List ℕ) → (n : ℕ) → Spot → List ℕ
+spot-items f ws n s = digits (f .base) (min (s .left) n) (s .rest) ++ items-from f (n - s .left) (drop (s .next) ws)
 
--- the row and the word that follow a head of width m
-pub record Read-says (f : Form) (m : ℕ) (ws : List ℕ) (row : List ℤ) (word : List ℕ) : Type 0 where
-  pub row-is : row ≡ row-of f (items-in f (row-words f m) (row-long m) ws)
-  pub word-is : word ≡ items-in symbols (symbol-words m) (long m) (after-row f m ws)
+-- one of them is taken, however many there are
+pub record Taken-says (f : Form) (ws : List ℕ) (s r : Spot) : Type 0 where
+  pub is : (n : ℕ) → spot-items f ws (suc n) s ≡ r .item ∷ spot-items f ws n r
+  pub small : r .item < f .base
+  pub near : r .next ≤ s .next + 1
 
-pub record Place-says (bs : List ℕ) (at : ℕ) (s : Step) (row row-now : List ℤ) (word word-now : List ℕ) : Type 0 where
-  pub step : s ≡ yielded bs at (length row) (length word)
-  pub row-is : row-now ≡ filled (s .answer) (question-here bs at .row) row
-  pub word-is : word-now ≡ filled (s .answer) (question-here bs at .word) word
+-- so many reliabilities, and so many symbols after their words
+pub record Parts-says (f : Form) (ws : List ℕ) (r n : ℕ) (row : List ℤ) (word : List ℕ) : Type 0 where
+  pub row-is : row ≡ row-of f (items-from f r ws)
+  pub word-is : word ≡ items-from symbols n (drop (count f r) ws)
+
+pub record Place-says (f : Form) (bs : List ℕ) (at : ℕ) (s : Step) (row row-now : List ℤ) (word word-now : List ℕ) : Type 0 where
+  pub step : s ≡ yielded f bs at (length row) (length word)
+  pub row-is : row-now ≡ filled (s .answer) (question-here f bs at .row) row
+  pub word-is : word-now ≡ filled (s .answer) (question-here f bs at .word) word
 
 -- the place after so many questions more, or of the first word on the way that is no head
-unfoldable pub skipped : (questions : ℕ) → (words : List ℕ) → (at : ℕ) → ℕ
-skipped zero ws at = at
-skipped (suc k) ws at = cond (eqb (kind (getD ws at 0)) head-kind) (skipped k ws (behind (head-code (getD ws at 0)) at)) at
+unfoldable pub skipped : Form → (questions : ℕ) → (words : List ℕ) → (at : ℕ) → ℕ
+skipped f zero ws at = at
+skipped f (suc k) ws at = cond (eqb (kind (getD ws at 0)) head-kind) (skipped f k ws (behind f (head-code (getD ws at 0)) at)) at

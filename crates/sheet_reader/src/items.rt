@@ -1,22 +1,43 @@
-// The items of a row and of a word, read out of the words of a sheet.
+// The items of a row and of a word, read out of the words of a sheet, each word once.
 use sheet::Form;
 ghost use mathlib.Core.Path.{_≡_};
 ghost use Prim.Native.Nat.{_+_, _^_, _<_};
 ghost use lib.ListN.{length, drop};
 ghost use Rattle.sheet.specs.Sheet.{as-words, symbols, row-of, signed-of};
 ghost use Rattle.sheet.specs.Within.{Fine};
-ghost use Rattle.sheet_reader.specs.Within.{items-from, Item-says};
+ghost use Rattle.sheet_reader.specs.Within.{items-from, Taken-says};
 
-// Item i of those that begin at a word.
-fn item_at(sheet: &[u8], at: usize, f: Form, i: usize) -> u32
+// Where a reader of items stands: the item that it took last, what is left of the word that it took it from with how many items, and the
+// next word.
+struct Spot {
+    item: u32,
+    rest: u32,
+    left: usize,
+    next: usize,
+}
+
+// The next item.
+fn taken(sheet: &[u8], f: Form, s: Spot) -> Spot
     requires { ⌜ Fine f ⌝ }
-    requires { ⌜ at + i < 2 ^ 64 ⌝ }
-    ensures { λ r. ⌜ Item-says f (drop at (as-words (now (sheet .entry)))) i r ⌝ }
+    requires { ⌜ s .next + 1 < 2 ^ 64 ⌝ }
+    ensures { λ r. ⌜ Taken-says f (as-words (now (sheet .entry))) s r ⌝ }
 {
-    let each = f.each;
     let base = f.base;
-    let v = sheet::words::body_of(sheet::words::word_at(sheet, at + i / each));
-    sheet::refusal::above(v, base, i % each) % base
+    if s.left == 0 {
+        let v = sheet::words::body_of(sheet::words::word_at(sheet, s.next));
+        return Spot {
+            item: v % base,
+            rest: v / base,
+            left: f.each - 1,
+            next: s.next + 1,
+        };
+    }
+    Spot {
+        item: s.rest % base,
+        rest: s.rest / base,
+        left: s.left - 1,
+        next: s.next,
+    }
 }
 
 // Two's complement.
@@ -38,9 +59,16 @@ pub fn read_row(sheet: &[u8], at: usize, f: Form, row: &mut [i16])
     ensures { λ _. ⌜ now (row .exit) ≡ row-of f (items-from f (length (now (row .entry))) (drop at (as-words (now (sheet .entry))))) ⌝ }
 {
     let base = f.base;
+    let mut s = Spot {
+        item: 0,
+        rest: 0,
+        left: 0,
+        next: at,
+    };
     let mut i = 0;
     while i < row.len() {
-        row[i] = signed(item_at(sheet, at, f, i), base);
+        s = taken(sheet, f, s);
+        row[i] = signed(s.item, base);
         i += 1;
     }
 }
@@ -50,9 +78,16 @@ pub fn read_symbols(sheet: &[u8], at: usize, word: &mut [u8])
     requires { ⌜ at + length (now word) < 2 ^ 64 ⌝ }
     ensures { λ _. ⌜ now (word .exit) ≡ items-from symbols (length (now (word .entry))) (drop at (as-words (now (sheet .entry)))) ⌝ }
 {
+    let mut s = Spot {
+        item: 0,
+        rest: 0,
+        left: 0,
+        next: at,
+    };
     let mut i = 0;
     while i < word.len() {
-        word[i] = item_at(sheet, at, sheet::words::SYMBOLS, i) as u8;
+        s = taken(sheet, sheet::words::SYMBOLS, s);
+        word[i] = s.item as u8;
         i += 1;
     }
 }

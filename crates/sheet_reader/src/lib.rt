@@ -2,16 +2,12 @@
 // says. `question_at` is for the crates above, which read an accepted sheet from its first question on.
 use sheet::Form;
 ghost use mathlib.Core.Path.{_≡_};
-ghost use mathlib.Core.Bool.{true};
-ghost use Prim.Native.Nat.{ℕ, _+_, _/_, _<_};
+ghost use Prim.Native.Nat.{ℕ, _+_, _/_, _<_, _≤_};
 ghost use lib.ListN.{length, getD, drop};
-ghost use Rattle.field.specs.Field.{width-good};
-ghost use Rattle.code.specs.Code.{long};
-ghost use Rattle.code.specs.Bits.{row-long};
-ghost use Rattle.sheet.specs.Sheet.{as-words};
-ghost use Rattle.sheet.specs.Within.{Fine};
+ghost use Rattle.sheet.specs.Sheet.{reliabilities, as-words};
+ghost use Rattle.sheet.specs.Within.{Fine, Row-form};
 ghost use Rattle.sheet_reader.specs.Calls.{Choice-says};
-ghost use Rattle.sheet_reader.specs.Within.{Stands, answered, Read-says, Place-says, skipped};
+ghost use Rattle.sheet_reader.specs.Within.{Stands, yield-of, answered, Parts-says, Place-says, skipped};
 
 mod items;
 
@@ -28,60 +24,56 @@ pub struct Step {
     pub next: usize,
 }
 
+// The answer at a word, by two tests: it is a head, and the outputs have the lengths that its code needs.
+fn yield_of(head: bool, fits: bool, code: u32, number: u32) -> Yield
+    ensures { λ r. ⌜ r ≡ yield-of head fits code number ⌝ }
+{
+    if !head {
+        return Yield::NoneLeft;
+    }
+    if !fits {
+        return Yield::Refused(4);
+    }
+    Yield::Found { code, number }
+}
+
 // The answer at a place of an accepted sheet, for outputs of these lengths.
 fn answer_at(sheet: &[u8], at: usize, row: usize, word: usize) -> Yield
     ensures { λ r. ⌜ r ≡ answered (getD (as-words (now (sheet .entry))) at 0) row word ⌝ }
 {
     let w = sheet::words::word_at(sheet, at);
-    if sheet::words::kind_of(w) != sheet::words::HEAD {
-        return Yield::NoneLeft;
-    }
     let code = sheet::words::head_code_of(w);
-    let m = code::width_of(code);
-    if row != code::row_long_of(m) {
-        return Yield::Refused(4);
-    }
-    if word != code::long_of(m) {
-        return Yield::Refused(4);
-    }
-    Yield::Found {
-        code,
-        number: sheet::words::low_of(w),
-    }
+    let chosen = code::by_number(code);
+    let shape = chosen.shape;
+    let fits = sheet::words::both(row == shape.bits, word == shape.n);
+    let head = sheet::words::kind_of(w) == sheet::words::HEAD;
+    yield_of(head, fits, code, sheet::words::low_of(w))
 }
 
-// Fills both outputs with the question whose head stands at a place.
-fn read_question(sheet: &[u8], at: usize, f: Form, m: u32, row: &mut [i16], word: &mut [u8])
+// Fills both outputs with what stands from a word on.
+fn read_parts(sheet: &[u8], at: usize, f: Form, row: &mut [i16], word: &mut [u8])
     requires { ⌜ Fine f ⌝ }
-    requires { ⌜ width-good m ≡ true ⌝ }
-    requires { ⌜ at < length (now sheet) / 4 ⌝ }
-    requires { ⌜ length (now row) ≡ row-long m ⌝ }
-    requires { ⌜ length (now word) ≡ long m ⌝ }
-    ensures { λ _. ⌜ Read-says f m (drop (at + 1) (as-words (now (sheet .entry)))) (now (row .exit)) (now (word .exit)) ⌝ }
+    requires { ⌜ at ≤ length (now sheet) / 4 ⌝ }
+    requires { ⌜ length (now row) ≤ 60 ⌝ }
+    requires { ⌜ length (now word) ≤ 15 ⌝ }
+    ensures { λ _. ⌜ Parts-says f (drop at (as-words (now (sheet .entry)))) (length (now (row .entry))) (length (now (word .entry))) (now (row .exit)) (now (word .exit)) ⌝ }
 {
-    items::read_row(sheet, at + 1, f, row);
-    items::read_symbols(sheet, at + 1 + sheet::words::row_words_of(f, m), word);
+    let behind = at + sheet::words::count_of(f, row.len());
+    items::read_row(sheet, at, f, row);
+    items::read_symbols(sheet, behind, word);
 }
 
-// The question that begins at a place of an accepted sheet, with the place behind it; none left and a refusal keep the place and the
-// outputs.
-pub fn question_at(sheet: &[u8], at: usize, row: &mut [i16], word: &mut [u8]) -> Step
-    requires { ⌜ ((i : ℕ) × Stands (now sheet) i at) ⌝ }
-    ensures { λ r. ⌜ Place-says (now (sheet .entry)) at r (now (row .entry)) (now (row .exit)) (now (word .entry)) (now (word .exit)) ⌝ }
+// The question whose head stands at a place, with the place behind it; none left and a refusal keep the place and the outputs.
+fn question_in(sheet: &[u8], at: usize, f: Form, row: &mut [i16], word: &mut [u8]) -> Step
+    requires { ⌜ Row-form f ⌝ }
+    ensures { λ r. ⌜ Place-says f (now (sheet .entry)) at r (now (row .entry)) (now (row .exit)) (now (word .entry)) (now (word .exit)) ⌝ }
 {
     let answer = answer_at(sheet, at, row.len(), word.len());
     let mut next = at;
     match answer {
         Yield::Found { code, number: _ } => {
-            read_question(
-                sheet,
-                at,
-                sheet::words::RELIABILITIES,
-                code::width_of(code),
-                row,
-                word,
-            );
-            next = at + (1 + sheet::words::question_words_of(sheet::words::RELIABILITIES, code));
+            read_parts(sheet, at + 1, f, row, word);
+            next = at + (1 + sheet::words::question_words_of(f, code));
         }
         Yield::NoneLeft => {}
         Yield::Refused(_) => {}
@@ -89,9 +81,18 @@ pub fn question_at(sheet: &[u8], at: usize, row: &mut [i16], word: &mut [u8]) ->
     Step { answer, next }
 }
 
+// The question that begins at a place of an accepted sheet.
+pub fn question_at(sheet: &[u8], at: usize, row: &mut [i16], word: &mut [u8]) -> Step
+    requires { ⌜ ((i : ℕ) × Stands (now sheet) i at) ⌝ }
+    ensures { λ r. ⌜ Place-says reliabilities (now (sheet .entry)) at r (now (row .entry)) (now (row .exit)) (now (word .entry)) (now (word .exit)) ⌝ }
+{
+    question_in(sheet, at, sheet::words::RELIABILITIES, row, word)
+}
+
 // The place after so many questions, or of the end.
-fn place_of(sheet: &[u8], index: usize) -> usize
-    ensures { λ r. ⌜ r ≡ skipped index (as-words (now (sheet .entry))) 0 ⌝ }
+fn place_of(sheet: &[u8], f: Form, index: usize) -> usize
+    requires { ⌜ Fine f ⌝ }
+    ensures { λ r. ⌜ r ≡ skipped f index (as-words (now (sheet .entry))) 0 ⌝ }
 {
     let mut at = 0;
     let mut left = index;
@@ -100,8 +101,7 @@ fn place_of(sheet: &[u8], index: usize) -> usize
         if sheet::words::kind_of(w) != sheet::words::HEAD {
             return at;
         }
-        let code = sheet::words::head_code_of(w);
-        at += 1 + sheet::words::question_words_of(sheet::words::RELIABILITIES, code);
+        at += 1 + sheet::words::question_words_of(f, sheet::words::head_code_of(w));
         left -= 1;
     }
     at
@@ -115,7 +115,7 @@ pub fn question_of(sheet: &[u8], index: usize, row: &mut [i16], word: &mut [u8])
     if judged < 100 {
         return Yield::Refused(judged);
     }
-    let at = place_of(sheet, index);
+    let at = place_of(sheet, sheet::words::RELIABILITIES, index);
     let step = question_at(sheet, at, row, word);
     step.answer
 }

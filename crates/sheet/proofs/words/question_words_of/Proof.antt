@@ -1,43 +1,27 @@
 -- `sheet::question_words_of` meets its contract.
 -- Assumes nothing.
-use mathlib.Core.Path.{_≡_, ap, ap₂, _∙_}
-use mathlib.Core.Bool.{true}
-use Prim.Native.Nat.{ℕ, _+_}
-use Rattle.field.specs.Field.{width-good}
-use Rattle.sheet.specs.Sheet.{symbols, count, row-words, symbol-words, question-long}
-use Rattle.sheet.proofs.Forms.{symbols-fine}
-use Rattle.sheet.proofs.Judging.{width-fine, long-le, row-words-le, symbol-words-le}
+use Rattle.sheet.specs.Sheet.{row-words, symbol-words, question-long}
+use Rattle.sheet.proofs.Forms.{symbols-fine, count-le, bits-le, n-le}
 use native.Mathlib.Omega.{arith}
 use borrow.Author.Needs.{needs}
 use Rattle.sheet.proofs.words.question_words_of.Statement.{statement}
 use Rattle.sheet.proofs.words.question_words_of.Tie as tie
 
-fine : (c : tie.After-width-of) → width-good (c .width-of .result) ≡ true
-fine c = ap width-good (c .width-of .ensures) ∙ width-fine (c .before .args .code)
-
 count-of-requires : tie.Need-count-of-requires
-count-of-requires c κs = let w = c .before .before in (symbols-fine, omega (arith, c .long-of .ensures, long-le (w .width-of .result) (fine w)))
+count-of-requires c κs = (c .before .before .pre, omega (arith, bits-le (c .before .by-number .ensures .coded)))
 
-word-is : (c : tie.After-count-of) → c .count-of .result ≡ symbol-words (c .before .before .before .width-of .result)
-unfolding symbol-words
-word-is c = c .count-of .ensures ∙ ap (count symbols) (c .before .long-of .ensures)
+count-of-requires-2 : tie.Need-count-of-requires-2
+count-of-requires-2 c κs = (symbols-fine, omega (arith, n-le (c .before .before .by-number .ensures .coded)))
 
 add-result : tie.Need-add-result
-add-result c = let w = c .before .before .before in
-    omega (arith, c .before .before .row-words-of .ensures, word-is c, row-words-le (w .before .args .f) (w .before .pre) (w .width-of .result) (fine w), symbol-words-le (w .width-of .result) (fine w))
+add-result c =
+    let b = c .before .before .before in let z = b .by-number .ensures .coded in
+    omega (arith, c .before .count-of .ensures, c .count-of2 .ensures, count-le (b .before .args .f) (b .before .pre) (b .by-number .result .shape .bits), count-le _ symbols-fine (b .by-number .result .shape .n), bits-le z, n-le z)
 
 returns : tie.Need-returns
-unfolding question-long
-returns c = let w = c .before .before .before in
-    ap₂ (λ (a b : ℕ). a + b) (c .before .before .row-words-of .ensures ∙ ap (row-words (w .before .args .f)) (w .width-of .ensures)) (word-is c ∙ ap symbol-words (w .width-of .ensures))
+unfolding question-long row-words symbol-words
+returns c = cc
 
 pub question-words-of-spec : {M : Type 1} → statement M
 question-words-of-spec =
-    tie.close
-    (tie.spec
-    (λ c κs. search needs)
-    (λ c κs. (c .before .pre, fine c))
-    (λ c κs. fine (c .before))
-    count-of-requires
-    add-result
-    returns)
+    tie.close (tie.spec (λ c κs. search needs) count-of-requires count-of-requires-2 add-result returns)
