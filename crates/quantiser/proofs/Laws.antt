@@ -7,14 +7,14 @@ use Prim.Native.Nat.{ℕ, zero, suc, _+_, _*_, _≤_, _<_, min, zero-le}
 use native.Mathlib.Nat.{le-refl, le-trans, le-of-eq, le-of-lt, le-antisymm, le-of-suc-le-suc, lt-of-mul-lt-mul-right, div-mul-le-self, div-lt-iff-lt-mul, div-eq-of-lt, min-le-left, min-le-right, le-min}
 use native.Mathlib.Omega.{arith}
 use borrow.Author.Tests.{ltb-true, eqb-true, le-leb}
-use lib.Dec.{ltb, eqb, le→leb}
+use lib.Dec.{ltb, eqb, le→leb, lit≤}
 use lib.IntN.{ℤ, pos, negsuc, negℤ, natAbs, negℤ-negℤ}
 use lib.Signed.{_≤ℤ_, leZ-yes}
 use lib.Ieee.{nan, inf, fin, up, down, neg, lt, eq, le}
 use lib.Ieee.Fits.{down-pos}
 use lib.Ieee.Nearest.{div-mono}
 use Rattle.metric.specs.Row.{bound, reliability-good, row-good}
-use Rattle.quantiser.specs.Quantise.{nearest, signed, rounded, quantised}
+use Rattle.quantiser.specs.Quantise.{clip, nearest, signed, rounded, quantised}
 use Rattle.quantiser.specs.Laws.{Nearest, Within-half, Nearest-one, Reliability, Row-taken, Odd, Monotone}
 use Rattle.quantiser.proofs.Sizes.{within}
 
@@ -41,9 +41,13 @@ nearest-one a b n k p q = le-antisymm (half n k p q) (half k n q p)
         let x : n * b < suc k * b = omega arith in
         le-of-suc-le-suc (lt-of-mul-lt-mul-right b x)
 
+clip-bound : clip ≤ bound
+unfolding bound
+clip-bound = lit≤ tt
+
 pub reliability : Reliability
 unfolding Reliability quantised reliability-good
-reliability x = le-leb (natAbs (rounded 32 x)) bound (within 32 x)
+reliability x = le-leb (natAbs (rounded 32 x)) bound (le-trans (within 32 x) clip-bound)
 
 pub row-taken : Row-taken
 unfolding Row-taken row-good Reliability
@@ -53,9 +57,9 @@ row-taken (x ∷ xs) = ap (λ (b : Bool). b && row-good (map quantised xs)) (rel
 pub odd : Odd
 unfolding Odd quantised rounded neg
 odd nan = refl
-odd (inf true) = sym (negℤ-negℤ (pos bound))
+odd (inf true) = sym (negℤ-negℤ (pos clip))
 odd (inf false) = refl
-odd (fin true m e) = sym (negℤ-negℤ (pos (min (nearest (32 * m * up e) (down e)) bound)))
+odd (fin true m e) = sym (negℤ-negℤ (pos (min (nearest (32 * m * up e) (down e)) clip)))
 odd (fin false m e) = refl
 
 -- ---- monotone
@@ -64,10 +68,10 @@ nearest-mono a b c d B D h = div-mono (2 * a + b) (2 * b) (2 * c + d) (2 * d) (o
 
 -- the clipped size of 32 · m · 2^e
 abbrev size : ℕ → ℤ → ℕ
-size m e = min (nearest (32 * m * up e) (down e)) bound
+size m e = min (nearest (32 * m * up e) (down e)) clip
 
-clip-mono : {a b : ℕ} → a ≤ b → min a bound ≤ min b bound
-clip-mono {a} {b} h = le-min (le-trans (min-le-left a bound) h) (min-le-right a bound)
+clip-mono : {a b : ℕ} → a ≤ b → min a clip ≤ min b clip
+clip-mono {a} {b} h = le-min (le-trans (min-le-left a clip) h) (min-le-right a clip)
 
 size-mono : (m n : ℕ) (e d : ℤ) → m * up e * down d ≤ n * up d * down e → size m e ≤ size n d
 size-mono m n e d h = clip-mono (nearest-mono (32 * m * up e) (down e) (32 * n * up d) (down d) (down-pos e) (down-pos d) (cross m (up e) (down e) n (up d) (down d) h))
@@ -81,7 +85,7 @@ size-zero m e d h =
     let z : 32 * m * up e * down d ≤ 0 * down e = cross m (up e) (down d) (down e) h in
     let n : nearest (32 * m * up e) (down e) ≤ nearest 0 (down d) = nearest-mono (32 * m * up e) (down e) 0 (down d) (down-pos e) (down-pos d) z in
     let o : nearest 0 (down d) ≡ 0 = div-eq-of-lt (half (down d) (down-pos d)) in
-    let l = min-le-left (nearest (32 * m * up e) (down e)) bound in
+    let l = min-le-left (nearest (32 * m * up e) (down e)) clip in
     omega arith
   where
     cross : (m u y x : ℕ) → m * u * y ≡ 0 → 32 * m * u * y ≤ 0 * x
@@ -104,13 +108,11 @@ across : (p q : ℕ) → negℤ (pos p) ≤ℤ pos q
 across zero q = leZ-yes (le→leb 0 q zero-le)
 across (suc p) q = leZ-yes tt
 
-least : (z : ℤ) → natAbs z ≤ bound → signed true bound ≤ℤ z
-unfolding bound
+least : (z : ℤ) → natAbs z ≤ clip → signed true clip ≤ℤ z
 least (pos n) h = leZ-yes tt
 least (negsuc n) h = leZ-yes (le→leb n 126 (le-of-suc-le-suc h))
 
-greatest : (z : ℤ) → natAbs z ≤ bound → z ≤ℤ signed false bound
-unfolding bound
+greatest : (z : ℤ) → natAbs z ≤ clip → z ≤ℤ signed false clip
 greatest (pos n) h = leZ-yes (le→leb n 127 h)
 greatest (negsuc n) h = leZ-yes tt
 
@@ -137,7 +139,7 @@ unfolding Monotone quantised rounded le lt eq
 monotone nan y t = absurd (false≢true t)
 monotone (inf s) nan t = absurd (false≢true t)
 monotone (inf true) (inf y) t = least (rounded 32 (inf y)) (within 32 (inf y))
-monotone (inf false) (inf false) t = up-order bound bound (le-refl bound)
+monotone (inf false) (inf false) t = up-order clip clip (le-refl clip)
 monotone (inf false) (inf true) t = absurd (false≢true t)
 monotone (inf true) (fin y n d) t = least (rounded 32 (fin y n d)) (within 32 (fin y n d))
 monotone (inf false) (fin y n d) t = absurd (false≢true t)

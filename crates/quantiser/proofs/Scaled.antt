@@ -16,8 +16,7 @@ use lib.Ieee.Exact.{HasValue, round-exact}
 use lib.Ieee.Fits.{and-l, and-r, down-pos, round-is}
 use lib.Ieee.Nearest.{nearest-ge}
 use borrow.Author.Tests.{ltb-true, ltb-false}
-use Rattle.metric.specs.Row.{bound}
-use Rattle.quantiser.specs.Quantise.{nearest, signed, rounded, quantised}
+use Rattle.quantiser.specs.Quantise.{clip, nearest, signed, rounded, quantised}
 use Rattle.quantiser.proofs.Sizes.{of-value}
 
 -- ---- where `round` overflows: w units, from 2^277 units (2^128) on
@@ -143,8 +142,7 @@ module _ (s : Bool) (m : ℕ) (e : ℤ) (i : Inside m e) where
       (le-of-eq (sym (mul-assoc 32 m (up e))))
 
   -- so the float is a number, and is rounded as 32 times the sample is
-  clipped : 128 * down e ≤ 32 * m * up e → min (nearest (32 * m * up e) (down e)) bound ≡ bound
-  unfolding bound
+  clipped : 128 * down e ≤ 32 * m * up e → min (nearest (32 * m * up e) (down e)) clip ≡ clip
   clipped h = min-eq-right (le-div-iff-mul-le (mul-pos (lit< tt) (down-pos e)) .1 (omega arith))
 
   number : isNan (times-32 s m e) ≡ false
@@ -167,7 +165,7 @@ module _ (s : Bool) (m : ℕ) (e : ℤ) (i : Inside m e) where
       go : (b : Bool) → ltb (scaled m e) (2 ^ 277) ≡ b → rounded 1 (times-32 s m e) ≡ rounded 32 (fin s m e)
       go true t =
           of-value 1 (times-32 s m e) s (32 * m * up e) (down e) (down-pos e) (exact (ltb-true (scaled m e) (2 ^ 277) t))
-          ∙ ap (λ (x : ℕ). signed s (min (nearest x (down e)) bound)) (one-mul (32 * m * up e))
+          ∙ ap (λ (x : ℕ). signed s (min (nearest x (down e)) clip)) (one-mul (32 * m * up e))
       go false t =
           let h = ltb-false (scaled m e) (2 ^ 277) t in
           ap (rounded 1) (infinite h) ∙ ap (λ (x : ℕ). signed s x) (sym (clipped (far h)))
@@ -181,5 +179,5 @@ product-number (fin s m e) h k = number s m e (inside s m e h)
 pub product-rounded : (x : Float) → T (fits binary32 x) → isNan x ≡ false → rounded 1 (mul binary32 x thirty-two) ≡ quantised x
 unfolding mul isNan rounded quantised
 product-rounded nan h k = absurd (false≢true (sym k))
-product-rounded (inf s) h k = ap (λ (z : Bool). signed z bound) (same-sign s)
+product-rounded (inf s) h k = ap (λ (z : Bool). signed z clip) (same-sign s)
 product-rounded (fin s m e) h k = rounded-32 s m e (inside s m e h)

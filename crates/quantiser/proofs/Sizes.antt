@@ -15,8 +15,7 @@ use lib.Ieee.Exact.{HasValue, odd-sign}
 use lib.Ieee.Fits.{down-pos}
 use lib.Ieee.Nearest.{div-same}
 use borrow.Author.Tests.{lt-leb}
-use Rattle.metric.specs.Row.{bound}
-use Rattle.quantiser.specs.Quantise.{nearest, signed, rounded}
+use Rattle.quantiser.specs.Quantise.{clip, nearest, signed, rounded}
 
 -- equal fractions have one nearest whole number
 nearest-same : (a b c d : ℕ) → 0 < b → 0 < d → a * d ≡ c * b → nearest a b ≡ nearest c d
@@ -26,13 +25,13 @@ cross : (t m u d a c : ℕ) → m * u * c ≡ a * d → t * m * u * c ≡ t * a 
 cross t m u d a c h = simp mul-assoc (ap (λ (x : ℕ). t * x) (simp mul-assoc at h))
 
 -- a float that is ±a / c is rounded as t · a / c is
-pub of-value : (t : ℕ) (x : Float) (s : Bool) (a c : ℕ) → 0 < c → HasValue x s a c → rounded t x ≡ signed s (min (nearest (t * a) c) bound)
+pub of-value : (t : ℕ) (x : Float) (s : Bool) (a c : ℕ) → 0 < c → HasValue x s a c → rounded t x ≡ signed s (min (nearest (t * a) c) clip)
 unfolding rounded
 of-value t nan s a c C h = absurd h
 of-value t (inf r) s a c C h = absurd h
 of-value t (fin r m e) s a c C h =
-    ap (λ (z : Bool). signed z (min (nearest (t * m * up e) (down e)) bound)) (h .0)
-    ∙ ap (λ (n : ℕ). signed s (min n bound)) (nearest-same (t * m * up e) (down e) (t * a) c (down-pos e) C (cross t m (up e) (down e) a c (h .1)))
+    ap (λ (z : Bool). signed z (min (nearest (t * m * up e) (down e)) clip)) (h .0)
+    ∙ ap (λ (n : ℕ). signed s (min n clip)) (nearest-same (t * m * up e) (down e) (t * a) c (down-pos e) C (cross t m (up e) (down e) a c (h .1)))
 
 -- the size of the float with these fields, in units of 2^-149; an infinity's counts as the number that would come after the largest
 unfoldable pub units : (exponent digits : ℕ) → ℕ
@@ -41,13 +40,13 @@ units (suc x) t = (8388608 + t) * 2 ^ x
 
 -- and to the nearest whole number, clipped
 abbrev pub size : (exponent digits : ℕ) → ℕ
-size x t = min (nearest (units x t) (2 ^ 149)) bound
+size x t = min (nearest (units x t) (2 ^ 149)) clip
 
-abbrev pub of-units : (x : Float) (s : Bool) (a : ℕ) → HasValue x s a (2 ^ 149) → rounded 1 x ≡ signed s (min (nearest a (2 ^ 149)) bound)
-of-units x s a h = of-value 1 x s a (2 ^ 149) (pow-pos 149) h ∙ ap (λ (n : ℕ). signed s (min (nearest n (2 ^ 149)) bound)) (one-mul a)
+abbrev pub of-units : (x : Float) (s : Bool) (a : ℕ) → HasValue x s a (2 ^ 149) → rounded 1 x ≡ signed s (min (nearest a (2 ^ 149)) clip)
+of-units x s a h = of-value 1 x s a (2 ^ 149) (pow-pos 149) h ∙ ap (λ (n : ℕ). signed s (min (nearest n (2 ^ 149)) clip)) (one-mul a)
 
 pub of-fields : (s : Bool) (x t : ℕ) → isNan (ofFields binary32 s x t) ≡ false → rounded 1 (ofFields binary32 s x t) ≡ signed s (size x t)
-unfolding ofFields units isNan rounded bound
+unfolding ofFields units isNan rounded
 of-fields s zero t k = of-units (odd 24 s t 0 149) s t (subst (λ (a : ℕ). HasValue (odd 24 s t 0 149) s a (2 ^ 149)) (mul-one t) (odd-sign 24 s t 0 149))
 of-fields s (suc x) t k = go (eqb (suc x) 255) (eqb t 0) (eqb→eq (suc x) 255) (eqb→eq t 0) k
   where
@@ -95,7 +94,7 @@ by-sign y h k n r =
 
 -- ---- what `size_of` works out, in its three ranges of the exponent's field
 pub small : (x t : ℕ) → t < 8388608 → x < 126 → 0 ≡ size x t
-unfolding units bound
+unfolding units
 small x t k h = sym (ap (λ (n : ℕ). min n 127) (div-eq-of-lt (stays (units x t) (2 ^ 148) (less x t k h))))
   where
     less : (x t : ℕ) → t < 8388608 → x < 126 → units x t < 2 ^ 148
@@ -106,7 +105,7 @@ small x t k h = sym (ap (λ (n : ℕ). min n 127) (div-eq-of-lt (stays (units x 
     stays u P h = omega arith
 
 pub large : (x t : ℕ) → 134 ≤ x → 127 ≡ size x t
-unfolding units bound
+unfolding units
 large zero t h = absurd (omega arith)
 large (suc x) t h =
     let q : 8388608 ≤ 8388608 + t = omega arith in
@@ -133,8 +132,8 @@ size-of false n = refl
 size-of true zero = refl
 size-of true (suc n) = refl
 
-pub within : (t : ℕ) (x : Float) → natAbs (rounded t x) ≤ bound
+pub within : (t : ℕ) (x : Float) → natAbs (rounded t x) ≤ clip
 unfolding rounded
 within t nan = zero-le
-within t (inf s) = le-of-eq (size-of s bound)
-within t (fin s m e) = rw size-of (min-le-right (nearest (t * m * up e) (down e)) bound)
+within t (inf s) = le-of-eq (size-of s clip)
+within t (fin s m e) = rw size-of (min-le-right (nearest (t * m * up e) (down e)) clip)

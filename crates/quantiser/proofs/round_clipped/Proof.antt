@@ -13,7 +13,6 @@ use mir.Syntax.{w16}
 use mir.Val.{SFits, toZ}
 use mir.Facts.{toZ-pos, toZ-ofZ}
 use Rattle.field.proofs.Tests.{to-T}
-use Rattle.metric.specs.Row.{bound}
 use Rattle.quantiser.specs.Quantise.{rounded, signed}
 use Rattle.quantiser.proofs.Sizes.{by-sign, same-nan, within}
 use Rattle.quantiser.proofs.round_clipped.Statement.{statement}
@@ -35,7 +34,6 @@ difference-fits : (r : ℕ) → r < 2 ^ 15 → SFits w16 (pos 0 -ℤ toZ w16 r)
 difference-fits r h = subst (λ (z : ℤ). SFits w16 z) (sym (negated r h)) (negative-fits r h)
 
 below : (c : tie.After-size-of) → c .size-of .result < 2 ^ 15
-unfolding bound
 below c =
     let h : c .size-of .result ≤ 127 = subst (λ (n : ℕ). n ≤ 127) (ap natAbs (sym (c .size-of .ensures))) (within 1 _) in
     omega arith

@@ -7,8 +7,7 @@ use native.Mathlib.Nat.{lt-of-lt-of-le}
 use native.Mathlib.Omega.{arith}
 use lib.IntN.{pos}
 use lib.Pow.{shl-exact, shl-lt, pow-mono}
-use Rattle.metric.specs.Row.{bound}
-use Rattle.quantiser.specs.Quantise.{nearest}
+use Rattle.quantiser.specs.Quantise.{clip, nearest}
 use Rattle.quantiser.proofs.Sizes.{units, of-plain, small, large, middle}
 use Rattle.quantiser.proofs.size_of.Statement.{statement}
 use Rattle.quantiser.proofs.size_of.Tie as tie
@@ -43,7 +42,7 @@ returns-3 c =
     let b = s .args .b in
     let e : c .before .halves-up .result ≡ nearest (units (b / 8388608) (b % 8388608)) (2 ^ 149) =
     c .before .halves-up .ensures ∙ ap (λ (n : ℕ). nearest n 16777216) (kept b (l .if2 .left)) ∙ sym (middle (b / 8388608) (b % 8388608) (l .before .if1 .left)) in
-    ap pos (c .clip .ensures ∙ ap (λ (n : ℕ). min n bound) e) ∙ sym (of-plain b (s .pre .0) (s .pre .1))
+    ap pos (c .clipped .ensures ∙ ap (λ (n : ℕ). min n clip) e) ∙ sym (of-plain b (s .pre .0) (s .pre .1))
 
 pub size-of-spec : {M : Type 1} → statement M
 size-of-spec = tie.close (tie.spec (λ c. search needs) returns returns-2 (λ c. search needs) halves-up-requires (λ c κs. search needs) returns-3)
