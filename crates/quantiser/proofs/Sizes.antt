@@ -59,25 +59,25 @@ of-fields s (suc x) t k = go (eqb (suc x) 255) (eqb t 0) (eqb→eq (suc x) 255) 
     go false q hp hq n = of-units (odd 24 s (8388608 + t) x 149) s ((8388608 + t) * 2 ^ x) (odd-sign 24 s (8388608 + t) x 149)
 
 -- ---- by its bits: the sign is the highest of 32
+abbrev pub sized : (bits : ℕ) → ℕ
+sized b = size (b / 8388608) (b % 8388608)
+
 pub same-nan : (b : ℕ) → nanBits binary32 b ≡ nanBits binary32 (b % 2147483648)
 unfolding nanBits
 same-nan b =
-    let x : b % 2147483648 ≡ b % 2147483648 % 2147483648 = omega arith in
-    let t : b % 8388608 ≡ b % 2147483648 % 8388608 = omega arith in
-    ap (λ (n : ℕ). eqb (n / 8388608) 255 && not (eqb (b % 8388608) 0)) x
-    ∙ ap (λ (n : ℕ). eqb (b % 2147483648 % 2147483648 / 8388608) 255 && not (eqb n 0)) t
+    let x : b % 2147483648 % 2147483648 ≡ b % 2147483648 = omega arith in
+    let t : b % 2147483648 % 8388608 ≡ b % 8388608 = omega arith in
+    rw (x, t)
 
-pub of-bits : (b : ℕ) → nanBits binary32 b ≡ false → rounded 1 (ofBits binary32 b) ≡ signed (leb 2147483648 b) (size (b % 2147483648 / 8388608) (b % 8388608))
+of-bits : (b : ℕ) → nanBits binary32 b ≡ false → rounded 1 (ofBits binary32 b) ≡ signed (leb 2147483648 b) (sized (b % 2147483648))
 unfolding ofBits
-of-bits b k = of-fields (leb 2147483648 b) (b % 2147483648 / 8388608) (b % 8388608) (sym (nanBits-is binary32 b) ∙ k)
+of-bits b k =
+    let t : b % 2147483648 % 8388608 ≡ b % 8388608 = omega arith in
+    rw t (of-fields (leb 2147483648 b) (b % 2147483648 / 8388608) (b % 8388608) (sym (nanBits-is binary32 b) ∙ k))
 
 -- a pattern with no sign
-pub of-plain : (b : ℕ) → b < 2147483648 → nanBits binary32 b ≡ false → rounded 1 (ofBits binary32 b) ≡ pos (size (b / 8388608) (b % 8388608))
-of-plain b h k =
-    let e : b % 2147483648 ≡ b = omega arith in
-    of-bits b k
-    ∙ ap (λ (z : Bool). signed z (size (b % 2147483648 / 8388608) (b % 8388608))) (lt-leb 2147483648 b h)
-    ∙ ap (λ (n : ℕ). pos (size (n / 8388608) (b % 8388608))) e
+pub of-plain : (b : ℕ) → b < 2147483648 → nanBits binary32 b ≡ false → rounded 1 (ofBits binary32 b) ≡ pos (sized b)
+of-plain b h k = let e : b % 2147483648 ≡ b = omega arith in rw (of-bits b k, lt-leb 2147483648 b h, e)
 
 -- a float, by its sign and the pattern without it
 pub by-sign : (y : Float) → T (fits binary32 y) → isNan y ≡ false → (n : ℕ) → pos n ≡ rounded 1 (ofBits binary32 (toBits binary32 y % 2147483648))
@@ -86,16 +86,13 @@ by-sign y h k n r =
     let b = toBits binary32 y in
     let e = ofBits-toBits binary32 y h in
     let bits : nanBits binary32 b ≡ false = nanBits-is binary32 b ∙ ap isNan e ∙ k in
-    let plain : b % 2147483648 % 8388608 ≡ b % 8388608 = omega arith in
-    let small : b % 2147483648 < 2147483648 = omega arith in
-    let same : pos n ≡ pos (size (b % 2147483648 / 8388608) (b % 8388608)) =
-    r ∙ of-plain (b % 2147483648) small (sym (same-nan b) ∙ bits) ∙ ap (λ (t : ℕ). pos (size (b % 2147483648 / 8388608) t)) plain in
-    ap (rounded 1) (sym e) ∙ of-bits b bits ∙ ap (λ (z : ℤ). signed (leb 2147483648 b) (natAbs z)) (sym same)
+    let same : n ≡ sized (b % 2147483648) = ap natAbs (r ∙ of-plain (b % 2147483648) (omega arith) (sym (same-nan b) ∙ bits)) in
+    ap (rounded 1) (sym e) ∙ rw (of-bits b bits, ← same)
 
 -- ---- what `size_of` works out, in its three ranges of the exponent's field
-pub small : (x t : ℕ) → t < 8388608 → x < 126 → 0 ≡ size x t
+pub small : (b : ℕ) → b / 8388608 < 126 → 0 ≡ sized b
 unfolding units
-small x t k h = sym (ap (λ (n : ℕ). min n 127) (div-eq-of-lt (stays (units x t) (2 ^ 148) (less x t k h))))
+small b h = sym (ap (λ (n : ℕ). min n 127) (div-eq-of-lt (stays _ (2 ^ 148) (less (b / 8388608) (b % 8388608) (omega arith) h))))
   where
     less : (x t : ℕ) → t < 8388608 → x < 126 → units x t < 2 ^ 148
     less zero t k h = lt-of-lt-of-le k (lit≤ tt)

@@ -4,7 +4,7 @@
 ghost use mathlib.Core.Path.{_≡_};
 ghost use mathlib.Core.Bool.{false};
 ghost use mathlib.Core.List.{map};
-ghost use Prim.Native.Nat.{_^_, _<_, min};
+ghost use Prim.Native.Nat.{_^_, _<_, _≤_, min};
 ghost use lib.IntN.{pos};
 ghost use lib.ListN.{length};
 ghost use lib.Ieee.{binary32, isNan, ofBits, nanBits};
@@ -37,7 +37,7 @@ fn halves_up(v: u32) -> u32
 // 126) it is 0, and from 128 (a field of 134) on it is clipped. Between these the float is q · 2^(e - 150), so q · 2^(e - 126) / 2^24.
 fn size_of(b: u32) -> u32
     requires { ⌜ (b < 2 ^ 31) × (nanBits binary32 b ≡ false) ⌝ }
-    ensures { λ r. ⌜ pos r ≡ rounded 1 (ofBits binary32 b) ⌝ }
+    ensures { λ r. ⌜ (pos r ≡ rounded 1 (ofBits binary32 b)) × (r ≤ clip) ⌝ }
 {
     let e = b / LEADING;
     let q = LEADING + b % LEADING;
