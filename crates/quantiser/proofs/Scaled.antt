@@ -100,11 +100,7 @@ times-32 s m e = mul binary32 (fin s m e) thirty-two
 
 as-round : (s : Bool) (m : ℕ) (e : ℤ) → times-32 s m e ≡ round binary32 s (32 * m * up e) (down e)
 unfolding mul
-as-round s m e =
-    let n : m * up e * 32 ≡ 32 * m * up e = omega arith in
-    ap (λ (z : Bool). round binary32 z (m * up e * 32) (down e * 1)) (same-sign s)
-    ∙ ap (λ (x : ℕ). round binary32 s x (down e * 1)) n
-    ∙ ap (λ (x : ℕ). round binary32 s (32 * m * up e) x) (mul-one (down e))
+as-round s m e = let n : m * up e * 32 ≡ 32 * m * up e = omega arith in rw (same-sign, n, mul-one)
 
 -- the exact product in units
 abbrev scaled : ℕ → ℤ → ℕ
@@ -145,39 +141,27 @@ module _ (s : Bool) (m : ℕ) (e : ℤ) (i : Inside m e) where
   clipped : 128 * down e ≤ 32 * m * up e → min (nearest (32 * m * up e) (down e)) clip ≡ clip
   clipped h = min-eq-right (le-div-iff-mul-le (mul-pos (lit< tt) (down-pos e)) .1 (omega arith))
 
-  number : isNan (times-32 s m e) ≡ false
-  unfolding isNan
-  number = go (ltb (scaled m e) (2 ^ 277)) refl
+  product : (isNan (times-32 s m e) ≡ false) × (rounded 1 (times-32 s m e) ≡ rounded 32 (fin s m e))
+  unfolding isNan rounded
+  product = go (ltb (scaled m e) (2 ^ 277)) refl
     where
       finite : (y : Float) → HasValue y s (32 * m * up e) (down e) → isNan y ≡ false
       finite nan h = absurd h
       finite (inf t) h = refl
       finite (fin t n d) h = refl
 
-      go : (b : Bool) → ltb (scaled m e) (2 ^ 277) ≡ b → isNan (times-32 s m e) ≡ false
-      go true t = finite (times-32 s m e) (exact (ltb-true (scaled m e) (2 ^ 277) t))
-      go false t = ap isNan (infinite (ltb-false (scaled m e) (2 ^ 277) t))
-
-  rounded-32 : rounded 1 (times-32 s m e) ≡ rounded 32 (fin s m e)
-  unfolding rounded
-  rounded-32 = go (ltb (scaled m e) (2 ^ 277)) refl
-    where
-      go : (b : Bool) → ltb (scaled m e) (2 ^ 277) ≡ b → rounded 1 (times-32 s m e) ≡ rounded 32 (fin s m e)
+      go : (b : Bool) → ltb (scaled m e) (2 ^ 277) ≡ b → (isNan (times-32 s m e) ≡ false) × (rounded 1 (times-32 s m e) ≡ rounded 32 (fin s m e))
       go true t =
-          of-value 1 (times-32 s m e) s (32 * m * up e) (down e) (down-pos e) (exact (ltb-true (scaled m e) (2 ^ 277) t))
-          ∙ ap (λ (x : ℕ). signed s (min (nearest x (down e)) clip)) (one-mul (32 * m * up e))
+          let h = exact (ltb-true (scaled m e) (2 ^ 277) t) in
+          (finite (times-32 s m e) h, rw (of-value 1 (times-32 s m e) s (32 * m * up e) (down e) (down-pos e) h, one-mul))
       go false t =
           let h = ltb-false (scaled m e) (2 ^ 277) t in
-          ap (rounded 1) (infinite h) ∙ ap (λ (x : ℕ). signed s x) (sym (clipped (far h)))
+          (ap isNan (infinite h), ap (rounded 1) (infinite h) ∙ ap (λ (x : ℕ). signed s x) (sym (clipped (far h))))
 
-pub product-number : (x : Float) → T (fits binary32 x) → isNan x ≡ false → isNan (mul binary32 x thirty-two) ≡ false
-unfolding mul isNan
-product-number nan h k = absurd (false≢true (sym k))
-product-number (inf s) h k = refl
-product-number (fin s m e) h k = number s m e (inside s m e h)
-
-pub product-rounded : (x : Float) → T (fits binary32 x) → isNan x ≡ false → rounded 1 (mul binary32 x thirty-two) ≡ quantised x
+pub scales :
+    (x : Float) → T (fits binary32 x) → isNan x ≡ false →
+    (isNan (mul binary32 x thirty-two) ≡ false) × (rounded 1 (mul binary32 x thirty-two) ≡ quantised x)
 unfolding mul isNan rounded quantised
-product-rounded nan h k = absurd (false≢true (sym k))
-product-rounded (inf s) h k = ap (λ (z : Bool). signed z clip) (same-sign s)
-product-rounded (fin s m e) h k = rounded-32 s m e (inside s m e h)
+scales nan h k = absurd (false≢true (sym k))
+scales (inf s) h k = (refl, ap (λ (z : Bool). signed z clip) (same-sign s))
+scales (fin s m e) h k = product s m e (inside s m e h)
