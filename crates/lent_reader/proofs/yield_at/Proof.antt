@@ -1,17 +1,11 @@
--- `lent_reader::yield_at` meets its contract.
+-- `lent_reader::yield_at` meets its contract: the place after a question that was found is one of at most 200.
 -- Assumes nothing.
 use native.Mathlib.Omega.{arith}
+use borrow.Author.Needs.{needs}
 use Rattle.lent_reader.specs.Calls.{moved}
 use Rattle.lent_reader.proofs.Order.{found-inside}
-use borrow.Author.Needs.{needs}
 use Rattle.lent_reader.proofs.yield_at.Statement.{statement}
 use Rattle.lent_reader.proofs.yield_at.Tie as tie
-
-enum-told : tie.Need-enum-told
-enum-told c = search needs
-
-add-next : tie.Need-add-next
-add-next c = record { fits = omega (arith, found-inside (c .before .before .before .before .before .question-of .ensures) (c .enum-told .given .1)) }
 
 returns : tie.Need-returns
 unfolding moved
@@ -30,8 +24,8 @@ yield-at-spec =
     tie.close
     (tie.spec
     (λ c κs. search needs)
-    enum-told
-    add-next
+    (λ c. search needs)
+    (λ c. record { fits = omega (arith, found-inside (c .before .before .before .before .before .question-of .ensures) (c .enum-told .given .1)) })
     (λ c. search needs)
     (λ c. search needs)
     (λ c. search needs)
