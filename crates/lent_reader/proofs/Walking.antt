@@ -1,5 +1,5 @@
--- What the walks of this crate's functions over a `Reader` name, and what they share: a slice's machine value, the type of the struct, and the lent outputs that one
--- function hands to another. The struct is Copy, as a `&[u8]` is: what it owns is had twice, one copy for the exit, and one for the result or for the function that is called.
+-- What the walks of this crate's functions over a `Reader` name, and what they share: a slice's machine value, and the tokens of
+-- the lifetimes. The struct is Copy, as a `&[u8]` is: what it owns is had twice, one copy for the exit, and one for the result or for the function that is called.
 -- Assumes nothing.
 pub use mathlib.Core.Path.{_≡_, refl}
 pub use mathlib.Core.List.{List, [], _∷_}
@@ -43,15 +43,10 @@ pub use denote.Triple.Table.{entered, cited}
 pub use denote.Triple.Walked.{says, Stays, stay-none, stay-none-slice, gave-slice, walkOf, goes-none, goes-none-slice, goes-gave-slice, ends-at, walked, walk-meets}
 pub use denote.Exit.{yes}
 pub use Rattle.lent_reader.specs.declared.Reader.{Reader}
-use Rattle.lent_reader.proofs.Reader as T
 
 -- the machine value of a lent slice
 abbrev pub value : {A : Type 0} → RefT (List A) → Val
 value s = sliceVal (s .ptr) (length (s .now))
-
--- the struct's type at a lifetime
-abbrev pub struct-at : Lft → RattleType
-struct-at κ = T.the-row (namedLft 1 0 tt (κ, tt))
 
 -- the tokens of the lifetimes of the sheet and of the two lent outputs
 abbrev pub tokens : {M : Type 1} {𝓤 : URA M} → Lfts 3 → Shares 3 → Item 𝓤

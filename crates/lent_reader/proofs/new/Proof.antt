@@ -2,7 +2,7 @@
 -- Assumes nothing.
 use Rattle.lent_reader.proofs.Walking.{refl, List, [], _∷_, ℕ, lit<, URA, named, w64, Val, SProp, ent, emp, via, fst∗, Lft, Share, Fml, ftrue, flft, Memory, Routine, Heap, Calls, Loops, WpFn, Atoms, Fun, givenOf, tables, tablesOf}
 use Rattle.lent_reader.proofs.Walking.{Given, ‵, raw, _⊛_, _$_, _∵_, !, qed, by, move, use1, split, fsplit, fjoin, suffices, frame, agg, look, init, forget, stop, from, load, lit, and-then, no-more, assigns, returns, enter, alloc1, alloc0, params1, pass1, pass0, free1, free0}
-use Rattle.lent_reader.proofs.Walking.{WpFn-mono, owns, Is, uint-makes, u8, usize, RefT, NamedLft, plain, namedLft, ShrSlice, slice-vals, shr-slice-tells, shr-slice-lawful, shr-slice-copy, nothing, owned, own-shut, onEntry, tripleOf, entered}
+use Rattle.lent_reader.proofs.Walking.{WpFn-mono, owns, Is, uint-makes, u8, usize, RefT, plain, namedLft, ShrSlice, slice-vals, shr-slice-tells, shr-slice-lawful, shr-slice-copy, nothing, owned, own-shut, onEntry, tripleOf, entered}
 use Rattle.lent_reader.proofs.Walking.{says, Stays, stay-none-slice, walkOf, goes-none-slice, ends-at, walked, walk-meets, yes, Reader, value}
 use Rattle.lent_reader.proofs.Reader as T
 use Rattle.lent_reader.proofs.Reader.Laws as T′

@@ -69,10 +69,6 @@ module _ {M : Type 1} (𝓤 : URA M) (H : Heap 𝓤) (A : Atoms 𝓤) (W : Given
   abbrev to : YieldAt .Ghost
   to = ((κs, qs, tt, (d .sheet, (d .at, (x, (y, tt)))), passed), tt)
 
-  asked : ent 𝓤 (onEntry 𝓤 H A yield-at.signature κs qs (d .sheet, (d .at, (x, (y, tt)))) passed) (YieldAt .pre to)
-  asked =
-      qed W (tokens κs qs ∷ ‵ (owns (ShrSlice (named 0) (κs .0) u8 ∷ usize ∷ MutSlice (named 1) (κs .1 .0) i16 ∷ MutSlice (named 2) (κs .1 .1 .0) u8 ∷ []) (d .sheet, (d .at, (x, (y, tt)))) passed) ∷ []) ∵ join ! $ frame ! $ done !
-
   -- what the struct and the outputs own gives what the callee asks, and what the struct owns is kept
   apart : d .at < 2 ^ 64 → ent 𝓤 entry (sep 𝓤 (YieldAt .pre to) (sem 𝓤 H A Own))
   apart at-fits =
@@ -81,7 +77,8 @@ module _ {M : Type 1} (𝓤 : URA M) (H : Heap 𝓤) (A : Atoms 𝓤) (W : Given
       use1 W (given (mach ∷ [] ≡ mach ∷ []) (‵ (all-own (D .parts) L vd))) (own-open 𝓤 H A W D L vd mach) $ learn ! (λ _. use1 W (‵ (ownAt (D .parts) L 0 (d .sheet)) ⊛ ‵ (rest (D .parts) L 0 vd)) (own-out 𝓤 H A W (D .parts) L 0 vd) $ split ! $
       -- [what sheet owns; what the number owns; what the struct owns; what the outputs own; the tokens]
       move ! (1 ∷ []) $ drop ! $ move ! (2 ∷ []) $ owned ! usize (Is usize) (uint-makes 𝓤 H A W w64) (d .at) _ (refl, at-fits) $ fjoin ! $ move ! (1 ∷ 0 ∷ []) $ fjoin ! $
-      move ! (2 ∷ 0 ∷ []) $ use2 W (raw (YieldAt .pre to)) asked $ frame ! $ done !)
+      move ! (2 ∷ 0 ∷ []) $ use2 W (raw (YieldAt .pre to))
+      (qed W (tokens κs qs ∷ ‵ (owns (ShrSlice (named 0) (κs .0) u8 ∷ usize ∷ MutSlice (named 1) (κs .1 .0) i16 ∷ MutSlice (named 2) (κs .1 .1 .0) u8 ∷ []) (d .sheet, (d .at, (x, (y, tt)))) passed) ∷ []) ∵ join ! $ frame ! $ done !) $ frame ! $ done !)
 
   exits : (r : Step) (u : Val) (zs : List ℤ) (ws : List ℕ) → says-so r zs ws → length zs ≡ length (now x) → length ws ≡ length (now y)
       → ent 𝓤 (⋆ 𝓤 H A (tokens κs qs ∷ ‵ (finally i16 (x .name) zs) ∷ ‵ (finally u8 (y .name) ws) ∷ ‵ (S.the-row .own r (u ∷ [])) ∷ ‵ Own ∷ [])) (Post u)

@@ -57,9 +57,6 @@ module _ {M : Type 1} (𝓤 : URA M) (H : Heap 𝓤) (A : Atoms 𝓤) (W : Given
   abbrev to : Next .Ghost
   to = ((κs, qs, tt, (made, (x, (y, tt))), passed), tt)
 
-  asked : ent 𝓤 (onEntry 𝓤 H A next.signature κs qs (made, (x, (y, tt))) passed) (Next .pre to)
-  asked = qed W (tokens κs qs ∷ ‵ (owns (B ∷ MutSlice (named 1) (κs .1 .0) i16 ∷ MutSlice (named 2) (κs .1 .1 .0) u8 ∷ []) (made, (x, (y, tt))) passed) ∷ []) ∵ join ! $ frame ! $ done !
-
   -- what the slice, the number and the outputs own gives what the callee asks, and what the slice owns is kept
   together : ent 𝓤 entry (sep 𝓤 (Next .pre to) (sem 𝓤 H A Own))
   together =
@@ -68,7 +65,8 @@ module _ {M : Type 1} (𝓤 : URA M) (H : Heap 𝓤) (A : Atoms 𝓤) (W : Given
       -- [what the slice owns; what the outputs own; what the slice owns; the tokens]
       nothing ! $ owned ! usize (Is usize) (uint-makes 𝓤 H A W w64) n _ (refl, ok) $ fjoin ! $ move ! (1 ∷ 0 ∷ []) $ fjoin ! $
       use1 W (‵ (B .own made (T′.lowered made ∷ []))) (own-shut 𝓤 H A W (T.the-type (namedLft 3 0 tt κs)) (T′.the-laws (namedLft 3 0 tt κs)) (s, (n, tt))) $ fjoin ! $
-      move ! (2 ∷ 0 ∷ []) $ use2 W (raw (Next .pre to)) asked $ frame ! $ done !
+      move ! (2 ∷ 0 ∷ []) $ use2 W (raw (Next .pre to))
+      (qed W (tokens κs qs ∷ ‵ (owns (B ∷ MutSlice (named 1) (κs .1 .0) i16 ∷ MutSlice (named 2) (κs .1 .1 .0) u8 ∷ []) (made, (x, (y, tt))) passed) ∷ []) ∵ join ! $ frame ! $ done !) $ frame ! $ done !
 
   exits : (t : Step) (u : Val) (zs : List ℤ) (ws : List ℕ) → says-so t zs ws → length zs ≡ length (now x) → length ws ≡ length (now y)
       → ent 𝓤 (⋆ 𝓤 H A (tokens κs qs ∷ ‵ (finally i16 (x .name) zs) ∷ ‵ (finally u8 (y .name) ws) ∷ ‵ (S.the-row .own t (u ∷ [])) ∷ ‵ Own ∷ [])) (Post u)

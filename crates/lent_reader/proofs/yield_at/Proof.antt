@@ -1,23 +1,10 @@
--- `lent_reader::yield_at` meets its contract: the place after a question that was found is one of at most 200.
+-- `lent_reader::yield_at` meets its contract: a question that was found is one of at most 200, so the place behind it fits.
 -- Assumes nothing.
 use native.Mathlib.Omega.{arith}
 use borrow.Author.Needs.{needs}
-use Rattle.lent_reader.specs.Calls.{moved}
 use Rattle.lent_reader.proofs.Order.{found-inside}
 use Rattle.lent_reader.proofs.yield_at.Statement.{statement}
 use Rattle.lent_reader.proofs.yield_at.Tie as tie
-
-returns : tie.Need-returns
-unfolding moved
-returns c = record { choice = c .before .before .before .before .before .question-of .ensures; next = rw (c .enum-told .given .1) }
-
-returns-2 : tie.Need-returns-2
-unfolding moved
-returns-2 c = record { choice = c .before .before .before .before .before .question-of .ensures; next = rw (c .enum-told2 .given .1) }
-
-returns-3 : tie.Need-returns-3
-unfolding moved
-returns-3 c = record { choice = c .before .before .before .before .before .question-of .ensures; next = rw (c .enum-told3 .given .1) }
 
 pub yield-at-spec : {M : Type 1} → statement M
 yield-at-spec =
@@ -30,10 +17,10 @@ yield-at-spec =
     (λ c. search needs)
     (λ c. search needs)
     (λ c. search needs)
-    returns
+    (λ c. record { choice = c .before .before .before .before .before .question-of .ensures; next = rw (c .enum-told .given .1) })
     (λ c. search needs)
     (λ c. search needs)
-    returns-2
+    (λ c. record { choice = c .before .before .before .before .before .question-of .ensures; next = rw (c .enum-told2 .given .1) })
     (λ c. search needs)
     (λ c. search needs)
-    returns-3)
+    (λ c. record { choice = c .before .before .before .before .before .question-of .ensures; next = rw (c .enum-told3 .given .1) }))
