@@ -9,8 +9,8 @@ use mir.Syntax.{w32}
 use mir.Val.{toZ, ofZ}
 use mir.Facts.{toZ-ofZ}
 use borrow.Author.Needs.{needs}
-use Rattle.text.specs.Text.{least-magnitude, question-line}
-use Rattle.text.proofs.Lines.{parts, question-parts}
+use Rattle.text.specs.Text.{decimal, least-magnitude, question-line}
+use Rattle.text.proofs.Lines.{parts, question-parts, ended-length}
 use Rattle.text.proofs.Writing.{then}
 use Rattle.text.proofs.put_question.Statement.{statement}
 use Rattle.text.proofs.put_question.Tie as tie
@@ -32,6 +32,7 @@ put-question-spec =
     (λ c κs. omega (arith, simp length-append at (ap length (by-parts (c .before .before .before .before .before .before .before .before .before .before .before .before .before .before .before .before .before .before) refl))))
     (λ c κs. omega (arith, simp length-append at (ap length (by-parts (c .before .before .before .before .before .before .before .before .before .before .before .before .before .before .before .before .before .before .before .before .before .before) refl))))
     (λ c κs. search needs)
-    (λ c κs. omega (arith, simp length-append at (ap length (by-parts (c .before .before .before .before .before .before .before .before .before .before .before .before .before .before .before .before .before .before .before .before .before .before .before .before .before .before .before) (c .before .least-of .ensures))), c .before .before .before .before .before .before .before .before .before .before .before .before .before .before .before .before .before .before .before .before .before .before .before .before .put-number, c .before .before .before .before .before .before .before .before .before .before .before .before .before .before .before .before .before .before .before .before .before .before .before .before .before .before .before))
+    (λ c κs. let e = ended-length (decimal (c .before .least-of .result)) in
+    simp e (omega (arith, simp (length-append, e) at (ap length (by-parts (c .before .before .before .before .before .before .before .before .before .before .before .before .before .before .before .before .before .before .before .before .before .before .before .before .before .before .before) (c .before .least-of .ensures))), c .before .before .before .before .before .before .before .before .before .before .before .before .before .before .before .before .before .before .before .before .before .before .before .before .put-number, c .before .before .before .before .before .before .before .before .before .before .before .before .before .before .before .before .before .before .before .before .before .before .before .before .before .before .before)))
     (λ c. search needs)
     (λ c. rw (by-parts (c .before .before .before .before .before .before .before .before .before .before .before .before .before .before .before .before .before .before .before .before .before .before .before .before .before .before .before .before .before .before) (c .before .before .before .before .least-of .ensures)) (search (needs, then) depth 9)))
