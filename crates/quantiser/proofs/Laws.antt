@@ -4,7 +4,7 @@ use mathlib.Core.Path.{_≡_, refl, sym, ap, _∙_}
 use mathlib.Core.Bool.{Bool, true, false, _&&_, _||_, false≢true}
 use mathlib.Core.List.{[], _∷_, map}
 use Prim.Native.Nat.{ℕ, zero, suc, _+_, _*_, _≤_, _<_, min, zero-le}
-use native.Mathlib.Nat.{le-refl, le-trans, le-of-lt, lt-of-not-le, zero-mul, le-antisymm, le-of-suc-le-suc, lt-of-mul-lt-mul-right, div-mul-le-self, div-lt-iff-lt-mul, div-eq-of-lt, min-le-left, min-le-right, le-min}
+use native.Mathlib.Nat.{le-refl, le-trans, le-of-lt, lt-of-not-le, zero-mul, le-antisymm, le-of-suc-le-suc, lt-of-mul-lt-mul-right, div-mul-le-self, div-lt-iff-lt-mul, div-eq-of-lt}
 use native.Mathlib.Omega.{arith}
 use borrow.Author.Tests.{le-ltb, ne-eqb, le-leb}
 use lib.Dec.{ltb, eqb, eqb→eq, le→leb, lit≤}
@@ -71,11 +71,10 @@ nearest-mono a b c d B D h = div-mono (2 * a + b) (2 * b) (2 * c + d) (2 * d) (o
 abbrev size : ℕ → ℤ → ℕ
 size m e = min (nearest (32 * m * up e) (down e)) clip
 
-clip-mono : {a b : ℕ} → a ≤ b → min a clip ≤ min b clip
-clip-mono {a} {b} h = le-min (le-trans (min-le-left a clip) h) (min-le-right a clip)
-
 size-mono : (m n : ℕ) (e d : ℤ) → m * up e * down d ≤ n * up d * down e → size m e ≤ size n d
-size-mono m n e d h = clip-mono (nearest-mono (32 * m * up e) (down e) (32 * n * up d) (down d) (down-pos e) (down-pos d) (omega arith))
+size-mono m n e d h =
+    let l : nearest (32 * m * up e) (down e) ≤ nearest (32 * n * up d) (down d) = nearest-mono (32 * m * up e) (down e) (32 * n * up d) (down d) (down-pos e) (down-pos d) (omega arith) in
+    omega arith
 
 -- a finite sample of size 0, whatever its sign
 size-zero : (m : ℕ) (e d : ℤ) → m * up e * down d ≡ 0 → size m e ≡ 0

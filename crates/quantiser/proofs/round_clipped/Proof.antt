@@ -1,7 +1,7 @@
 -- `quantiser::round_clipped` meets its contract: the size comes from `size_of`, and the sign from the highest bit (proofs/Sizes.antt).
 -- Assumes nothing.
 use mathlib.Core.Path.{_≡_, sym, ap, _∙_}
-use Prim.Native.Nat.{ℕ, zero, suc, _<_, _^_}
+use Prim.Native.Nat.{ℕ, zero, suc, _≤_}
 use native.Mathlib.Omega.{arith}
 use borrow.Author.Tests.{le-leb, lt-leb}
 use lib.Dec.{T, leb}
@@ -12,7 +12,7 @@ use mir.Syntax.{w16}
 use mir.Val.{SFits, toZ}
 use mir.Facts.{toZ-pos, toZ-ofZ}
 use Rattle.field.proofs.Tests.{to-T}
-use Rattle.quantiser.specs.Quantise.{rounded, signed}
+use Rattle.quantiser.specs.Quantise.{clip, rounded, signed}
 use Rattle.quantiser.proofs.Sizes.{by-sign, same-nan}
 use Rattle.quantiser.proofs.round_clipped.Statement.{statement}
 use Rattle.quantiser.proofs.round_clipped.Tie as tie
@@ -22,15 +22,15 @@ held : (c : tie.Start) → T (fits binary32 (c .args .y))
 held c = to-T (c .good .0 .1)
 
 -- a size is at most 127, so it fits an `i16` with either sign, and is read back from its bits
-negated : (r : ℕ) → r < 2 ^ 15 → pos 0 -ℤ toZ w16 r ≡ negℤ (pos r)
-negated r h = +ℤ-idl (negℤ (toZ w16 r)) ∙ ap negℤ (toZ-pos w16 h)
+positive : (r : ℕ) → r ≤ clip → toZ w16 r ≡ pos r
+positive r h = toZ-pos w16 (omega arith)
 
-negative-fits : (r : ℕ) → r < 2 ^ 15 → SFits w16 (negℤ (pos r))
-negative-fits zero h = record { sfits = h }
+negated : (r : ℕ) → r ≤ clip → pos 0 -ℤ toZ w16 r ≡ negℤ (pos r)
+negated r h = +ℤ-idl (negℤ (toZ w16 r)) ∙ ap negℤ (positive r h)
+
+negative-fits : (r : ℕ) → r ≤ clip → SFits w16 (negℤ (pos r))
+negative-fits zero h = record { sfits = omega arith }
 negative-fits (suc r) h = record { sfits = omega arith }
-
-below : (c : tie.After-size-of) → c .size-of .result < 2 ^ 15
-below c = omega (arith, c .size-of .ensures .1)
 
 by-size : (c : tie.After-size-of) → rounded 1 (c .before .args .y) ≡ signed (leb 2147483648 (toBits binary32 (c .before .args .y))) (c .size-of .result)
 by-size c = by-sign _ (held (c .before)) (c .before .pre) _ (c .size-of .ensures .0)
@@ -45,7 +45,7 @@ round-clipped-spec =
     (tie.spec
     (λ c. rw (c .pre) tt)
     size-of-requires
-    (λ c. record { sfits = below c })
-    (λ c. rw (negated _ (below (c .before))) (negative-fits _ (below (c .before))))
-    (λ c. rw (by-size (c .before), lt-leb _ _ (c .if1 .taken)) (toZ-pos w16 (below (c .before))))
-    (λ c. let h = below (c .before) in rw (by-size (c .before), le-leb _ _ (c .if1 .left), negated _ h) (toZ-ofZ (negative-fits _ h))))
+    (λ c. record { sfits = omega arith })
+    (λ c. let h = c .before .size-of .ensures .1 in rw (negated _ h) (negative-fits _ h))
+    (λ c. rw (by-size (c .before), lt-leb _ _ (c .if1 .taken)) (positive _ (c .before .size-of .ensures .1)))
+    (λ c. let h = c .before .size-of .ensures .1 in rw (by-size (c .before), le-leb _ _ (c .if1 .left), negated _ h) (toZ-ofZ (negative-fits _ h))))
