@@ -1,9 +1,9 @@
 -- From what a yield says to the order of the questions.
 -- Assumes nothing.
-use mathlib.Core.Path.{_≡_, refl, sym, ap, ap₂, _∙_}
-use mathlib.Core.Bool.{Bool, true, false, _&&_, cond}
+use mathlib.Core.Path.{_≡_, refl, sym, ap, _∙_}
+use mathlib.Core.Bool.{Bool, true, false, cond}
 use mathlib.Core.List.{List, [], _∷_}
-use Prim.Native.Nat.{ℕ, zero, suc, _+_, _<_, _≤_}
+use Prim.Native.Nat.{ℕ, zero, suc, _<_, _≤_}
 use native.Mathlib.Omega.{arith}
 use borrow.Author.Tests.{eq-eqb}
 use lib.Dec.{eqb}
@@ -13,12 +13,10 @@ use lib.IntN.{ℤ}
 use Rattle.code.specs.Code.{width, long}
 use Rattle.code.specs.Bits.{row-long}
 use Rattle.sheet.specs.Sheet.{Question, reliabilities, most, sheet-refusal, question-in, questions-from, questions, kind, head-code, head-kind, after, as-words}
-use Rattle.sheet_reader.specs.declared.Step.{Step}
 use Rattle.sheet_reader.specs.declared.Yield.{Yield}
-use Rattle.sheet_reader.specs.declared.Yield.the-variants.{Found, NoneLeft, Refused}
+use Rattle.sheet_reader.specs.declared.Yield.the-variants.{Found, NoneLeft}
 use Rattle.sheet_reader.specs.Calls.{chosen, filled, row-first, word-first, Choice-says}
-use Rattle.lent_reader.specs.Calls.{moved, Yield-says}
-use Rattle.lent_reader.specs.Promise.{In-order, Yields-in-order}
+use Rattle.lent_reader.specs.Promise.{Yields-in-order}
 
 few : (k : ℕ) (ws : List ℕ) → length (questions-from k ws) ≤ k
 unfolding questions-from
@@ -44,7 +42,7 @@ found-inside {bs} {i} {c} {k} {a} {row} {row-now} {word} {word-now} y e = by (sh
     by zero (q ∷ qs) d h = omega (arith, ap length d, length-drop i (questions bs), few 200 (as-words bs))
 
 pub yields-in-order : Yields-in-order
-unfolding Yields-in-order chosen filled row-first word-first moved
+unfolding Yields-in-order chosen filled row-first word-first
 yields-in-order bs i s row row-now word word-now h y = record {
   question = λ q rest e l k.
       let a : s .answer ≡ Found (q .code) (q .number) = y .choice .answer ∙ rw (h, e, eq-eqb (length row) (row-long (width (q .code))) l, eq-eqb (length word) (long (width (q .code))) k) in (

@@ -10,7 +10,7 @@ use Rattle.sheet_reader.specs.Calls.{Choice-says}
 
 -- a reader stands before a question, with so many others before it. A question that is yielded is passed; any other answer leaves the reader where it
 -- stands
-unfoldable pub moved : Yield → (at : ℕ) → ℕ
+abbrev pub moved : Yield → (at : ℕ) → ℕ
 moved (Found c n) i = i + 1
 moved NoneLeft i = i
 moved (Refused e) i = i

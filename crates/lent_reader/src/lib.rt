@@ -49,9 +49,9 @@ pub fn moved<'a>(r: Reader<'a>, at: usize) -> Reader<'a>
     Reader { sheet: r.sheet, at }
 }
 
-// The same as `yield_at`, by a reader that is made, moved and asked.
+// The same as `yield_at`, by a reader that is made at that place and asked.
 pub fn read_from(sheet: &[u8], at: usize, row: &mut [i16], word: &mut [u8]) -> Step
     ensures { λ s. ⌜ Yield-says (now (sheet .entry)) at s (now (row .entry)) (now (row .exit)) (now (word .entry)) (now (word .exit)) ⌝ }
 {
-    next(moved(new(sheet), at), row, word)
+    next(Reader { sheet, at }, row, word)
 }

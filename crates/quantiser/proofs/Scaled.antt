@@ -3,7 +3,7 @@
 use mathlib.Core.Path.{_≡_, refl, sym, ap, _∙_, subst}
 use mathlib.Core.Bool.{Bool, true, false, _&&_, false≢true}
 use Prim.Native.Nat.{ℕ, zero, suc, _+_, _-_, _*_, _/_, _%_, _^_, _≤_, _<_, min, compare}
-use native.Mathlib.Nat.{le-of-eq, le-of-suc-le-suc, le-trans, lt-of-le-of-lt, lt-of-lt-of-le, lt-of-not-le, min-eq-right, not-le-of-lt}
+use native.Mathlib.Nat.{le-of-eq, le-of-suc-le-suc, le-trans, lt-of-lt-of-le, lt-of-not-le, min-eq-right, not-le-of-lt}
 use native.Mathlib.Nat.{le-div-iff-mul-le, le-of-mul-le-mul-right, lt-of-mul-lt-mul-right, mul-assoc, mul-div-cancel, mul-le-mul-right, mul-lt-mul-of-pos-right, mul-one, mul-pos, mul-right-comm, one-mul, zero-mul}
 use native.Mathlib.Omega.{arith}
 use lib.Dec.{T, ltb, leb, eqb, lit<, lit≤, leb→le, ltb→lt, eqb→eq, not-T}
@@ -16,8 +16,7 @@ use lib.Ieee.Exact.{HasValue, round-exact}
 use lib.Ieee.Fits.{and-l, and-r, down-pos, round-is}
 use lib.Ieee.Nearest.{nearest-ge}
 use borrow.Author.Tests.{ltb-true, ltb-false}
-use Rattle.metric.specs.Row.{bound}
-use Rattle.quantiser.specs.Quantise.{nearest, signed, rounded, quantised}
+use Rattle.quantiser.specs.Quantise.{clip, nearest, signed, rounded, quantised}
 use Rattle.quantiser.proofs.Sizes.{of-value}
 
 -- ---- where `round` overflows: w units, from 2^277 units (2^128) on
@@ -25,15 +24,13 @@ units-over : (s : Bool) (q k : ℕ) → 2 ^ 277 ≤ q * 2 ^ k → units binary32
 unfolding units
 units-over s q k h = cond-no (ltb (q * 2 ^ k) (2 ^ 277)) (odd 25 s q k 149) (inf s) (not-T (ltb (q * 2 ^ k) (2 ^ 277)) (λ t. not-le-of-lt (ltb→lt (q * 2 ^ k) (2 ^ 277) t) h))
 
-spare : (z : ℕ) → z ≤ 301 → z - 24 ≤ 277
-spare z h = omega arith
-
 too-large : (s : Bool) (num den w : ℕ) → 0 < den → num * 2 ^ 149 ≡ w * den → 2 ^ 277 ≤ w → w < 2 ^ 301 → round binary32 s num den ≡ inf s
 too-large s num den w D h lo hi =
     let n = num * 2 ^ 149 in
     let k = size (n / den) - 24 in
     let whole : n / den ≡ w = ap (λ (x : ℕ). x / den) h ∙ mul-div-cancel w D in
-    let few : k ≤ 277 = spare (size (n / den)) (size-le (n / den) 301 (subst (λ (x : ℕ). x < 2 ^ 301) (sym whole) hi)) in
+    let z : size (n / den) ≤ 301 = size-le (n / den) 301 (rw whole hi) in
+    let few : k ≤ 277 = omega arith in
     let split : 2 ^ (277 - k) * 2 ^ k ≡ 2 ^ 277 = sym (pow-add 2 (277 - k) k) ∙ ap (λ (x : ℕ). 2 ^ x) (back 277 k few) in
     let level : 2 ^ (277 - k) * (den * 2 ^ k) ≡ 2 ^ 277 * den = sym (mul-assoc (2 ^ (277 - k)) den (2 ^ k)) ∙ mul-right-comm (2 ^ (277 - k)) den (2 ^ k) ∙ ap (λ (x : ℕ). x * den) split in
     let reach : 2 ^ (277 - k) * (den * 2 ^ k) ≤ n = le-trans (le-of-eq level) (le-trans (mul-le-mul-right den lo) (le-of-eq (sym h))) in
@@ -87,25 +84,18 @@ same-sign true = refl
 same-sign false = refl
 
 -- products of numerals beyond `omega`, as variables
-by-32 : (x P y d : ℕ) → x * P ≡ y * d → x * (P * 32) ≡ y * 32 * d
-by-32 x P y d h = omega arith
+by-32 : (m u P p d : ℕ) → m * u * P ≡ m * p * d → 32 * m * u * P ≡ m * (p * 32) * d
+by-32 m u P p d h = omega arith
 
-under : (x P y d : ℕ) → x * (P * 32) ≡ y * d → 32 * x * P ≡ y * d
-under x P y d h = omega arith
-
-beyond : (P x d : ℕ) → 4 ≤ P → P * d ≤ x → 128 * d ≤ 32 * x
-beyond P x d h k = let l : 4 * d ≤ P * d = mul-le-mul-right d h in omega arith
+below-32 : (m u P d : ℕ) → m * u < P * d → 32 * m * u < P * 32 * d
+below-32 m u P d h = omega arith
 
 abbrev times-32 : Bool → ℕ → ℤ → Float
 times-32 s m e = mul binary32 (fin s m e) thirty-two
 
 as-round : (s : Bool) (m : ℕ) (e : ℤ) → times-32 s m e ≡ round binary32 s (32 * m * up e) (down e)
 unfolding mul
-as-round s m e =
-    let n : m * up e * 32 ≡ 32 * m * up e = omega arith in
-    ap (λ (z : Bool). round binary32 z (m * up e * 32) (down e * 1)) (same-sign s)
-    ∙ ap (λ (x : ℕ). round binary32 s x (down e * 1)) n
-    ∙ ap (λ (x : ℕ). round binary32 s (32 * m * up e) x) (mul-one (down e))
+as-round s m e = let n : m * up e * 32 ≡ 32 * m * up e = omega arith in rw (same-sign, n, mul-one)
 
 -- the exact product in units
 abbrev scaled : ℕ → ℤ → ℕ
@@ -113,73 +103,52 @@ scaled m e = m * 2 ^ (place e + 5)
 
 -- below 2^277 units the float is exact; from there on it is an infinity, and the exact product is 128 or more
 module _ (s : Bool) (m : ℕ) (e : ℤ) (i : Inside m e) where
-  raised : scaled m e ≡ m * 2 ^ place e * 32
-  raised = ap (λ (x : ℕ). m * x) (pow-add 2 (place e) 5) ∙ sym (mul-assoc m (2 ^ place e) 32)
-
-  count : m * up e * 2 ^ 154 ≡ scaled m e * down e
-  count = by-32 (m * up e) (2 ^ 149) (m * 2 ^ place e) (down e) (in-units m e (i .deep)) ∙ ap (λ (x : ℕ). x * down e) (sym raised)
-
-  count-149 : 32 * m * up e * 2 ^ 149 ≡ scaled m e * down e
-  count-149 = ap (λ (x : ℕ). x * 2 ^ 149) (mul-assoc 32 m (up e)) ∙ under (m * up e) (2 ^ 149) (scaled m e) (down e) count
+  count : 32 * m * up e * 2 ^ 149 ≡ scaled m e * down e
+  count = rw (pow-add 2 (place e) 5) (by-32 m (up e) (2 ^ 149) (2 ^ place e) (down e) (in-units m e (i .deep)))
 
   exact : scaled m e < 2 ^ 277 → HasValue (times-32 s m e) s (32 * m * up e) (down e)
   exact h =
       subst (λ (y : Float). HasValue y s (32 * m * up e) (down e)) (sym (as-round s m e))
-      (round-exact binary32 s (32 * m * up e) (down e) m (place e + 5) (down-pos e) (i .digits) h count-149)
+      (round-exact binary32 s (32 * m * up e) (down e) m (place e + 5) (down-pos e) (i .digits) h count)
 
   bounded : scaled m e < 2 ^ 282
   bounded =
-      lt-of-mul-lt-mul-right (down e)
-      (lt-of-le-of-lt (le-of-eq (sym count)) (lt-of-lt-of-le (mul-lt-mul-of-pos-right (i .below) (pow-pos 154)) (le-of-eq (mul-right-comm (2 ^ 128) (down e) (2 ^ 154)))))
+      let h : 32 * m * up e * 2 ^ 149 < 2 ^ 133 * down e * 2 ^ 149 = mul-lt-mul-of-pos-right (below-32 m (up e) (2 ^ 128) (down e) (i .below)) (pow-pos 149) in
+      lt-of-mul-lt-mul-right (down e) (rw (count, mul-right-comm (2 ^ 133) (down e) (2 ^ 149)) at h)
 
   infinite : 2 ^ 277 ≤ scaled m e → times-32 s m e ≡ inf s
-  infinite h = as-round s m e ∙ too-large s (32 * m * up e) (down e) (scaled m e) (down-pos e) count-149 h (lt-of-lt-of-le bounded (lit≤ tt))
+  infinite h = as-round s m e ∙ too-large s (32 * m * up e) (down e) (scaled m e) (down-pos e) count h (lt-of-lt-of-le bounded (lit≤ tt))
 
   far : 2 ^ 277 ≤ scaled m e → 128 * down e ≤ 32 * m * up e
   far h =
-      le-trans
-      (beyond (2 ^ 123) (m * up e) (down e) (lit≤ tt)
-      (le-of-mul-le-mul-right (le-trans (le-of-eq (mul-right-comm (2 ^ 123) (down e) (2 ^ 154))) (le-trans (mul-le-mul-right (down e) h) (le-of-eq (sym count)))) (pow-pos 154)))
-      (le-of-eq (sym (mul-assoc 32 m (up e))))
+      let l : 2 ^ 128 * down e * 2 ^ 149 ≤ 32 * m * up e * 2 ^ 149 = rw (count, mul-right-comm (2 ^ 128) (down e) (2 ^ 149)) (mul-le-mul-right (down e) h) in
+      le-trans (mul-le-mul-right (down e) (lit≤ tt)) (le-of-mul-le-mul-right l (pow-pos 149))
 
   -- so the float is a number, and is rounded as 32 times the sample is
-  clipped : 128 * down e ≤ 32 * m * up e → min (nearest (32 * m * up e) (down e)) bound ≡ bound
-  unfolding bound
+  clipped : 128 * down e ≤ 32 * m * up e → min (nearest (32 * m * up e) (down e)) clip ≡ clip
   clipped h = min-eq-right (le-div-iff-mul-le (mul-pos (lit< tt) (down-pos e)) .1 (omega arith))
 
-  number : isNan (times-32 s m e) ≡ false
-  unfolding isNan
-  number = go (ltb (scaled m e) (2 ^ 277)) refl
+  product : (isNan (times-32 s m e) ≡ false) × (rounded 1 (times-32 s m e) ≡ rounded 32 (fin s m e))
+  unfolding isNan rounded
+  product = go (ltb (scaled m e) (2 ^ 277)) refl
     where
       finite : (y : Float) → HasValue y s (32 * m * up e) (down e) → isNan y ≡ false
       finite nan h = absurd h
       finite (inf t) h = refl
       finite (fin t n d) h = refl
 
-      go : (b : Bool) → ltb (scaled m e) (2 ^ 277) ≡ b → isNan (times-32 s m e) ≡ false
-      go true t = finite (times-32 s m e) (exact (ltb-true (scaled m e) (2 ^ 277) t))
-      go false t = ap isNan (infinite (ltb-false (scaled m e) (2 ^ 277) t))
-
-  rounded-32 : rounded 1 (times-32 s m e) ≡ rounded 32 (fin s m e)
-  unfolding rounded
-  rounded-32 = go (ltb (scaled m e) (2 ^ 277)) refl
-    where
-      go : (b : Bool) → ltb (scaled m e) (2 ^ 277) ≡ b → rounded 1 (times-32 s m e) ≡ rounded 32 (fin s m e)
+      go : (b : Bool) → ltb (scaled m e) (2 ^ 277) ≡ b → (isNan (times-32 s m e) ≡ false) × (rounded 1 (times-32 s m e) ≡ rounded 32 (fin s m e))
       go true t =
-          of-value 1 (times-32 s m e) s (32 * m * up e) (down e) (down-pos e) (exact (ltb-true (scaled m e) (2 ^ 277) t))
-          ∙ ap (λ (x : ℕ). signed s (min (nearest x (down e)) bound)) (one-mul (32 * m * up e))
+          let h = exact (ltb-true (scaled m e) (2 ^ 277) t) in
+          (finite (times-32 s m e) h, rw (of-value 1 (times-32 s m e) s (32 * m * up e) (down e) (down-pos e) h, one-mul))
       go false t =
           let h = ltb-false (scaled m e) (2 ^ 277) t in
-          ap (rounded 1) (infinite h) ∙ ap (λ (x : ℕ). signed s x) (sym (clipped (far h)))
+          (ap isNan (infinite h), ap (rounded 1) (infinite h) ∙ ap (λ (x : ℕ). signed s x) (sym (clipped (far h))))
 
-pub product-number : (x : Float) → T (fits binary32 x) → isNan x ≡ false → isNan (mul binary32 x thirty-two) ≡ false
-unfolding mul isNan
-product-number nan h k = absurd (false≢true (sym k))
-product-number (inf s) h k = refl
-product-number (fin s m e) h k = number s m e (inside s m e h)
-
-pub product-rounded : (x : Float) → T (fits binary32 x) → isNan x ≡ false → rounded 1 (mul binary32 x thirty-two) ≡ quantised x
+pub scales :
+    (x : Float) → T (fits binary32 x) → isNan x ≡ false →
+    (isNan (mul binary32 x thirty-two) ≡ false) × (rounded 1 (mul binary32 x thirty-two) ≡ quantised x)
 unfolding mul isNan rounded quantised
-product-rounded nan h k = absurd (false≢true (sym k))
-product-rounded (inf s) h k = ap (λ (z : Bool). signed z bound) (same-sign s)
-product-rounded (fin s m e) h k = rounded-32 s m e (inside s m e h)
+scales nan h k = absurd (false≢true (sym k))
+scales (inf s) h k = (refl, ap (λ (z : Bool). signed z clip) (same-sign s))
+scales (fin s m e) h k = product s m e (inside s m e h)

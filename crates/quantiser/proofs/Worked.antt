@@ -7,7 +7,6 @@ use Prim.Native.Nat.{ℕ}
 use lib.IntN.{ℤ, pos, negsuc}
 use lib.ListN.{replicate}
 use lib.Ieee.{Float, fin, binary32, ofBits, isNan}
-use Rattle.metric.specs.Row.{bound}
 use Rattle.code.specs.Code.{code-good, width, long}
 use Rattle.code.specs.Bits.{row-long}
 use Rattle.quantiser.specs.Quantise.{rounded, quantised}
@@ -35,7 +34,7 @@ pub on-record :
     × (at 0x3c80_0000 ≡ pos 1)  -- 1/64, 32 times which is 0.5
     × (at 0xbc80_0000 ≡ negsuc 0)  -- -1/64
     × (at 0x407f_0000 ≡ pos 127)  -- 3.984375, 32 times which is 127.5
-unfolding quantised rounded bound ofBits
+unfolding quantised rounded ofBits
 on-record = (refl, refl, refl, refl)
 
 pub edges :
@@ -57,7 +56,7 @@ pub edges :
     × (at 0xc07d_0000 ≡ negsuc 126)  -- -126.5 / 32
     × (at 0x7f7f_ffff ≡ pos 127)  -- the largest
     × (at 0xff7f_ffff ≡ negsuc 126)  -- its negative
-unfolding quantised rounded bound ofBits
+unfolding quantised rounded ofBits
 edges = (refl, refl, refl, refl, refl, refl, refl, refl, refl, refl, refl, refl, refl, refl, refl, refl, refl, refl)
 
 -- so many samples with these bits

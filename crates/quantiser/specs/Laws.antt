@@ -6,8 +6,8 @@ use Prim.Native.Nat.{ℕ, _+_, _*_, _≤_, _<_, min}
 use lib.IntN.{ℤ, negℤ}
 use lib.Signed.{_≤ℤ_}
 use lib.Ieee.{Float, fin, up, down, neg, le}
-use Rattle.metric.specs.Row.{bound, reliability-good, row-good}
-use Rattle.quantiser.specs.Quantise.{signed, quantised}
+use Rattle.metric.specs.Row.{reliability-good, row-good}
+use Rattle.quantiser.specs.Quantise.{clip, signed, quantised}
 
 -- n is the whole number nearest to a / b, a half going up: n - 1/2 ≤ a / b < n + 1/2, multiplied by 2 · b
 pub record Nearest (a b n : ℕ) : Type 0 where
@@ -18,7 +18,7 @@ pub record Nearest (a b n : ℕ) : Type 0 where
 unfoldable pub Within-half : Type 0
 Within-half =
     (s : Bool) (m : ℕ) (e : ℤ) →
-    (n : ℕ) × Nearest (32 * m * up e) (down e) n × (quantised (fin s m e) ≡ signed s (min n bound))
+    (n : ℕ) × Nearest (32 * m * up e) (down e) n × (quantised (fin s m e) ≡ signed s (min n clip))
 
 unfoldable pub Nearest-one : Type 0
 Nearest-one = (a b n k : ℕ) → Nearest a b n → Nearest a b k → n ≡ k

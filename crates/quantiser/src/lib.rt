@@ -4,12 +4,11 @@
 ghost use mathlib.Core.Path.{_≡_};
 ghost use mathlib.Core.Bool.{false};
 ghost use mathlib.Core.List.{map};
-ghost use Prim.Native.Nat.{_^_, _<_, min};
+ghost use Prim.Native.Nat.{_^_, _<_, _≤_, min};
 ghost use lib.IntN.{pos};
 ghost use lib.ListN.{length};
 ghost use lib.Ieee.{binary32, isNan, ofBits, nanBits};
-ghost use Rattle.metric.specs.Row.{bound};
-ghost use Rattle.quantiser.specs.Quantise.{nearest, rounded, quantised};
+ghost use Rattle.quantiser.specs.Quantise.{clip, nearest, rounded, quantised};
 ghost use Rattle.quantiser.specs.Calls.{has-nan, quantise-refusal, Quantise-says};
 
 // A float's bits are its sign, 8 bits of exponent and 23 bits of significand below the leading one.
@@ -17,14 +16,13 @@ const SIGN: u32 = 2147483648;
 
 const LEADING: u32 = 8388608;
 
-// The greatest size of a reliability.
-const BOUND: u32 = metric::BOUND as u32;
+// The greatest size that a sample is given, which is at most that of a reliability.
+const CLIP: u32 = 127;
 
-// At most the greatest size of a reliability.
-fn clip(n: u32) -> u32
-    ensures { λ r. ⌜ r ≡ min n bound ⌝ }
+fn clipped(n: u32) -> u32
+    ensures { λ r. ⌜ r ≡ min n clip ⌝ }
 {
-    if n > BOUND { BOUND } else { n }
+    if n > CLIP { CLIP } else { n }
 }
 
 // The whole number nearest to v / 2^24, a half going up.
@@ -39,7 +37,7 @@ fn halves_up(v: u32) -> u32
 // 126) it is 0, and from 128 (a field of 134) on it is clipped. Between these the float is q · 2^(e - 150), so q · 2^(e - 126) / 2^24.
 fn size_of(b: u32) -> u32
     requires { ⌜ (b < 2 ^ 31) × (nanBits binary32 b ≡ false) ⌝ }
-    ensures { λ r. ⌜ pos r ≡ rounded 1 (ofBits binary32 b) ⌝ }
+    ensures { λ r. ⌜ (pos r ≡ rounded 1 (ofBits binary32 b)) × (r ≤ clip) ⌝ }
 {
     let e = b / LEADING;
     let q = LEADING + b % LEADING;
@@ -47,9 +45,9 @@ fn size_of(b: u32) -> u32
         return 0;
     }
     if e >= 134 {
-        return BOUND;
+        return CLIP;
     }
-    clip(halves_up(q << (e - 126)))
+    clipped(halves_up(q << (e - 126)))
 }
 
 // A float to the nearest whole number, halves away from zero, then clipped.

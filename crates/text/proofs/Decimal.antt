@@ -1,17 +1,15 @@
 -- Decimal digits: a number's digits are those of its tenth part and its last one, and a number below 10^k has at most k of them.
 -- Assumes nothing.
-use mathlib.Core.Path.{_≡_, refl, ap, _∙_}
+use mathlib.Core.Path.{_≡_, refl, ap}
 use mathlib.Core.Bool.{Bool, true, false, cond}
-use mathlib.Core.List.{List, [], _∷_, _++_}
-use Prim.Native.Nat.{ℕ, zero, suc, _+_, _*_, _/_, _%_, _^_, _≤_, _<_}
+use mathlib.Core.List.{[], _∷_, _++_}
+use Prim.Native.Nat.{ℕ, zero, suc, _*_, _/_, _%_, _^_, _≤_, _<_}
 use native.Mathlib.Nat.{pow-succ'}
 use native.Mathlib.Omega.{arith}
 use lib.Dec.{ltb}
 use lib.ListN.{length, length-append}
 use borrow.Author.Tests.{ltb-true, ltb-false, lt-ltb, le-ltb}
 use Rattle.text.specs.Text.{digit, decimal-from, decimal}
-use Rattle.text.specs.Within.{Written}
-use Rattle.text.proofs.Writing.{then}
 
 -- steps beyond those that are needed change nothing
 steps : (a b n : ℕ) → n < a → n < b → decimal-from a n ≡ decimal-from b n
@@ -45,20 +43,3 @@ digits-at-most (suc k) n h = go (ltb n 10) refl (λ p. digits-at-most k (n / 10)
         let h' : n < 10 * 10 ^ suc k = rw (pow-succ' 10 (suc k)) at h in
         let l : length (decimal (n / 10)) ≤ suc k = r (omega arith) in
         rw (decimal-more n (ltb-false n 10 e), length-append) (omega arith)
-
--- ---- written digit by digit
-pub room-one : (n at k : ℕ) → n < 10 → at + length (decimal n) ≤ k → at < k
-room-one n at k h l = let e : length (decimal n) ≡ 1 = ap length (decimal-one n h) in omega arith
-
-pub room-more : (n at k : ℕ) → 10 ≤ n → at + length (decimal n) ≤ k → at + length (decimal (n / 10)) < k
-room-more n at k h l =
-    let e : length (decimal n) ≡ length (decimal (n / 10)) + 1 = ap length (decimal-more n h) ∙ length-append (decimal (n / 10)) (digit (n % 10) ∷ []) in
-    omega arith
-
-pub one-digit : (n : ℕ) {at next : ℕ} {o p : List ℕ} → n < 10 → Written at (digit n ∷ []) o p next → Written at (decimal n) o p next
-one-digit n h w = rw (decimal-one n h) w
-
-pub last-digit :
-    (n : ℕ) {at i next : ℕ} {o p q : List ℕ} → 10 ≤ n → Written at (decimal (n / 10)) o p i → Written i (digit (n % 10) ∷ []) p q next →
-    Written at (decimal n) o q next
-last-digit n h v w = rw (decimal-more n h) (then v w)

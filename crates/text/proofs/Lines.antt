@@ -1,4 +1,4 @@
--- A question's line is its three parts, and every line has a bounded length.
+-- A question's line is the parts in which it is written, and every line has a bounded length.
 -- Assumes nothing.
 use mathlib.Core.Path.{_≡_}
 use mathlib.Core.List.{List, [], _∷_, _++_, append-assoc}
@@ -8,16 +8,27 @@ use lib.Dec.{lit≤}
 use lib.ListN.{length, getD, length-append}
 use lib.IntN.{ℤ, pos, negsuc, natAbs}
 use Rattle.metric.specs.Cost.{costZero, costOne}
-use Rattle.text.specs.Text.{feed, decimal, signed, line, none-word, short-word, best-word, question-word, refused-word, verdict-field, shortfall-field, bits-field, least-from, least-magnitude, question-line, count-line, refused-line}
-use Rattle.text.specs.Within.{ended, numbers-part, mark-part, soft-part}
+use Rattle.metric.specs.Metric.{is-neg}
+use Rattle.text.specs.Text.{feed, space, decimal, sign, signed, line, none-word, short-word, best-word, question-word, refused-word, verdict-field, shortfall-field, bits-field, least-from, least-magnitude, question-line, count-line, refused-line}
+use Rattle.text.specs.Within.{ended, mark-part}
 use Rattle.text.proofs.Decimal.{digits-at-most}
 
+-- a question's line in the parts in which it is written; the machine's numbers are equal to those of the contract, not the same
+abbrev pub parts : (number code : ℕ) → (best : ℤ) → (verdict : ℕ) → (shortfall : ℤ) → (soft : List ℤ) → (least : ℕ) → List ℕ
+parts n c g v d so x =
+    ended (decimal n) space ++ (ended (decimal c) space ++ (ended (signed g) space ++ (mark-part v d ++ (bits-field so ++ ((space ∷ []) ++ ended (decimal x) feed)))))
+
 pub question-parts :
-    (n c : ℕ) (g : ℤ) (v : ℕ) (d : ℤ) (so : List ℤ) → numbers-part n c g ++ (mark-part v d ++ soft-part so) ≡ question-line n c g v d so
-unfolding numbers-part mark-part soft-part ended question-line line
-question-parts n c g v d so = simp append-assoc
+    (n c v : ℕ) (so : List ℤ) {g g' d d' : ℤ} {x : ℕ} → g' ≡ g → d' ≡ d → x ≡ least-magnitude so →
+    question-line n c g v d so ≡ parts n c g' v d' so x
+unfolding ended mark-part question-line line
+question-parts n c v so p q r = rw (p, q, r) (simp append-assoc)
 
 -- ---- lengths
+pub ended-length : (f : List ℕ) (e : ℕ) → length (ended f e) ≡ length f + 1
+unfolding ended
+ended-length f e = length-append f (e ∷ [])
+
 pub question-length :
     (n c : ℕ) (g : ℤ) (v : ℕ) (d : ℤ) (so : List ℤ) →
     length (question-line n c g v d so)
@@ -36,7 +47,7 @@ refused-length e = omega (arith, length-append (decimal e) (feed ∷ []))
 
 -- a number below a power of ten that is not negative
 pub signed-at-most : (k : ℕ) (z : ℤ) → costZero z ≡ 0 → costOne z < 10 ^ suc k → length (signed z) ≤ suc k
-unfolding signed
+unfolding signed sign is-neg
 signed-at-most k (pos n) e h = digits-at-most k n h
 signed-at-most k (negsuc n) e h = absurd (omega arith)
 

@@ -55,23 +55,15 @@ then {at} {i} {j} {s} {t} {o} {p} {q} v w =
     }
 
 -- ---- a text that is written byte by byte
-pub start : (at : ℕ) (s o : List ℕ) → at ≤ length o → Written at (take 0 s) o o (at + 0)
-start at s o h = rw (add-zero) (nothing at o h)
+pub start : {at : ℕ} {o : List ℕ} → at ≤ length o → Written at [] o o (at + 0)
+start h = rw add-zero (nothing _ _ h)
 
 pub more :
-    (at i x : ℕ) (s o p : List ℕ) → at + length s ≤ length o → i < length s → x ≡ getD s i 0 → Written at (take i s) o p (at + i) →
-    Written at (take (i + 1) s) o (set p (at + i) x) (at + (i + 1))
-more at i x s o p h l e w =
-    let room : at + i < length p = omega (arith, written-length w) in
-    let v : Written at (take i s ++ (x ∷ [])) o (set p (at + i) x) (at + i + 1) = then w (one (at + i) x p room) in
+    (i : ℕ) (s : List ℕ) {at x : ℕ} {o p : List ℕ} → at + length s ≤ length o → i < length s → x ≡ getD s i 0 →
+    Written at (take i s) o p (at + i) → Written at (take (i + 1) s) o (set p (at + i) x) (at + (i + 1))
+more i s {at} {x} {o} {p} h l e w =
+    let v : Written at (take i s ++ (x ∷ [])) o (set p (at + i) x) (at + i + 1) = then w (one (at + i) x p (omega (arith, written-length w))) in
     rw (add-one, take-suc s i 0, ← e, add-suc, ← add-one) v
 
 pub whole : (i : ℕ) (s : List ℕ) {at n : ℕ} {o p : List ℕ} → length s ≤ i → Written at (take i s) o p n → Written at s o p n
 whole i s h w = rw (take-all i s h) at w
-
--- ---- room for a text is room for its beginning, and for the rest behind that
-pub fits-first : (s t : List ℕ) (at k : ℕ) → at + length (s ++ t) ≤ k → at + length s ≤ k
-fits-first s t at k h = omega (arith, rw length-append at h)
-
-pub fits-next : (s t : List ℕ) {at i : ℕ} {o p : List ℕ} → Written at s o p i → at + length (s ++ t) ≤ length o → i + length t ≤ length p
-fits-next s t w h = omega (arith, rw length-append at h, w .next-is, written-length w)

@@ -3,20 +3,20 @@ use mathlib.Core.List.{List, [], _∷_, _++_, map}
 use mathlib.Core.Bool.{cond}
 use Prim.Native.Nat.{ℕ, zero, suc, _+_, _/_, _%_, min}
 use lib.Dec.{ltb}
-use lib.IntN.{ℤ, pos, negsuc, natAbs}
-use Rattle.metric.specs.Metric.{decided}
+use lib.IntN.{ℤ, natAbs}
+use Rattle.metric.specs.Metric.{is-neg, decided}
 
 -- ASCII: line feed, space, dash, and the digits from `0`
-unfoldable pub feed : ℕ
+abbrev pub feed : ℕ
 feed = 10
 
-unfoldable pub space : ℕ
+abbrev pub space : ℕ
 space = 32
 
-unfoldable pub dash : ℕ
+abbrev pub dash : ℕ
 dash = 45
 
-unfoldable pub digit : ℕ → ℕ
+abbrev pub digit : ℕ → ℕ
 digit d = 48 + d
 
 -- a number in decimal digits, with no zero in front; one step a digit is enough
@@ -28,9 +28,11 @@ unfoldable pub decimal : ℕ → List ℕ
 decimal n = decimal-from (suc n) n
 
 -- a dash before the digits of a negative number
+unfoldable pub sign : ℤ → List ℕ
+sign z = cond (is-neg z) (dash ∷ []) []
+
 unfoldable pub signed : ℤ → List ℕ
-signed (pos n) = decimal n
-signed (negsuc n) = dash ∷ decimal (suc n)
+signed z = sign z ++ decimal (natAbs z)
 
 -- the words, each a list of ASCII codes
 unfoldable pub best-word : List ℕ

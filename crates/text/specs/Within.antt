@@ -6,7 +6,7 @@ use mathlib.Core.Bool.{cond}
 use lib.ListN.{length, take, drop}
 use lib.IntN.{ℤ}
 use Rattle.metric.specs.Metric.{is-neg}
-use Rattle.text.specs.Text.{feed, space, digit, decimal, signed, verdict-field, shortfall-field, bits-field, least-magnitude}
+use Rattle.text.specs.Text.{space, digit, verdict-field, shortfall-field}
 
 -- the buffer with a text from a place on, the rest kept
 unfoldable pub put : (at : ℕ) → (text buffer : List ℕ) → List ℕ
@@ -26,12 +26,6 @@ bit-digit s = digit (cond (is-neg s) 1 0)
 unfoldable pub ended : (field : List ℕ) → (end : ℕ) → List ℕ
 ended f e = f ++ (e ∷ [])
 
--- a question's line in the parts in which it is written
-unfoldable pub numbers-part : (number code : ℕ) → (best : ℤ) → List ℕ
-numbers-part n c g = ended (decimal n) space ++ (ended (decimal c) space ++ ended (signed g) space)
-
+-- the verdict and the shortfall of a question's line
 unfoldable pub mark-part : (verdict : ℕ) → (shortfall : ℤ) → List ℕ
-mark-part v d = verdict-field v ++ (space ∷ (shortfall-field v d ++ (space ∷ [])))
-
-unfoldable pub soft-part : (soft : List ℤ) → List ℕ
-soft-part so = bits-field so ++ (space ∷ ended (decimal (least-magnitude so)) feed)
+mark-part v d = ended (verdict-field v) space ++ ended (shortfall-field v d) space

@@ -6,8 +6,8 @@ ghost use mathlib.Core.List.{_∷_, [], _++_};
 ghost use Prim.Native.Nat.{_+_, _<_, _≤_, min};
 ghost use lib.ListN.{length};
 ghost use lib.IntN.{natAbs};
-ghost use Rattle.text.specs.Text.{digit, decimal, signed, verdict-field, shortfall-field, bits-field, least-magnitude, header, question-line, count-line, refused-line};
-ghost use Rattle.text.specs.Within.{Written, bit-digit, ended, numbers-part, mark-part, soft-part};
+ghost use Rattle.text.specs.Text.{space, digit, decimal, sign, signed, bits-field, least-magnitude, header, question-line, count-line, refused-line};
+ghost use Rattle.text.specs.Within.{Written, bit-digit, ended, mark-part};
 
 const FEED: u8 = 10;
 
@@ -57,6 +57,15 @@ pub fn put_decimal(n: u32, out: &mut [u8], at: usize) -> usize
     put_digit(n % 10, out, next)
 }
 
+// A number, and the byte that ends its field.
+fn put_number(n: u32, end: u8, out: &mut [u8], at: usize) -> usize
+    requires { ⌜ at + length (ended (decimal n) end) ≤ length (now out) ⌝ }
+    ensures { λ r. ⌜ Written at (ended (decimal n) end) (now (out .entry)) (now (out .exit)) r ⌝ }
+{
+    let next = put_decimal(n, out, at);
+    put_byte(end, out, next)
+}
+
 // The size of a number.
 fn magnitude(z: i32) -> u32
     ensures { λ r. ⌜ r ≡ natAbs z ⌝ }
@@ -67,38 +76,40 @@ fn magnitude(z: i32) -> u32
     z as u32
 }
 
-fn put_signed(z: i32, out: &mut [u8], at: usize) -> usize
-    requires { ⌜ at + length (signed z) ≤ length (now out) ⌝ }
-    ensures { λ r. ⌜ Written at (signed z) (now (out .entry)) (now (out .exit)) r ⌝ }
+// A dash where a number is negative.
+fn put_sign(z: i32, out: &mut [u8], at: usize) -> usize
+    requires { ⌜ at + length (sign z) ≤ length (now out) ⌝ }
+    ensures { λ r. ⌜ Written at (sign z) (now (out .entry)) (now (out .exit)) r ⌝ }
 {
     if z < 0 {
-        let next = put_byte(DASH, out, at);
-        return put_decimal(magnitude(z), out, next);
-    }
-    put_decimal(magnitude(z), out, at)
-}
-
-fn put_verdict(verdict: u32, out: &mut [u8], at: usize) -> usize
-    requires { ⌜ at + length (verdict-field verdict) ≤ length (now out) ⌝ }
-    ensures { λ r. ⌜ Written at (verdict-field verdict) (now (out .entry)) (now (out .exit)) r ⌝ }
-{
-    if verdict == 0 {
-        return put_bytes(b"none", out, at);
-    }
-    if verdict == 1 {
-        return put_bytes(b"short", out, at);
-    }
-    put_bytes(b"best", out, at)
-}
-
-fn put_shortfall(verdict: u32, shortfall: i32, out: &mut [u8], at: usize) -> usize
-    requires { ⌜ at + length (shortfall-field verdict shortfall) ≤ length (now out) ⌝ }
-    ensures { λ r. ⌜ Written at (shortfall-field verdict shortfall) (now (out .entry)) (now (out .exit)) r ⌝ }
-{
-    if verdict == 0 {
         return put_byte(DASH, out, at);
     }
-    put_signed(shortfall, out, at)
+    at
+}
+
+// A signed number as a field that others follow.
+fn put_signed(z: i32, out: &mut [u8], at: usize) -> usize
+    requires { ⌜ at + length (ended (signed z) space) ≤ length (now out) ⌝ }
+    ensures { λ r. ⌜ Written at (ended (signed z) space) (now (out .entry)) (now (out .exit)) r ⌝ }
+{
+    let next = put_sign(z, out, at);
+    put_number(magnitude(z), SPACE, out, next)
+}
+
+// Verdict and shortfall.
+fn put_mark(verdict: u32, shortfall: i32, out: &mut [u8], at: usize) -> usize
+    requires { ⌜ at + length (mark-part verdict shortfall) ≤ length (now out) ⌝ }
+    ensures { λ r. ⌜ Written at (mark-part verdict shortfall) (now (out .entry)) (now (out .exit)) r ⌝ }
+{
+    if verdict == 0 {
+        return put_bytes(b"none - ", out, at);
+    }
+    if verdict == 1 {
+        let next = put_bytes(b"short ", out, at);
+        return put_signed(shortfall, out, next);
+    }
+    let next = put_bytes(b"best ", out, at);
+    put_signed(shortfall, out, next)
 }
 
 // The decided bit of a soft output, as a digit.
@@ -112,7 +123,7 @@ fn bit_of(s: i16) -> u8
 }
 
 fn put_bits(soft: &[i16], out: &mut [u8], at: usize) -> usize
-    requires { ⌜ at + length (now soft) ≤ length (now out) ⌝ }
+    requires { ⌜ at + length (bits-field (now soft)) ≤ length (now out) ⌝ }
     ensures { λ r. ⌜ Written at (bits-field (now (soft .entry))) (now (out .entry)) (now (out .exit)) r ⌝ }
 {
     let mut i = 0;
@@ -129,10 +140,10 @@ fn smaller(a: u32, b: u32) -> u32
     if a <= b { a } else { b }
 }
 
-fn wide(s: i16) -> i32
-    ensures { λ r. ⌜ r ≡ s ⌝ }
+fn size_of(s: i16) -> u32
+    ensures { λ r. ⌜ r ≡ natAbs s ⌝ }
 {
-    s as i32
+    magnitude(s as i32)
 }
 
 fn least_of(soft: &[i16]) -> u32
@@ -141,54 +152,13 @@ fn least_of(soft: &[i16]) -> u32
     if soft.len() == 0 {
         return 0;
     }
-    let mut least = magnitude(wide(soft[0]));
+    let mut least = size_of(soft[0]);
     let mut i = 1;
     while i < soft.len() {
-        least = smaller(least, magnitude(wide(soft[i])));
+        least = smaller(least, size_of(soft[i]));
         i += 1;
     }
     least
-}
-
-// A number, and the byte that ends its field.
-fn put_number(n: u32, end: u8, out: &mut [u8], at: usize) -> usize
-    requires { ⌜ at + length (ended (decimal n) end) ≤ length (now out) ⌝ }
-    ensures { λ r. ⌜ Written at (ended (decimal n) end) (now (out .entry)) (now (out .exit)) r ⌝ }
-{
-    let next = put_decimal(n, out, at);
-    put_byte(end, out, next)
-}
-
-// The first three fields of a question's line.
-fn put_numbers(number: u32, code: u32, best: i32, out: &mut [u8], at: usize) -> usize
-    requires { ⌜ at + length (numbers-part number code best) ≤ length (now out) ⌝ }
-    ensures { λ r. ⌜ Written at (numbers-part number code best) (now (out .entry)) (now (out .exit)) r ⌝ }
-{
-    let a = put_number(number, SPACE, out, at);
-    let b = put_number(code, SPACE, out, a);
-    let c = put_signed(best, out, b);
-    put_byte(SPACE, out, c)
-}
-
-// The next two.
-fn put_mark(verdict: u32, shortfall: i32, out: &mut [u8], at: usize) -> usize
-    requires { ⌜ at + length (mark-part verdict shortfall) ≤ length (now out) ⌝ }
-    ensures { λ r. ⌜ Written at (mark-part verdict shortfall) (now (out .entry)) (now (out .exit)) r ⌝ }
-{
-    let a = put_verdict(verdict, out, at);
-    let b = put_byte(SPACE, out, a);
-    let c = put_shortfall(verdict, shortfall, out, b);
-    put_byte(SPACE, out, c)
-}
-
-// The last two.
-fn put_soft(soft: &[i16], out: &mut [u8], at: usize) -> usize
-    requires { ⌜ at + length (soft-part (now soft)) ≤ length (now out) ⌝ }
-    ensures { λ r. ⌜ Written at (soft-part (now (soft .entry))) (now (out .entry)) (now (out .exit)) r ⌝ }
-{
-    let a = put_bits(soft, out, at);
-    let b = put_byte(SPACE, out, a);
-    put_number(least_of(soft), FEED, out, b)
 }
 
 pub fn put_question(
@@ -204,9 +174,13 @@ pub fn put_question(
     requires { ⌜ at + length (question-line number code best verdict shortfall (now soft)) ≤ length (now out) ⌝ }
     ensures { λ r. ⌜ Written at (question-line number code best verdict shortfall (now (soft .entry))) (now (out .entry)) (now (out .exit)) r ⌝ }
 {
-    let a = put_numbers(number, code, best, out, at);
-    let b = put_mark(verdict, shortfall, out, a);
-    put_soft(soft, out, b)
+    let a = put_number(number, SPACE, out, at);
+    let b = put_number(code, SPACE, out, a);
+    let c = put_signed(best, out, b);
+    let d = put_mark(verdict, shortfall, out, c);
+    let e = put_bits(soft, out, d);
+    let f = put_byte(SPACE, out, e);
+    put_number(least_of(soft), FEED, out, f)
 }
 
 pub fn put_header(out: &mut [u8], at: usize) -> usize

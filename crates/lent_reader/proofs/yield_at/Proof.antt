@@ -1,45 +1,26 @@
--- `lent_reader::yield_at` meets its contract.
+-- `lent_reader::yield_at` meets its contract: a question that was found is one of at most 200, so the place behind it fits.
 -- Assumes nothing.
 use native.Mathlib.Omega.{arith}
-use Rattle.lent_reader.specs.Calls.{moved}
-use Rattle.lent_reader.proofs.Order.{found-inside}
 use borrow.Author.Needs.{needs}
+use Rattle.lent_reader.proofs.Order.{found-inside}
 use Rattle.lent_reader.proofs.yield_at.Statement.{statement}
 use Rattle.lent_reader.proofs.yield_at.Tie as tie
-
-enum-told : tie.Need-enum-told
-enum-told c = search needs
-
-add-next : tie.Need-add-next
-add-next c = record { fits = omega (arith, found-inside (c .before .before .before .before .before .question-of .ensures) (c .enum-told .given .1)) }
-
-returns : tie.Need-returns
-unfolding moved
-returns c = record { choice = c .before .before .before .before .before .question-of .ensures; next = rw (c .enum-told .given .1) }
-
-returns-2 : tie.Need-returns-2
-unfolding moved
-returns-2 c = record { choice = c .before .before .before .before .before .question-of .ensures; next = rw (c .enum-told2 .given .1) }
-
-returns-3 : tie.Need-returns-3
-unfolding moved
-returns-3 c = record { choice = c .before .before .before .before .before .question-of .ensures; next = rw (c .enum-told3 .given .1) }
 
 pub yield-at-spec : {M : Type 1} → statement M
 yield-at-spec =
     tie.close
     (tie.spec
     (λ c κs. search needs)
-    enum-told
-    add-next
+    (λ c. search needs)
+    (λ c. record { fits = omega (arith, found-inside (c .before .before .before .before .before .question-of .ensures) (c .enum-told .given .1)) })
     (λ c. search needs)
     (λ c. search needs)
     (λ c. search needs)
     (λ c. search needs)
-    returns
+    (λ c. record { choice = c .before .before .before .before .before .question-of .ensures; next = rw (c .enum-told .given .1) })
     (λ c. search needs)
     (λ c. search needs)
-    returns-2
+    (λ c. record { choice = c .before .before .before .before .before .question-of .ensures; next = rw (c .enum-told2 .given .1) })
     (λ c. search needs)
     (λ c. search needs)
-    returns-3)
+    (λ c. record { choice = c .before .before .before .before .before .question-of .ensures; next = rw (c .enum-told3 .given .1) }))

@@ -1,13 +1,12 @@
 -- `quantiser::any_nan` meets its contract. The invariant: the samples below i have no NaN, so what is asked of all is asked of the rest.
 -- Assumes nothing.
-use borrow.Author.Needs.{needs}
+use mathlib.Core.Path.{_≡_, refl}
 use Prim.Native.Nat.{_≤_, _-_}
-use mathlib.Core.Path.{_≡_, refl, sym, _∙_}
 use native.Mathlib.Omega.{arith}
-use lib.ListN.{length, drop}
-use denote.Ref.{now}
+use lib.ListN.{length, drop, drop-of-length-le}
+use borrow.Author.Needs.{needs}
 use Rattle.quantiser.specs.Calls.{has-nan}
-use Rattle.quantiser.proofs.Samples.{found, passed, ended}
+use Rattle.quantiser.proofs.Samples.{next}
 use Rattle.quantiser.proofs.any_nan.Statement.{statement}
 use Rattle.quantiser.proofs.any_nan.Tie as tie
 
@@ -17,18 +16,9 @@ Inv-loop samples i₀ i = (i ≤ length samples) × (has-nan samples ≡ has-nan
 abbrev μ-loop : tie.MeasureT-loop
 μ-loop samples i₀ i = length samples - i
 
-returns : tie.Need-returns Inv-loop μ-loop
-returns c =
-    let l = c .before .before .before .before in
-    found (now (l .before .before .args .samples)) (l .loop .i) (c .before .before .before .loop-test .taken) (l .loop .inv .1) (sym (c .before .is-nan .ensures) ∙ c .if1 .taken)
-
-loop-again : tie.Need-loop-again Inv-loop μ-loop
-loop-again c =
-    let l = c .before .before .before .before in
-    (omega arith, passed (now (l .before .before .args .samples)) (l .loop .i) (c .before .before .before .loop-test .taken) (l .loop .inv .1) (sym (c .before .is-nan .ensures) ∙ c .if1 .left))
-
 returns-2 : tie.Need-returns-2 Inv-loop μ-loop
-returns-2 c = ended (now (c .before .before .before .args .samples)) (c .before .loop .i) (c .loop-test .left) (c .before .loop .inv .1)
+unfolding has-nan
+returns-2 c = rw (c .before .loop .inv .1, drop-of-length-le _ (c .loop-test .left))
 
 pub any-nan-spec : {M : Type 1} → statement M
 any-nan-spec =
@@ -40,8 +30,8 @@ any-nan-spec =
     (λ c. search needs)
     (λ c. search needs)
     (λ c κs. search needs)
-    returns
+    (λ c. rw (c .before .before .before .before .loop .inv .1, next _ _ (c .before .before .before .loop-test .taken), ← (c .before .is-nan .ensures), c .if1 .taken))
     (λ c. omega arith)
     (λ c. omega arith)
-    loop-again
+    (λ c. (omega arith, rw (c .before .before .before .before .loop .inv .1, next _ _ (c .before .before .before .loop-test .taken), ← (c .before .is-nan .ensures), c .if1 .left)))
     returns-2)

@@ -1,42 +1,38 @@
--- `text::put_question` meets its contract: the three parts of a line, one behind the other.
+-- `text::put_question` meets its contract: the fields of a line, one behind the other.
 -- Assumes nothing.
-use Rattle.text.proofs.Lines.{question-parts}
-use Rattle.text.proofs.Fields.{same-room, same-text}
-use Rattle.text.specs.Within.{numbers-part, mark-part, soft-part}
-use Rattle.text.proofs.Writing.{then, fits-first, fits-next}
-use mathlib.Core.List.{_++_}
-use mir.Facts.{toZ-ofZ}
+use mathlib.Core.Path.{_≡_, ap, refl}
+use Prim.Native.Nat.{ℕ}
+use native.Mathlib.Omega.{arith}
+use lib.ListN.{length, length-append}
 use denote.Ref.{now}
-use lib.ListN.{length}
+use mir.Syntax.{w32}
+use mir.Val.{toZ, ofZ}
+use mir.Facts.{toZ-ofZ}
 use borrow.Author.Needs.{needs}
+use Rattle.text.specs.Text.{decimal, least-magnitude, question-line}
+use Rattle.text.proofs.Lines.{parts, question-parts, ended-length}
+use Rattle.text.proofs.Writing.{then}
 use Rattle.text.proofs.put_question.Statement.{statement}
 use Rattle.text.proofs.put_question.Tie as tie
 
-put-numbers-requires : tie.Need-put-numbers-requires
-put-numbers-requires c κs = let s = c .before .before in
-    let e-best = toZ-ofZ (s .fits .best) in
-    let e-shortfall = toZ-ofZ (s .fits .shortfall) in
-    rw e-best (fits-first (numbers-part (s .args .number) (s .args .code) (s .args .best)) ((mark-part (s .args .verdict) (s .args .shortfall)) ++ (soft-part (now (s .args .soft)))) _ _ (same-room (s .args .at) (length (now (s .args .out))) (question-parts (s .args .number) (s .args .code) (s .args .best) (s .args .verdict) (s .args .shortfall) (now (s .args .soft))) (s .pre)))
-
-put-mark-requires : tie.Need-put-mark-requires
-put-mark-requires c κs = let s = c .before .before .before .before .before .before in
-    let e-best = toZ-ofZ (s .fits .best) in
-    let e-shortfall = toZ-ofZ (s .fits .shortfall) in
-    rw e-shortfall (fits-first (mark-part (s .args .verdict) (s .args .shortfall)) (soft-part (now (s .args .soft))) _ _ (fits-next (numbers-part (s .args .number) (s .args .code) (s .args .best)) ((mark-part (s .args .verdict) (s .args .shortfall)) ++ (soft-part (now (s .args .soft)))) (rw e-best at (c .before .before .before .put-numbers .ensures)) (same-room (s .args .at) (length (now (s .args .out))) (question-parts (s .args .number) (s .args .code) (s .args .best) (s .args .verdict) (s .args .shortfall) (now (s .args .soft))) (s .pre))))
-
-put-soft-requires : tie.Need-put-soft-requires
-put-soft-requires c κs = let s = c .before .before .before .before .before .before .before .before .before .before in
-    let e-best = toZ-ofZ (s .fits .best) in
-    let e-shortfall = toZ-ofZ (s .fits .shortfall) in
-    fits-next (mark-part (s .args .verdict) (s .args .shortfall)) (soft-part (now (s .args .soft))) (rw e-shortfall at (c .before .before .before .put-mark .ensures)) (fits-next (numbers-part (s .args .number) (s .args .code) (s .args .best)) ((mark-part (s .args .verdict) (s .args .shortfall)) ++ (soft-part (now (s .args .soft)))) (rw e-best at (c .before .before .before .before .before .before .before .put-numbers .ensures)) (same-room (s .args .at) (length (now (s .args .out))) (question-parts (s .args .number) (s .args .code) (s .args .best) (s .args .verdict) (s .args .shortfall) (now (s .args .soft))) (s .pre)))
-
-returns : tie.Need-returns
-returns c = let s = c .before .before .before .before .before .before .before .before .before .before .before .before .before in
-    let e-best = toZ-ofZ (s .fits .best) in
-    let e-shortfall = toZ-ofZ (s .fits .shortfall) in
-    same-text (question-parts (s .args .number) (s .args .code) (s .args .best) (s .args .verdict) (s .args .shortfall) (now (s .args .soft))) (then (rw e-best at (c .before .before .before .before .before .before .before .before .before .before .put-numbers .ensures)) (then (rw e-shortfall at (c .before .before .before .before .before .before .put-mark .ensures)) (c .before .before .put-soft .ensures)))
+by-parts :
+    (s : tie.Start) {x : ℕ} → x ≡ least-magnitude (now (s .args .soft)) →
+    question-line (s .args .number) (s .args .code) (s .args .best) (s .args .verdict) (s .args .shortfall) (now (s .args .soft))
+    ≡ parts (s .args .number) (s .args .code) (toZ w32 (ofZ w32 (s .args .best))) (s .args .verdict) (toZ w32 (ofZ w32 (s .args .shortfall))) (now (s .args .soft)) x
+by-parts s = question-parts _ _ _ _ (toZ-ofZ (s .fits .best)) (toZ-ofZ (s .fits .shortfall))
 
 pub put-question-spec : {M : Type 1} → statement M
 put-question-spec =
     tie.close
-    (tie.spec put-numbers-requires put-mark-requires put-soft-requires (λ c. search needs) returns)
+    (tie.spec
+    (λ c κs. omega (arith, simp length-append at (ap length (by-parts (c .before .before) refl))))
+    (λ c κs. omega (arith, simp length-append at (ap length (by-parts (c .before .before .before .before .before .before) refl))))
+    (λ c κs. omega (arith, simp length-append at (ap length (by-parts (c .before .before .before .before .before .before .before .before .before .before) refl))))
+    (λ c κs. omega (arith, simp length-append at (ap length (by-parts (c .before .before .before .before .before .before .before .before .before .before .before .before .before .before) refl))))
+    (λ c κs. omega (arith, simp length-append at (ap length (by-parts (c .before .before .before .before .before .before .before .before .before .before .before .before .before .before .before .before .before .before) refl))))
+    (λ c κs. omega (arith, simp length-append at (ap length (by-parts (c .before .before .before .before .before .before .before .before .before .before .before .before .before .before .before .before .before .before .before .before .before .before) refl))))
+    (λ c κs. search needs)
+    (λ c κs. let e = ended-length (decimal (c .before .least-of .result)) in
+    simp e (omega (arith, simp (length-append, e) at (ap length (by-parts (c .before .before .before .before .before .before .before .before .before .before .before .before .before .before .before .before .before .before .before .before .before .before .before .before .before .before .before) (c .before .least-of .ensures))), c .before .before .before .before .before .before .before .before .before .before .before .before .before .before .before .before .before .before .before .before .before .before .before .before .put-number, c .before .before .before .before .before .before .before .before .before .before .before .before .before .before .before .before .before .before .before .before .before .before .before .before .before .before .before)))
+    (λ c. search needs)
+    (λ c. rw (by-parts (c .before .before .before .before .before .before .before .before .before .before .before .before .before .before .before .before .before .before .before .before .before .before .before .before .before .before .before .before .before .before) (c .before .before .before .before .least-of .ensures)) (search (needs, then) depth 9)))
