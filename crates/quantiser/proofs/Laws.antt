@@ -14,7 +14,7 @@ use lib.Ieee.{nan, inf, fin, up, down, neg, lt, eq, le}
 use lib.Ieee.Fits.{down-pos, and-l, and-r}
 use lib.Ieee.Nearest.{div-mono}
 use Rattle.field.proofs.Tests.{to-T}
-use Rattle.metric.specs.Row.{bound, reliability-good, row-good}
+use Rattle.metric.specs.Row.{row-bound, reliability-good, row-good}
 use Rattle.quantiser.specs.Quantise.{clip, nearest, signed, rounded, quantised}
 use Rattle.quantiser.specs.Laws.{Nearest, Within-half, Nearest-one, Reliability, Row-taken, Odd, Monotone}
 use Rattle.quantiser.proofs.Sizes.{within}
@@ -42,18 +42,17 @@ nearest-one a b n k p q = le-antisymm (half n k p q) (half k n q p)
         let x : n * b < suc k * b = omega arith in
         le-of-suc-le-suc (lt-of-mul-lt-mul-right b x)
 
-clip-bound : clip ≤ bound
-unfolding bound
+clip-bound : clip ≤ row-bound
 clip-bound = lit≤ tt
 
 pub reliability : Reliability
 unfolding Reliability quantised reliability-good
-reliability x = le-leb (natAbs (rounded 32 x)) bound (le-trans (within 32 x) clip-bound)
+reliability x = le-leb (natAbs (rounded 32 x)) row-bound (le-trans (within 32 x) clip-bound)
 
 pub row-taken : Row-taken
 unfolding Row-taken row-good Reliability
 row-taken [] = refl
-row-taken (x ∷ xs) = ap (λ (b : Bool). b && row-good (map quantised xs)) (reliability x) ∙ row-taken xs
+row-taken (x ∷ xs) = ap (λ (b : Bool). b && row-good row-bound (map quantised xs)) (reliability x) ∙ row-taken xs
 
 pub odd : Odd
 unfolding Odd quantised rounded neg

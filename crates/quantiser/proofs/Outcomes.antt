@@ -11,9 +11,9 @@ use Rattle.refusal.proofs.Tests.{passed}
 use Rattle.quantiser.specs.Calls.{has-nan, quantise-refusal}
 
 -- what holds where nothing is refused
-pub accepted : (c : ℕ) (xs : List Float) (o : ℕ) → quantise-refusal c xs o ≡ 0 → (o ≡ length xs) × (has-nan xs ≡ false)
+pub accepted : (m : ℕ) (xs : List Float) (o : ℕ) → quantise-refusal m xs o ≡ 0 → (o ≡ length xs) × (has-nan xs ≡ false)
 unfolding quantise-refusal
-accepted c xs o e =
-    let a = passed _ _ _ (passed _ _ _ e .1) in
+accepted m xs o e =
+    let a = passed _ _ _ e in
     let b = passed _ _ _ (a .1) in
     (eqb-true _ _ (b .0) ∙ sym (eqb-true _ _ (a .0)), not-true _ (passed _ _ _ (b .1) .0))

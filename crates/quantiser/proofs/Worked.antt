@@ -7,10 +7,10 @@ use Prim.Native.Nat.{ℕ}
 use lib.IntN.{ℤ, pos, negsuc}
 use lib.ListN.{replicate}
 use lib.Ieee.{Float, fin, binary32, ofBits, isNan}
-use Rattle.code.specs.Code.{code-good, width, long}
+use Rattle.code.specs.Code.{code-good, number-refusal, width, long}
 use Rattle.code.specs.Bits.{row-long}
 use Rattle.quantiser.specs.Quantise.{rounded, quantised}
-use Rattle.refusal.specs.Refusal.{unless}
+use Rattle.refusal.specs.Refusal.{unless, first}
 use Rattle.quantiser.specs.Calls.{has-nan, quantise-refusal}
 
 abbrev sample : (bits : ℕ) → Float
@@ -63,16 +63,19 @@ edges = (refl, refl, refl, refl, refl, refl, refl, refl, refl, refl, refl, refl,
 abbrev samples : (count bits : ℕ) → List Float
 samples n b = replicate n (sample b)
 
+abbrev refused : (code : ℕ) → (samples : List Float) → (output : ℕ) → ℕ
+refused c xs o = first (number-refusal c) (quantise-refusal (width c) xs o)
+
 pub refusals :
-    (quantise-refusal 1 (samples 21 0x3f80_0000) 21 ≡ 0)
-    × (quantise-refusal 3 (samples 60 0x3f80_0000) 60 ≡ 0)
-    × (quantise-refusal 2 (samples 21 0x7f80_0000) 21 ≡ 0)  -- infinities are taken
-    × (quantise-refusal 0 (samples 20 0x3f80_0000) 20 ≡ 1)  -- the code comes first
-    × (quantise-refusal 4 (samples 21 0x3f80_0000) 21 ≡ 1)
-    × (quantise-refusal 1 (samples 7 0x7fc0_0000) 7 ≡ 2)  -- n samples, of n·m
-    × (quantise-refusal 3 (samples 21 0x3f80_0000) 60 ≡ 2)
-    × (quantise-refusal 1 (samples 21 0x7fc0_0000) 20 ≡ 4)  -- the lengths come before a NaN
-    × (quantise-refusal 1 (samples 21 0x7fc0_0000) 21 ≡ 7)
-    × (quantise-refusal 1 (sample 0xffff_ffff ∷ samples 20 0x3f80_0000) 21 ≡ 7)  -- another NaN's bits
-unfolding quantise-refusal unless has-nan code-good width long row-long isNan ofBits
+    (refused 1 (samples 21 0x3f80_0000) 21 ≡ 0)
+    × (refused 3 (samples 60 0x3f80_0000) 60 ≡ 0)
+    × (refused 2 (samples 21 0x7f80_0000) 21 ≡ 0)  -- infinities are taken
+    × (refused 0 (samples 20 0x3f80_0000) 20 ≡ 1)  -- the code comes first
+    × (refused 4 (samples 21 0x3f80_0000) 21 ≡ 1)
+    × (refused 1 (samples 7 0x7fc0_0000) 7 ≡ 2)  -- n samples, of n·m
+    × (refused 3 (samples 21 0x3f80_0000) 60 ≡ 2)
+    × (refused 1 (samples 21 0x7fc0_0000) 20 ≡ 4)  -- the lengths come before a NaN
+    × (refused 1 (samples 21 0x7fc0_0000) 21 ≡ 7)
+    × (refused 1 (sample 0xffff_ffff ∷ samples 20 0x3f80_0000) 21 ≡ 7)  -- another NaN's bits
+unfolding quantise-refusal number-refusal unless first has-nan code-good width long row-long isNan ofBits
 refusals = (refl, refl, refl, refl, refl, refl, refl, refl, refl, refl)

@@ -8,8 +8,8 @@ use lib.Dec.{eqb}
 use lib.IntN.{ℤ}
 use lib.ListN.{length}
 use lib.Ieee.{Float, isNan}
-use Rattle.refusal.specs.Refusal.{unless, Outcome}
-use Rattle.code.specs.Code.{code-good, width}
+use Rattle.refusal.specs.Refusal.{unless, first, Outcome}
+use Rattle.code.specs.Code.{number-refusal, width}
 use Rattle.code.specs.Bits.{row-long}
 use Rattle.quantiser.specs.Quantise.{quantised}
 
@@ -18,14 +18,13 @@ unfoldable pub has-nan : (samples : List Float) → Bool
 has-nan [] = false
 has-nan (x ∷ xs) = isNan x || has-nan xs
 
--- 'It takes exactly the n·m samples of a code's row'
-unfoldable pub quantise-refusal : (code : ℕ) → (samples : List Float) → (output : ℕ) → ℕ
-quantise-refusal c xs o =
-    unless (code-good c) 1
-    (unless (eqb (length xs) (row-long (width c))) 2
-    (unless (eqb o (row-long (width c))) 4
-    (unless (not (has-nan xs)) 7 0)))
+-- 'It takes exactly the n·m samples of a code's row': what follows the code's own refusal
+unfoldable pub quantise-refusal : (m : ℕ) → (samples : List Float) → (output : ℕ) → ℕ
+quantise-refusal m xs o =
+    unless (eqb (length xs) (row-long m)) 2
+    (unless (eqb o (row-long m)) 4
+    (unless (not (has-nan xs)) 7 0))
 
 -- the row is the samples quantised, each in its place
 unfoldable pub Quantise-says : (code : ℕ) → (samples : List Float) → (answer : ℕ) → (row row-now : List ℤ) → Type 0
-Quantise-says c xs r o p = Outcome (quantise-refusal c xs (length o)) r (p ≡ map quantised xs) (p ≡ o)
+Quantise-says c xs r o p = Outcome (first (number-refusal c) (quantise-refusal (width c) xs (length o))) r (p ≡ map quantised xs) (p ≡ o)

@@ -6,7 +6,7 @@ use Prim.Native.Nat.{ℕ, _+_, _*_, _≤_, _<_, min}
 use lib.IntN.{ℤ, negℤ}
 use lib.Signed.{_≤ℤ_}
 use lib.Ieee.{Float, fin, up, down, neg, le}
-use Rattle.metric.specs.Row.{reliability-good, row-good}
+use Rattle.metric.specs.Row.{row-bound, reliability-good, row-good}
 use Rattle.quantiser.specs.Quantise.{clip, signed, quantised}
 
 -- n is the whole number nearest to a / b, a half going up: n - 1/2 ≤ a / b < n + 1/2, multiplied by 2 · b
@@ -25,10 +25,10 @@ Nearest-one = (a b n k : ℕ) → Nearest a b n → Nearest a b k → n ≡ k
 
 -- a quantised sample is a reliability, and quantised samples are a row that every call takes
 unfoldable pub Reliability : Type 0
-Reliability = (x : Float) → reliability-good (quantised x) ≡ true
+Reliability = (x : Float) → reliability-good row-bound (quantised x) ≡ true
 
 unfoldable pub Row-taken : Type 0
-Row-taken = (xs : List Float) → row-good (map quantised xs) ≡ true
+Row-taken = (xs : List Float) → row-good row-bound (map quantised xs) ≡ true
 
 -- odd under change of sign
 unfoldable pub Odd : Type 0

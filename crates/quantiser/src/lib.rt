@@ -1,6 +1,7 @@
 // The quantiser: 32-bit float samples to the reliabilities of a row.
 // `quantise` is offered to callers: it takes any input and promises what specs/Calls.antt says, each sample by specs/Quantise.antt.
 // What a code is, and how long its row, is left to the crate `code`.
+use code::Shape;
 ghost use mathlib.Core.Path.{_≡_};
 ghost use mathlib.Core.Bool.{false};
 ghost use mathlib.Core.List.{map};
@@ -8,6 +9,7 @@ ghost use Prim.Native.Nat.{_^_, _<_, _≤_, min};
 ghost use lib.IntN.{pos};
 ghost use lib.ListN.{length};
 ghost use lib.Ieee.{binary32, isNan, ofBits, nanBits};
+ghost use Rattle.code.specs.Within.{Coded};
 ghost use Rattle.quantiser.specs.Quantise.{clip, nearest, rounded, quantised};
 ghost use Rattle.quantiser.specs.Calls.{has-nan, quantise-refusal, Quantise-says};
 
@@ -89,15 +91,14 @@ fn any_nan(samples: &[f32]) -> bool
     false
 }
 
-// What a call is refused by, 0 for nothing.
-fn quantise_refusal(code: u32, samples: &[f32], output: usize) -> u32
-    ensures { λ r. ⌜ r ≡ quantise-refusal code (now (samples .entry)) output ⌝ }
+// What a call is refused by after its code, 0 for nothing.
+fn quantise_refusal(shape: Shape, samples: &[f32], output: usize) -> u32
+    requires { ⌜ Coded shape ⌝ }
+    ensures { λ r. ⌜ r ≡ quantise-refusal (shape .m) (now (samples .entry)) output ⌝ }
 {
-    let long = code::row_long_of(code::width_of(code));
     let contents = refusal::unless(!any_nan(samples), 7, 0);
-    let room = refusal::unless(output == long, 4, contents);
-    let lengths = refusal::unless(samples.len() == long, 2, room);
-    refusal::unless(code::is_code(code), 1, lengths)
+    let room = refusal::unless(output == shape.bits, 4, contents);
+    refusal::unless(samples.len() == shape.bits, 2, room)
 }
 
 // Each sample quantised into its place.
@@ -116,7 +117,11 @@ fn fill(samples: &[f32], row: &mut [i16])
 pub fn quantise(code: u32, samples: &[f32], row: &mut [i16]) -> u32
     ensures { λ r. ⌜ Quantise-says code (now (samples .entry)) r (now (row .entry)) (now (row .exit)) ⌝ }
 {
-    let number = quantise_refusal(code, samples, row.len());
+    let chosen = code::by_number(code);
+    let number = refusal::first(
+        chosen.number,
+        quantise_refusal(chosen.shape, samples, row.len()),
+    );
     if number == 0 {
         fill(samples, row);
     }
