@@ -6,22 +6,23 @@ use Prim.Native.Nat.{ℕ}
 use lib.Dec.{eqb}
 use lib.ListN.{length}
 use lib.IntN.{ℤ, pos}
-use Rattle.code.specs.Code.{code-good, width, roots, long, symbols-good, is-codeword}
+use Rattle.code.specs.Code.{number-refusal, width, roots, long, symbols-good, is-codeword}
 use Rattle.code.specs.Bits.{row-long}
-use Rattle.refusal.specs.Refusal.{unless, Outcome}
-use Rattle.metric.specs.Row.{row-good}
+use Rattle.refusal.specs.Refusal.{unless, first, Outcome}
+use Rattle.metric.specs.Row.{row-bound, row-good}
 use Rattle.metric.specs.Metric.{Marked}
 use Rattle.marker.specs.declared.Mark.{Mark}
 
-unfoldable pub mark-refusal : (code : ℕ) → (row : List ℤ) → (word : List ℕ) → ℕ
-mark-refusal c rs ws =
-    unless (code-good c) 1
-    (unless (eqb (length rs) (row-long (width c))) 2
-    (unless (eqb (length ws) (long (width c))) 3
-    (unless (row-good rs) 5
-    (unless (symbols-good (width c) ws) 6 0))))
+-- what follows the code's own refusal, over its m
+unfoldable pub mark-refusal : (m : ℕ) → (row : List ℤ) → (word : List ℕ) → ℕ
+mark-refusal m rs ws =
+    unless (eqb (length rs) (row-long m)) 2
+    (unless (eqb (length ws) (long m)) 3
+    (unless (row-good row-bound rs) 5
+    (unless (symbols-good m ws) 6 0)))
 
 -- none, short by exactly what is lacking, or best; refused, the verdict and the shortfall are 0
 unfoldable pub Mark-says : (code : ℕ) → (row : List ℤ) → (word : List ℕ) → Mark → Type 0
 Mark-says c rs ws r =
-    Outcome (mark-refusal c rs ws) (r .number) (Marked (r .verdict) (r .shortfall) (width c) (is-codeword (width c) (roots c)) rs ws) ((r .verdict ≡ 0) × (r .shortfall ≡ pos 0))
+    Outcome (first (number-refusal c) (mark-refusal (width c) rs ws)) (r .number)
+    (Marked (r .verdict) (r .shortfall) (width c) (is-codeword (width c) (roots c)) rs ws) ((r .verdict ≡ 0) × (r .shortfall ≡ pos 0))

@@ -3,21 +3,36 @@ use mathlib.Core.Path.{_≡_}
 use mathlib.Core.Bool.{true}
 use mathlib.Core.List.{List}
 use Prim.Native.Nat.{ℕ, _+_}
-use lib.ListN.{length}
-use lib.IntN.{ℤ}
-use Rattle.code.specs.Code.{width, roots, is-codeword}
-use Rattle.code.specs.Bits.{row-long}
-use Rattle.metric.specs.Row.{row-good}
+use lib.IntN.{ℤ, _-ℤ_}
+use Rattle.code.specs.declared.Shape.{Shape}
+use Rattle.code.specs.Code.{is-codeword}
+use Rattle.metric.specs.Metric.{metric, Greatest, Marked}
 use Rattle.metric.specs.Cost.{cost, Least}
+use Rattle.search.specs.Within.{Input}
+use Rattle.marker.specs.declared.Mark.{Mark}
 
 -- a word's cost is the least cost of a codeword and x
-pub record Short (code : ℕ) (row : List ℤ) (word : List ℕ) (x : ℕ) : Type 0 where
+pub record Short (m r : ℕ) (row : List ℤ) (word : List ℕ) (x : ℕ) : Type 0 where
   pub least : ℕ
-  pub is-least : Least (width code) (is-codeword (width code) (roots code)) row least
-  pub own : cost (width code) row word ≡ least + x
+  pub is-least : Least m (is-codeword m r) row least
+  pub own : cost m row word ≡ least + x
 
 -- an accepted row and a codeword
-pub record Judged (code : ℕ) (row : List ℤ) (word : List ℕ) : Type 0 where
-  pub long-row : length row ≡ row-long (width code)
-  pub good-row : row-good row ≡ true
-  pub codeword : is-codeword (width code) (roots code) word ≡ true
+pub record Judged (s : Shape) (row : List ℤ) (word : List ℕ) : Type 0 where
+  pub input : Input s row
+  pub codeword : is-codeword (s .m) (s .r) word ≡ true
+
+-- a codeword's metric is the greatest less d
+pub record Lacking (m r : ℕ) (row : List ℤ) (word : List ℕ) (d : ℤ) : Type 0 where
+  pub codeword : is-codeword m r word ≡ true
+  pub best : ℤ
+  pub greatest : Greatest m (is-codeword m r) row best
+  pub lacks : d ≡ best -ℤ metric m row word
+
+-- a mark that is right, and no refusal
+abbrev pub Verdict : (m r : ℕ) → (row : List ℤ) → (word : List ℕ) → Mark → Type 0
+Verdict m r row word k = Marked (k .verdict) (k .shortfall) m (is-codeword m r) row word × (k .number ≡ 0)
+
+-- of every codeword that lacks d
+abbrev pub Verdict-from : (d : ℤ) → Mark → Type 0
+Verdict-from d k = (m r : ℕ) → (row : List ℤ) → (word : List ℕ) → Lacking m r row word d → Verdict m r row word k

@@ -1,50 +1,37 @@
--- `marker::excess` meets its contract.
+-- `marker::excess` meets its contract: the tables of a code fit the room that it takes.
 -- Assumes nothing.
-use Rattle.split.proofs.Leaders.{last-code}
-use Rattle.marker.specs.Within.{Judged, Short}
+use mathlib.Core.Path.{sym}
 use native.Mathlib.Omega.{arith}
-use Prim.Native.Nat.{ℕ}
-use mathlib.Core.Path.{sym, subst}
+use borrow.Author.Needs.{needs}
+use lib.Seq.{length-take-le}
+use Rattle.code.specs.Within.{Coded}
+use Rattle.search.proofs.Tabling.{room-small, room-eight}
 use Rattle.marker.proofs.excess.Statement.{statement}
 use Rattle.marker.proofs.excess.Tie as tie
 
-excess-1-requires : tie.Need-excess-1-requires
-excess-1-requires c κs = let s = c .before .before in
-    let a = s .args in
-    let p = s .pre in
-    subst (λ (x : ℕ). Judged x (a .row .now) (a .word .now)) (c .if1 .taken) (p .1)
+abbrev start : tie.Else1 → tie.Start
+start c = c .before .before .before
 
-returns : tie.Need-returns
-returns c = let s = c .before .before .before in
-    let a = s .args in
-    let p = s .pre in
-    subst (λ (x : ℕ). Short x (a .row .now) (a .word .now) (c .excess-1 .result)) (sym (c .before .if1 .taken)) (c .excess-1 .ensures)
+coded : (s : tie.Start) → Coded (s .args .shape)
+coded s = s .pre .input .coded
 
-excess-2-requires : tie.Need-excess-2-requires
-excess-2-requires c κs = let s = c .before .before .before in
-    let a = s .args in
-    let p = s .pre in
-    subst (λ (x : ℕ). Judged x (a .row .now) (a .word .now)) (c .if2 .taken) (p .1)
+excess-in-requires : tie.Need-excess-in-requires
+excess-in-requires c κs = let d = c .before in let s = d .before .before .before in (s .pre, sym (room-eight (coded s) (d .if1 .taken)))
 
-returns-2 : tie.Need-returns-2
-returns-2 c = let s = c .before .before .before .before in
-    let a = s .args in
-    let p = s .pre in
-    subst (λ (x : ℕ). Short x (a .row .now) (a .word .now) (c .excess-2 .result)) (sym (c .before .if2 .taken)) (c .excess-2 .ensures)
-
-excess-3-requires : tie.Need-excess-3-requires
-excess-3-requires c κs = let s = c .before .before .before in
-    let a = s .args in
-    let p = s .pre in
-    subst (λ (x : ℕ). Judged x (a .row .now) (a .word .now)) (last-code (a .code) (p .0) (c .before .if1 .left) (c .if2 .left)) (p .1)
-
-returns-3 : tie.Need-returns-3
-returns-3 c = let s = c .before .before .before .before in
-    let a = s .args in
-    let p = s .pre in
-    subst (λ (x : ℕ). Short x (a .row .now) (a .word .now) (c .excess-3 .result)) (sym (last-code (a .code) (p .0) (c .before .before .if1 .left) (c .before .if2 .left))) (c .excess-3 .ensures)
+excess-in-requires-2 : tie.Need-excess-in-requires-2
+excess-in-requires-2 c κs = let s = start (c .before .before .before .before) in (s .pre, length-take-le _ _ (room-small (coded s)))
 
 pub excess-spec : {M : Type 1} → statement M
 excess-spec =
     tie.close
-    (tie.spec excess-1-requires returns excess-2-requires returns-2 excess-3-requires returns-3)
+    (tie.spec
+    (λ c. search needs)
+    excess-in-requires
+    (λ c. search needs)
+    (λ c. omega (arith, room-small (coded (start (c .before)))))
+    (λ c. omega (arith, room-small (coded (start (c .before .before)))))
+    (λ c. omega (arith, room-small (coded (start (c .before .before)))))
+    (λ c. search needs)
+    (λ c. sym (length-take-le _ _ (room-small (coded (start (c .before .before .before .before))))))
+    excess-in-requires-2
+    (λ c. search needs))

@@ -1,34 +1,21 @@
 -- `marker::mark_refusal` meets its contract.
 -- Assumes nothing.
-use mathlib.Core.Path.{_≡_}
-use mathlib.Core.Bool.{true}
 use borrow.Author.Needs.{needs}
-use Rattle.field.specs.Field.{width-good}
-use Rattle.code.proofs.Accepted.{width-fine}
 use Rattle.marker.specs.Calls.{mark-refusal}
 use Rattle.marker.proofs.mark_refusal.Statement.{statement}
 use Rattle.marker.proofs.mark_refusal.Tie as tie
 
-fine : (c : tie.After-width-of) → width-good (c .width-of .result) ≡ true
-fine c = rw (c .width-of .ensures) (width-fine _)
-
 returns : tie.Need-returns
 unfolding mark-refusal
-returns c = rw
-    (c .unless5 .ensures, c .before .is-code .ensures, c .before .before .unless4 .ensures, c .before .before .before .row-long-of .ensures, c .before .before .before .before .unless3 .ensures, c .before .before .before .before .before .long-of .ensures, c .before .before .before .before .before .before .unless2 .ensures, c .before .before .before .before .before .before .before .is-row .ensures, c .before .before .before .before .before .before .before .before .unless .ensures, c .before .before .before .before .before .before .before .before .before .symbols-good .ensures, c .before .before .before .before .before .before .before .before .before .before .width-of .ensures)
+returns c = cc
 
 pub mark-refusal-spec : {M : Type 1} → statement M
 mark-refusal-spec =
     tie.close
     (tie.spec
     (λ c κs. search needs)
-    (λ c κs. fine c)
     (λ c κs. search needs)
     (λ c κs. search needs)
-    (λ c κs. search needs)
-    (λ c κs. fine (c .before .before .before .before))
-    (λ c κs. search needs)
-    (λ c κs. fine (c .before .before .before .before .before .before))
     (λ c κs. search needs)
     (λ c κs. search needs)
     (λ c κs. search needs)

@@ -1,15 +1,18 @@
 -- `marker::verdict_on` meets its contract.
 -- Assumes nothing.
-use native.Mathlib.Omega.{arith}
-use borrow.Author.Needs.{needs}
-use mir.Facts.{toZ-pos}
+use mathlib.Core.Path.{refl, sym, ap, _∙_}
+use mir.Facts.{toZ-ofZ}
 use mir.Syntax.{w32}
-use Rattle.marker.proofs.Marking.{best-verdict, short-verdict}
+use mir.Val.{toZ, ofZ}
+use Rattle.marker.proofs.Marking.{verdict-best, verdict-short}
 use Rattle.marker.proofs.verdict_on.Statement.{statement}
 use Rattle.marker.proofs.verdict_on.Tie as tie
 
+returns : tie.Need-returns
+returns c m r row word l = (verdict-best l (sym (toZ-ofZ (c .before .fits .shortfall)) ∙ ap (toZ w32) (c .if1 .taken)), refl)
+
 returns-2 : tie.Need-returns-2
-returns-2 c = short-verdict (c .before .args .x) (c .if1 .left) _ (toZ-pos w32 (omega (arith, c .before .pre)))
+returns-2 c m r row word l = (rw (toZ-ofZ (c .before .fits .shortfall)) (verdict-short l (λ e. c .if1 .left (ap (ofZ w32) e))), refl)
 
 pub verdict-on-spec : {M : Type 1} → statement M
-verdict-on-spec = tie.close (tie.spec (λ c. best-verdict (c .before .args .x) (c .if1 .taken)) (λ c. search needs) (λ c. search needs) returns-2)
+verdict-on-spec = tie.close (tie.spec returns returns-2)
