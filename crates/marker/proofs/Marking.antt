@@ -75,17 +75,17 @@ module _ {s : Shape} {row : List ℤ} {word : List ℕ} (j : Judged s row word) 
   excess-small = omega (arith, h .own, cost-le (s .m) row word, weight-le row-bound row (j .input .good-row), j .input .length-row, row-le (j .input .coded))
 
   -- twice what it costs more than the least is what its metric lacks of the greatest
-  pub excess-lacks : Lacking (s .m) (s .r) row word (pos (2 * x))
-  excess-lacks =
+  pub excess-lacks : {d : ℤ} → d ≡ pos (2 * x) → Lacking (s .m) (s .r) row word d
+  excess-lacks e =
       let full = codeword-bits (s .m) (s .r) row (j .input .length-row) in
-      let d = cost (s .m) row word in
+      let own = cost (s .m) row word in
       record {
         codeword = j .codeword;
         best = top row (h .least);
         greatest = greatest (s .m) (is-codeword (s .m) (s .r)) row full (h .least) (h .is-least);
         lacks =
-            rw (top-own (s .m) row word (full word (j .codeword)))
-            (same _ _ (omega (arith, h .own, top-parts row (h .least), top-parts row d, minus (top row (h .least)) (top row d))));
+            rw (e, top-own (s .m) row word (full word (j .codeword)))
+            (same _ _ (omega (arith, h .own, top-parts row (h .least), top-parts row own, minus (top row (h .least)) (top row own))));
       }
 
 -- the two verdicts on a codeword
@@ -93,8 +93,8 @@ module _ {m r : ℕ} {row : List ℤ} {word : List ℕ} {d : ℤ} (l : Lacking m
   pub verdict-best : d ≡ pos 0 → Marked 2 (pos 0) m (is-codeword m r) row word
   verdict-best e = marked-none-lacking m (is-codeword m r) row word (l .best) (l .codeword) (l .greatest) (sym (l .lacks) ∙ e)
 
-  pub verdict-short : (d ≡ pos 0 → ⊥) → Marked 1 d m (is-codeword m r) row word
-  verdict-short n = rw (l .lacks) (marked-lacking m (is-codeword m r) row word (l .best) (l .codeword) (l .greatest) (λ e. n (l .lacks ∙ e)))
+  pub verdict-short : {y : ℤ} → y ≡ d → (d ≡ pos 0 → ⊥) → Marked 1 y m (is-codeword m r) row word
+  verdict-short e n = rw (e ∙ l .lacks) (marked-lacking m (is-codeword m r) row word (l .best) (l .codeword) (l .greatest) (λ f. n (l .lacks ∙ f)))
 
 -- ---- an accepted call
 module _ {s : Shape} {rs : List ℤ} {ws : List ℕ} (z : Coded s) (t : Mark-taken (s .m) rs ws) where

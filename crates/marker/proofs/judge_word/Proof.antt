@@ -1,7 +1,7 @@
 -- `marker::judge_word` meets its contract.
 -- Assumes nothing.
 use mathlib.Core.Path.{refl, sym, _∙_}
-use Prim.Native.Nat.{_*_, _^_, _<_}
+use Prim.Native.Nat.{_^_, _<_}
 use native.Mathlib.Omega.{arith}
 use borrow.Author.Needs.{needs}
 use borrow.Author.Tests.{not-true, not-false}
@@ -51,8 +51,7 @@ returns-3 : tie.Need-returns-3
 unfolding Mark-says
 returns-3 c = let x = c .before in let e = x .before .before .before in let b = chosen e .by-number in let a = start e .args in
     let k = c .verdict-on in
-    let l = excess-lacks (codeword (x .before)) (x .excess .ensures) in
-    let v = k .ensures (b .result .shape .m) (b .result .shape .r) (a .row .now) (a .word .now) (rw (toZ-pos w32 {n = 2 * x .excess .result} (omega (arith, small x))) l) in
+    let v = k .ensures _ _ _ _ (excess-lacks (codeword (x .before)) (x .excess .ensures) (toZ-pos w32 (omega (arith, small x)))) in
     outcome-done _ _ _ _ (cc) (v .1)
     (of-number (λ m r. Marked (k .result .verdict) (k .result .shortfall) m (is-codeword m r) (a .row .now) (a .word .now)) (b .ensures .m-is) (b .ensures .r-is) (v .0))
 

@@ -12,7 +12,7 @@ returns : tie.Need-returns
 returns c m r row word l = (verdict-best l (sym (toZ-ofZ (c .before .fits .shortfall)) ∙ ap (toZ w32) (c .if1 .taken)), refl)
 
 returns-2 : tie.Need-returns-2
-returns-2 c m r row word l = (rw (toZ-ofZ (c .before .fits .shortfall)) (verdict-short l (λ e. c .if1 .left (ap (ofZ w32) e))), refl)
+returns-2 c m r row word l = (verdict-short l (toZ-ofZ (c .before .fits .shortfall)) (λ e. c .if1 .left (ap (ofZ w32) e)), refl)
 
 pub verdict-on-spec : {M : Type 1} → statement M
 verdict-on-spec = tie.close (tie.spec returns returns-2)
