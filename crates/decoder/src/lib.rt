@@ -195,20 +195,23 @@ fn decode_in(shape: Shape, row: &[i16], t: &mut [u16], word: &mut [u8], soft: &m
     )
 }
 
-// A decoding of an accepted call. The tables have two sizes, as room for the largest would cost the smallest code a tenth of its instructions; the
-// larger is filled with BIG, which takes a tenth of what zeroing takes, and nothing reads it before it is written.
+// A decoding of an accepted call, with tables of the size that its code needs: zeroing the largest would cost the smallest code a tenth of its
+// instructions. The largest are filled with BIG, which takes a tenth of what zeroing takes; nothing reads them before they are written.
 fn decode_accepted(shape: Shape, row: &[i16], word: &mut [u8], soft: &mut [i16]) -> i32
     requires { ⌜ Accepted shape (now row) (length (now word)) (length (now soft)) ⌝ }
     ensures { λ x. ⌜ Decoded (shape .m) (is-codeword (shape .m) (shape .r)) (now (row .entry)) (now (word .exit)) x (now (soft .exit)) ⌝ }
 {
-    if shape.size == 8 {
+    let size = shape.size;
+    if size == 8 {
         let mut t = [0u16; 256];
         return decode_in(shape, row, &mut t, word, soft);
     }
-    let mut room = [search::BIG; 2048];
-    let t: &mut [u16] = &mut room;
-    let long = shape.n * (shape.size * 4) + shape.size * 4;
-    decode_in(shape, row, &mut t[..long], word, soft)
+    if size == 16 {
+        let mut t = [0u16; 1024];
+        return decode_in(shape, row, &mut t, word, soft);
+    }
+    let mut t = [search::BIG; 2048];
+    decode_in(shape, row, &mut t, word, soft)
 }
 
 // What a call is refused by after its code, 0 for nothing.

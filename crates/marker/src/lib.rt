@@ -83,20 +83,22 @@ fn excess_in(shape: Shape, row: &[i16], t: &mut [u16], word: &[u8]) -> u32
     )
 }
 
-// Two sizes of room, not one, because the largest would cost code 1 a tenth of its instructions.
+// With tables of the size that the code needs, as in a decoding.
 fn excess(shape: Shape, row: &[i16], word: &[u8]) -> u32
     requires { ⌜ Judged shape (now row) (now word) ⌝ }
     ensures { λ x. ⌜ Short (shape .m) (shape .r) (now (row .entry)) (now (word .entry)) x ⌝ }
 {
-    if shape.size == 8 {
+    let size = shape.size;
+    if size == 8 {
         let mut t = [0u16; 256];
         return excess_in(shape, row, &mut t, word);
     }
-    let step = shape.size * 4;
-    let long = shape.n * step + step;
-    let mut room = [search::BIG; 2048];
-    let t: &mut [u16] = &mut room;
-    excess_in(shape, row, &mut t[..long], word)
+    if size == 16 {
+        let mut t = [0u16; 1024];
+        return excess_in(shape, row, &mut t, word);
+    }
+    let mut t = [search::BIG; 2048];
+    excess_in(shape, row, &mut t, word)
 }
 
 // The verdict on a codeword, from what its metric lacks of the greatest.

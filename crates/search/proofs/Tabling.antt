@@ -31,20 +31,26 @@ room-is : {s : Shape} → (z : Coded s) → s .n * (s .size * 4) + s .size * 4 �
 unfolding room-of
 room-is z = rw (z .size-is, z .q-is, z .n-is, z .m-is, z .r-is) refl
 
-pub room-small : {s : Shape} → Coded s → s .n * (s .size * 4) + s .size * 4 ≤ 2048
-unfolding room-of width roots long
-room-small z = rw (room-is z) (codes (λ c. room-of c ≤ 2048) (omega arith) (omega arith) (omega arith) (z .code) (z .code-is))
-
 pub size-small : {s : Shape} → Coded s → s .size ≤ 64
 unfolding width roots
 size-small z =
     rw (z .size-is, z .q-is, z .m-is, z .r-is) (codes (λ c. 2 ^ syndrome-long (width c) (roots c) ≤ 64) (omega arith) (omega arith) (omega arith) (z .code) (z .code-is))
 
-pub room-eight : {s : Shape} → Coded s → s .size ≡ 8 → s .n * (s .size * 4) + s .size * 4 ≡ 256
+-- by how many syndromes a layer has
+states : {s : Shape} → (z : Coded s) → s .size ≡ 2 ^ syndrome-long (width (z .code)) (roots (z .code))
+states z = rw (z .size-is, z .q-is, z .m-is, z .r-is) refl
+
+abbrev pub Rooms : (size room : ℕ) → Type 0
+Rooms size room = (size ≡ 8 → room ≡ 256) × (size ≡ 16 → room ≡ 1024) × ((size ≡ 8 → ⊥) → (size ≡ 16 → ⊥) → room ≡ 2048)
+
+pub rooms : {s : Shape} → Coded s → Rooms (s .size) (s .n * (s .size * 4) + s .size * 4)
 unfolding room-of width roots long
-room-eight z e =
-    rw (room-is z) (codes (λ c. 2 ^ syndrome-long (width c) (roots c) ≡ 8 → room-of c ≡ 256) (λ f. refl) (λ f. absurd (omega arith)) (λ f. absurd (omega arith)) (z .code) (z .code-is)
-    (rw (← z .m-is, ← z .r-is, ← z .q-is, ← z .size-is) e))
+rooms z =
+    rw (room-is z, states z)
+    (codes (λ c. Rooms (2 ^ syndrome-long (width c) (roots c)) (room-of c))
+    ((λ e. refl), (λ e. absurd (omega arith)), (λ e f. absurd (e refl)))
+    ((λ e. absurd (omega arith)), (λ e. absurd (omega arith)), (λ e f. refl))
+    ((λ e. absurd (omega arith)), (λ e. refl), (λ e f. absurd (f refl))) (z .code) (z .code-is))
 
 module _ {s : Shape} {row : List ℤ} (z : Input s row) where
   pub short : s .n ≤ 15
