@@ -109,7 +109,7 @@ fn one_refusal(e: Element) -> u32
     if !is_width(e.m) {
         return 1;
     }
-    if e.value < size(e.m) { 0 } else { 6 }
+    refusal::unless(e.value < size(e.m), 6, 0)
 }
 
 // What a call on two elements is refused by, 0 for nothing.
@@ -119,14 +119,10 @@ fn two_refusal(a: Element, b: Element) -> u32
     if !is_width(a.m) {
         return 1;
     }
-    if a.m != b.m {
-        return 1;
-    }
     let top = size(a.m);
-    if top <= a.value {
-        return 6;
-    }
-    if b.value < top { 0 } else { 6 }
+    let second = refusal::unless(b.value < top, 6, 0);
+    let first = refusal::unless(a.value < top, 6, second);
+    refusal::unless(a.m == b.m, 1, first)
 }
 
 // The sum of two elements.
