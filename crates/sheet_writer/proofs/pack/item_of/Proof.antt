@@ -11,9 +11,10 @@ use mir.Syntax.{w16}
 use mir.Val.{toZ, ofZ}
 use mir.Facts.{toZ-ofZ}
 use Rattle.metric.specs.Row.{reliability-good}
-use Rattle.sheet.specs.Sheet.{unsigned-of}
+use Rattle.metric.proofs.Bounds.{row-at}
+use Rattle.sheet.specs.Sheet.{unsigned-of, sheet-bound}
 use Rattle.sheet.proofs.Forms.{row-items-length}
-use Rattle.sheet_writer.proofs.Packing.{row-items-at, row-good-at}
+use Rattle.sheet_writer.proofs.Packing.{row-items-at}
 use Rattle.sheet_writer.proofs.Questions.{items-symbols, items-row}
 use borrow.Author.Needs.{needs}
 use Rattle.sheet_writer.proofs.pack.item_of.Statement.{statement}
@@ -40,7 +41,7 @@ element c = toZ-ofZ (record { sfits = c .unsigned-arg .given })
 
 unsigned-requires : tie.Need-unsigned-requires
 unsigned-requires c κs = let s = c .before .before .before .before .before in let p = s .pre .0 in
-    (ap reliability-good (element c) ∙ row-good-at (now (s .args .row)) (s .args .i) (p .row-fine) (inside (c .before)), (p .row-wide (c .before .if1 .left), p .form .small))
+    (ap (reliability-good (sheet-bound (s .args .f))) (element c) ∙ row-at _ (now (s .args .row)) (s .args .i) (p .row-fine (c .before .if1 .left)), (p .form .some, p .form .small))
 
 returns-2 : tie.Need-returns-2
 returns-2 c = let s = c .before .before .before .before .before .before in let f = s .args .f in
