@@ -69,7 +69,7 @@ lent f (q ∷ qs) g =
     let words = drop-at (q .word) ws (long m) (h .word-length) in
     let small = h .small in (
       rw
-          (number-free (q .code) (h .known), lt-ltb _ _ small, fits-lent (λ q. q .row) q qs (row-long m) (h .row-length), fits-lent (λ q. q .word) q qs (long m) (h .word-length), row, h .row-fine, word, h .word-fine, rows, words, more .0),
+          (number-free (q .code) (h .known), lt-ltb, fits-lent (λ q. q .row) q qs (row-long m) (h .row-length), fits-lent (λ q. q .word) q qs (long m) (h .word-length), row, h .row-fine, word, h .word-fine, rows, words, more .0),
       rw (row, word, rows, words, more .1),
     )
 

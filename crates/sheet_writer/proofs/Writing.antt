@@ -45,7 +45,7 @@ asked-good f c n k rs ws h =
     let g = passed _ _ _ (e .1) in
     record {
       known = number-taken c (a .0);
-      small = ltb-true _ _ (b .0);
+      small = let l = ltb-true n _ (b .0) in omega arith;
       row-length = length-take-le (row-long (width c)) rs (enough k _ _ (d .0));
       row-fine = g .0;
       word-length = length-take-le (long (width c)) ws (enough k _ _ (e .0));
