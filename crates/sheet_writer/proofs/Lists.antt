@@ -47,6 +47,10 @@ take-least l {k} {n} {m} e h = by (le-or-lt n (length l))
     by (inl p) = let i : k ≡ m = omega arith in rw i
     by (inr p) = take-all k l (omega arith) ∙ sym (take-all m l (omega arith))
 
+-- what is left from a place on, as a part of a slice
+pub rest-is : {A : Type 0} (l : List A) (n : ℕ) → take (length l - n) (drop n l) ≡ drop n l
+rest-is l n = take-all (length l - n) (drop n l) (omega (arith, length-drop n l))
+
 -- four tests in a row
 pub parts-is : (f : Form) (m k : ℕ) (rs : List ℤ) (ws : List ℕ) {u v w x : ℕ} {a b d e : Bool} →
     u ≡ unless a 2 v → v ≡ unless b 3 w → w ≡ unless d 5 x → x ≡ unless e 6 0 →

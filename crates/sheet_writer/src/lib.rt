@@ -64,8 +64,8 @@ fn write_list(
         word = word_end;
         i += 1;
     }
-    let count = codes.len() as u32;
-    pack::put_word(output, at / 4, pack::end_word(count));
+    let end = sheet::words::END * sheet::words::KINDS + codes.len() as u32;
+    pack::put_word(output, at / 4, end);
 }
 
 // Writes the sheet of a question list, lent as its codes, its question numbers, all rows end to end and all words end to

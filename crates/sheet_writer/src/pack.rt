@@ -6,7 +6,7 @@ ghost use mathlib.Core.List.{_++_};
 ghost use Prim.Native.Nat.{_+_, _*_, _-_, _/_, _^_, _<_, _≤_};
 ghost use lib.ListN.{length, getD, take, drop};
 ghost use Rattle.metric.specs.Row.{reliability-good};
-ghost use Rattle.sheet.specs.Sheet.{digits, packed, unsigned-of, question, question-words, question-good, worded, end-kind};
+ghost use Rattle.sheet.specs.Sheet.{digits, packed, unsigned-of, question, question-words, question-good, worded};
 ghost use Rattle.sheet_writer.specs.Within.{items-of, Packs};
 ghost use Rattle.sheet.specs.Within.{Row-form};
 
@@ -82,12 +82,4 @@ pub fn put_word(output: &mut [u8], i: usize, w: u32)
     output[at + 1] = (w / 256 % 256) as u8;
     output[at + 2] = (w / 256 / 256 % 256) as u8;
     output[at + 3] = (w / 256 / 256 / 256 % 256) as u8;
-}
-
-// The end word of so many questions.
-pub fn end_word(count: u32) -> u32
-    requires { ⌜ count ≤ 200 ⌝ }
-    ensures { λ r. ⌜ r ≡ worded end-kind count ⌝ }
-{
-    sheet::words::END * sheet::words::KINDS + count
 }

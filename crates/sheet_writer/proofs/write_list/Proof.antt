@@ -1,18 +1,18 @@
 -- `sheet_writer::write_list` meets its contract.
 -- Assumes nothing.
-use mathlib.Core.Path.{_≡_, ap, ap₂, _∙_}
+use mathlib.Core.Path.{_≡_, refl, ap, ap₂, _∙_}
 use mathlib.Core.List.{List, _++_, append-nil}
 use Prim.Native.Nat.{ℕ, _+_, _*_, _-_, _/_, _≤_}
 use lib.ListN.{length, getD, take, drop, length-drop, drop-of-length-le}
-use lib.Seq.{take-all}
 use denote.Ref.{now}
 use Rattle.code.specs.Code.{width, long}
 use Rattle.code.specs.Bits.{row-long}
 use Rattle.code.proofs.Accepted.{width-fine}
-use Rattle.sheet.specs.Sheet.{Question, question, digits, question-words, question-good}
+use Rattle.sheet.specs.Sheet.{Question, question, digits, worded, end-kind, question-words, question-good}
 use Rattle.sheet.proofs.Forms.{question-long-le}
 use Rattle.sheet.proofs.Longest.{question-length}
 use Rattle.sheet_writer.specs.Within.{begun}
+use Rattle.sheet_writer.proofs.Lists.{rest-is}
 use Rattle.sheet_writer.proofs.Writing.{Begun, begin, size, next-code, next, next-good, rows-left, words-left, fits-in, more, end-fits, done}
 use borrow.Author.Needs.{needs}
 use native.Mathlib.Omega.{arith}
@@ -52,10 +52,6 @@ words-in b = omega (arith, word-is b, words-left (at b .loop .inv) (in-loop b .l
 output-in : (b : tie.After-by-number Inv-loop μ-loop) → at b .loop .at + 4 * length (question-words (st (at b) .args .f) (next (at b .loop .inv))) ≤ length (at b .loop .output)
 output-in b = fits-in (at b .loop .inv) (in-loop b .loop-test .taken)
 
--- the rest of the output, as it is lent
-part-is : (a : tie.At-loop Inv-loop μ-loop) → take (length (a .loop .output) - a .loop .at) (drop (a .loop .at) (a .loop .output)) ≡ drop (a .loop .at) (a .loop .output)
-part-is a = take-all (length (a .loop .output) - a .loop .at) (drop (a .loop .at) (a .loop .output)) (omega (arith, length-drop (a .loop .at) (a .loop .output)))
-
 -- the parts that are lent make the next question
 same-question : (b : tie.After-by-number Inv-loop μ-loop) → let a = at b in let s = st a .args in
     question (getD (now (s .codes)) (a .loop .i) 0) (getD (now (s .numbers)) (a .loop .i) 0)
@@ -80,7 +76,7 @@ write-question-requires c κs = let b = by c in let a = at b in let e = same-que
   st a .pre .form,
   (
     ap (question-good (st a .args .f)) e ∙ next-good (a .loop .inv) (in-loop b .loop-test .taken),
-    omega (arith, ap (λ (q : Question). length (question-words (st a .args .f) q)) e, output-in b, ap length (part-is a), length-drop (a .loop .at) (a .loop .output)),
+    omega (arith, ap (λ (q : Question). length (question-words (st a .args .f) q)) e, output-in b, ap length (rest-is (a .loop .output) (a .loop .at)), length-drop (a .loop .at) (a .loop .output)),
   ),
 )
 
@@ -92,19 +88,23 @@ loop-again : tie.Need-loop-again Inv-loop μ-loop
 loop-again c = let b = by (c .before .before .before .before) in let a = at b in
     more (a .loop .inv) (in-loop b .loop-test .taken) (ap (_+_ (a .loop .row)) (row-is b)) (ap (_+_ (a .loop .word)) (word-is b)) (ap (λ (x : ℕ). a .loop .at + 4 * x) (words-here c))
     (ap₂ (λ (x y : List ℕ). take (a .loop .at) (a .loop .output) ++ (x ++ y))
-    (c .before .before .before .write-question .ensures ∙ ap₂ begun (ap (question-words (st a .args .f)) (same-question b)) (part-is a))
+    (c .before .before .before .write-question .ensures ∙ ap₂ begun (ap (question-words (st a .args .f)) (same-question b)) (rest-is (a .loop .output) (a .loop .at)))
     (drop-of-length-le (drop (a .loop .at) (a .loop .output)) {i = length (a .loop .output) - a .loop .at} (omega (arith, length-drop (a .loop .at) (a .loop .output))))
     ∙ rw append-nil)
 
 put-word-requires : tie.Need-put-word-requires Inv-loop μ-loop
-put-word-requires c κs = let l = c .before .before in omega (arith, end-fits (l .before .loop .inv) (l .loop-test .left), l .before .loop .inv .place)
+put-word-requires c κs = let l = c .before in omega (arith, end-fits (l .before .loop .inv) (l .loop-test .left), l .before .loop .inv .place)
+
+end-is : (n : ℕ) → 15 * 268435456 + n ≡ worded end-kind n
+unfolding worded end-kind
+end-is n = refl
 
 returns : tie.Need-returns Inv-loop μ-loop
 returns c =
-    let p = c .before .before in let l = p .before .before .before in let a = l .before in
+    let p = c .before .before in let l = p .before .before in let a = l .before in
     let e : 4 * (a .loop .at / 4) ≡ a .loop .at = omega (arith, a .loop .inv .place) in
     p .put-word .ensures
-    ∙ ap₂ (λ (n w : ℕ). take n (a .loop .output) ++ (digits 256 4 w ++ drop (n + 4) (a .loop .output))) e (p .before .end-word .ensures)
+    ∙ ap₂ (λ (n w : ℕ). take n (a .loop .output) ++ (digits 256 4 w ++ drop (n + 4) (a .loop .output))) e (end-is (length (now (st a .args .codes))))
     ∙ done (a .loop .inv) (l .loop-test .left)
 
 pub write-list-spec : {M : Type 1} → statement M
@@ -140,7 +140,8 @@ write-list-spec =
     (λ c. search needs)
     loop-again
     (λ c. omega (arith, st (c .before) .pre .few))
-    (λ c κs. st (c .before .before) .pre .few)
+    (λ c. search needs)
+    (λ c. omega (arith, st (c .before) .pre .few))
     put-word-requires
-    (λ c. let p = c .before .before in p .put-word .kept .0 ∙ size (p .before .before .before .before .loop .inv))
+    (λ c. let p = c .before .before in p .put-word .kept .0 ∙ size (p .before .before .before .loop .inv))
     returns)

@@ -3,7 +3,7 @@
 use mathlib.Core.Path.{_≡_, refl, sym, ap, ap₂, _∙_}
 use Prim.Native.Nat.{ℕ, _+_, _-_, _^_, _<_, _≤_}
 use lib.ListN.{length, getD, drop, length-drop}
-use lib.Seq.{take-all, drop-drop}
+use lib.Seq.{drop-drop}
 use denote.Ref.{now}
 use Rattle.refusal.specs.Refusal.{first}
 use Rattle.refusal.proofs.Tests.{first-refuses, first-passes}
@@ -11,7 +11,7 @@ use Rattle.code.specs.Code.{width, long}
 use Rattle.code.specs.Bits.{row-long}
 use Rattle.sheet.proofs.Forms.{bits-le, n-le}
 use Rattle.sheet_writer.specs.Calls.{asked-refusal, list-refusal}
-use Rattle.sheet_writer.proofs.Lists.{list-step, list-end}
+use Rattle.sheet_writer.proofs.Lists.{rest-is, list-step, list-end}
 use Rattle.sheet_writer.proofs.Writing.{room}
 use borrow.Author.Needs.{needs}
 use native.Mathlib.Omega.{arith}
@@ -47,9 +47,7 @@ asked : (c : tie.After-refused-question Inv-loop μ-loop) → let a = at c in le
     (drop (a .loop .row) (now (s .rows))) (drop (a .loop .word) (now (s .words)))
 asked c = let a = at c in let s = st a .args in
     c .refused-question .ensures
-    ∙ ap₂ (asked-refusal _ _ _ _)
-    (take-all (length (now (s .rows)) - a .loop .row) (drop (a .loop .row) (now (s .rows))) (omega (arith, length-drop (a .loop .row) (now (s .rows)))))
-    (take-all (length (now (s .words)) - a .loop .word) (drop (a .loop .word) (now (s .words))) (omega (arith, length-drop (a .loop .word) (now (s .words)))))
+    ∙ ap₂ (asked-refusal _ _ _ _) (rest-is (now (s .rows)) (a .loop .row)) (rest-is (now (s .words)) (a .loop .word))
 
 -- a question, then the rest
 turn : (c : tie.After-refused-question Inv-loop μ-loop) → let a = at c in let s = st a .args in
