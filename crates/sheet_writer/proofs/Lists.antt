@@ -15,7 +15,6 @@ use lib.IntN.{ℤ}
 use Rattle.refusal.specs.Refusal.{unless, first}
 use Rattle.code.specs.Code.{width, long, symbols-good}
 use Rattle.code.specs.Bits.{row-long}
-use Rattle.code.proofs.Accepted.{width-fine}
 use Rattle.metric.specs.Row.{row-good}
 use Rattle.sheet.specs.declared.Form.{Form}
 use Rattle.sheet.specs.Sheet.{sheet-bound, question-long}
@@ -67,7 +66,7 @@ module _ (f : Form) where
   pub needed-le : Fine f → (cs : List ℕ) → words-needed f cs ≤ 76 * length cs
   unfolding words-needed
   needed-le z [] = omega arith
-  needed-le z (c ∷ cs) = omega (arith, needed-le z cs, question-long-le f z (width c) (width-fine c))
+  needed-le z (c ∷ cs) = omega (arith, needed-le z cs, question-long-le f z c)
 
   module _ (cs ns : List ℕ) (i : ℕ) (rs : List ℤ) (ws : List ℕ) where
     pub list-step : i < length cs → i < length ns →

@@ -7,7 +7,6 @@ use lib.ListN.{length, getD, take, drop, length-drop, drop-of-length-le}
 use denote.Ref.{now}
 use Rattle.code.specs.Code.{width, long}
 use Rattle.code.specs.Bits.{row-long}
-use Rattle.code.proofs.Accepted.{width-fine}
 use Rattle.sheet.specs.Sheet.{Question, question, digits, worded, end-kind, question-words, question-good}
 use Rattle.sheet.proofs.Forms.{question-long-le}
 use Rattle.sheet.proofs.Longest.{question-length}
@@ -69,7 +68,7 @@ words-here c = rw question-length (omega (arith, c .question-words-of .ensures))
 
 few : (c : tie.After-question-words-of Inv-loop μ-loop) → c .question-words-of .result ≤ 75
 few c = let a = at (by (c .before .before .before .before)) in let k : ℕ = next-code (a .loop .inv) in
-    omega (arith, c .question-words-of .ensures, question-long-le (st a .args .f) (st a .pre .form .form) (width k) (width-fine k))
+    omega (arith, c .question-words-of .ensures, question-long-le (st a .args .f) (st a .pre .form .form) k)
 
 write-question-requires : tie.Need-write-question-requires Inv-loop μ-loop
 write-question-requires c κs = let b = by c in let a = at b in let e = same-question b in (

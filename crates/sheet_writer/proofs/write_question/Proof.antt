@@ -6,8 +6,6 @@ use Prim.Native.Nat.{ℕ, _+_, _*_, _-_, _<_, _≤_}
 use lib.ListN.{length, take, drop}
 use lib.Seq.{take-all}
 use denote.Ref.{now}
-use Rattle.code.specs.Code.{width}
-use Rattle.code.proofs.Accepted.{width-fine}
 use Rattle.sheet.specs.Sheet.{digits, question, question-words}
 use Rattle.sheet.proofs.Forms.{question-long-le}
 use Rattle.sheet.proofs.Longest.{question-length}
@@ -39,7 +37,7 @@ inside : (c : tie.In-loop Inv-loop μ-loop) → c .before .loop .j < length (wan
 inside c = omega (arith, c .loop-test .taken, count (c .before .before))
 
 add-n : tie.Need-add-n Inv-loop μ-loop
-add-n c = let s = st c in omega (arith, c .question-words-of .ensures, question-long-le (s .args .f) (s .pre .0 .form) (width (s .args .code)) (width-fine (s .args .code)))
+add-n c = let s = st c in omega (arith, c .question-words-of .ensures, question-long-le (s .args .f) (s .pre .0 .form) (s .args .code))
 
 put-word-requires : tie.Need-put-word-requires Inv-loop μ-loop
 put-word-requires c κs = let i = c .before .before in omega (arith, inside i, i .before .loop .inv .1, st (i .before .before) .pre .1 .1)

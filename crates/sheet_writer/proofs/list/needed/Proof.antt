@@ -6,8 +6,6 @@ use Prim.Native.Nat.{ℕ, _+_, _-_, _≤_}
 use lib.ListN.{length, getD, drop, length-drop}
 use lib.Seq.{drop-length}
 use denote.Ref.{now}
-use Rattle.code.specs.Code.{width}
-use Rattle.code.proofs.Accepted.{width-fine}
 use Rattle.sheet.proofs.Forms.{question-long-le}
 use Rattle.sheet_writer.specs.Within.{words-needed}
 use Rattle.sheet_writer.proofs.Lists.{needed-step, needed-le}
@@ -27,7 +25,7 @@ st a = a .before .before
 
 few : (c : tie.After-question-words-of Inv-loop μ-loop) → c .question-words-of .result ≤ 75
 few c = let a = c .before .before .before in let k : ℕ = getD (now (st a .args .codes)) (a .loop .i - 1) 0 in
-    omega (arith, c .question-words-of .ensures, question-long-le (st a .args .f) (st a .pre .0 .form) (width k) (width-fine k))
+    omega (arith, c .question-words-of .ensures, question-long-le (st a .args .f) (st a .pre .0 .form) k)
 
 loop-holds : tie.Need-loop-holds Inv-loop μ-loop
 unfolding words-needed
