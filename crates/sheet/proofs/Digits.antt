@@ -1,27 +1,12 @@
--- Digits and the number that has them, to any base: both round trips, and the digit at a place.
+-- Digits and the number that has them, to any base: both round trips.
 -- Assumes nothing.
 use mathlib.Core.Path.{_≡_, refl, sym, ap, ap₂, _∙_, subst}
 use mathlib.Core.List.{List, [], _∷_}
 use Prim.Native.Nat.{ℕ, zero, suc, _+_, _*_, _/_, _%_, _^_, _<_}
-use native.Mathlib.Nat.{
-  add-mul-mod-self-left,
-  add-mul-div-left,
-  mod-eq-of-lt,
-  div-eq-of-lt,
-  mod-lt,
-  mod-add-div,
-  mul-suc,
-  zero-add,
-  div-div-eq-div-mul,
-  div-one,
-  mul-le-mul-left,
-  pow-zero,
-  pow-succ',
-  not-suc-le-zero,
-}
+use native.Mathlib.Nat.{add-mul-mod-self-left, add-mul-div-left, mod-eq-of-lt, div-eq-of-lt, mod-lt, mod-add-div, mul-suc, zero-add, div-div-eq-div-mul, div-one, mul-le-mul-left, pow-zero, pow-succ'}
 use native.Mathlib.Omega.{arith}
 use lib.Dec.{lit<}
-use lib.ListN.{length, getD}
+use lib.ListN.{length}
 use Rattle.code.proofs.Words.{Below}
 use Rattle.sheet.specs.Sheet.{digits, packed}
 
@@ -29,14 +14,6 @@ pub digits-length : (b n v : ℕ) → length (digits b n v) ≡ n
 unfolding digits
 digits-length b zero v = refl
 digits-length b (suc n) v = ap suc (digits-length b n (v / b))
-
--- the digit at a place
-pub digits-at : (b n v i : ℕ) → i < n → getD (digits b n v) i 0 ≡ v / b ^ i % b
-unfolding digits
-digits-at b zero v i h = absurd (not-suc-le-zero h)
-digits-at b (suc n) v zero h = rw (pow-zero b, div-one v)
-digits-at b (suc n) v (suc i) h =
-    digits-at b n (v / b) i (omega arith) ∙ ap (λ (x : ℕ). x % b) (div-div-eq-div-mul v b (b ^ i) ∙ ap (λ (x : ℕ). v / x) (sym (pow-succ' b i)))
 
 -- a number whose digits are all there
 pub packed-digits : (b n v : ℕ) → v / b ^ n ≡ 0 → packed b (digits b n v) ≡ v

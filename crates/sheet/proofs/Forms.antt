@@ -15,9 +15,10 @@ use lib.IntN.{ℤ, pos, negsuc, natAbs}
 use Rattle.field.specs.Field.{width-good}
 use Rattle.field.proofs.Tests.{to-T, widths}
 use Rattle.code.specs.declared.Shape.{Shape}
-use Rattle.code.specs.Code.{long, symbols-good}
+use Rattle.code.specs.Code.{width, long, symbols-good}
 use Rattle.code.specs.Bits.{row-long}
 use Rattle.code.specs.Within.{Coded}
+use Rattle.code.proofs.Accepted.{width-fine}
 use Rattle.code.proofs.Words.{Below, below, widen}
 use Rattle.metric.specs.Row.{reliability-good, row-good}
 use Rattle.metric.proofs.Bounds.{row-first, row-rest}
@@ -170,6 +171,8 @@ bits-le {s} z = omega (arith, z .bits-is, row-long-le (s .m) (z .width-is))
 pub n-le : {s : Shape} → Coded s → s .n ≤ 15
 n-le {s} z = omega (arith, z .n-is, long-le (s .m) (z .width-is))
 
-pub question-long-le : (f : Form) → Fine f → (m : ℕ) → width-good m ≡ true → question-long f m ≤ 75
+pub question-long-le : (f : Form) → Fine f → (c : ℕ) → question-long f (width c) ≤ 75
 unfolding question-long row-words symbol-words
-question-long-le f z m w = omega (arith, count-le f z (row-long m), count-le symbols symbols-fine (long m), row-long-le m w, long-le m w)
+question-long-le f z c =
+    let m : ℕ = width c in
+    omega (arith, count-le f z (row-long m), count-le symbols symbols-fine (long m), row-long-le m (width-fine c), long-le m (width-fine c))

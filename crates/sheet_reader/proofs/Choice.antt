@@ -35,27 +35,14 @@ module _ (f : Form) (ws : List ℕ) (at : ℕ) where
   skip-more (suc k) h e = let z : suc k - 1 ≡ k = omega arith in rw (z, eq-eqb (kind (getD ws at 0)) head-kind e)
 
 -- past the last question the place stays
-stays : {bs : List ℕ} (i j at : ℕ) → Stands bs j at → (kind (getD (as-words bs) at 0) ≡ head-kind → ⊥) → Stands bs (j + i) at
-stays zero j at t n = rw add-zero t
-stays {bs} (suc i) j at t n = by (stays i (suc j) at) (cases t)
-  where
-    by : (Stands bs (suc j) at → (kind (getD (as-words bs) at 0) ≡ head-kind → ⊥) → Stands bs (suc j + i) at) → Done t ⊎ More t → Stands bs (j + suc i) at
-    by more (inl d) = subst (λ (x : ℕ). Stands bs x at) (suc-add j i ∙ sym (add-suc j i)) (more (d .stays) n)
-    by more (inr m) = absurd (n (m .head))
-
 skip-stands : {bs : List ℕ} (i j at : ℕ) → Stands bs j at → Stands bs (j + i) (skipped reliabilities i (as-words bs) at)
 unfolding skipped
 skip-stands zero j at t = rw add-zero t
-skip-stands {bs} (suc i) j at t = by (skip-stands i (suc j)) (cases t)
+skip-stands {bs} (suc i) j at t = by (λ b u. subst (λ (x : ℕ). Stands bs x (skipped reliabilities i (as-words bs) b)) (suc-add j i ∙ sym (add-suc j i)) (skip-stands i (suc j) b u)) (cases t)
   where
-    w : ℕ
-    w = getD (as-words bs) at 0
-
-    by : ((b : ℕ) → Stands bs (suc j) b → Stands bs (suc j + i) (skipped reliabilities i (as-words bs) b)) → Done t ⊎ More t → Stands bs (j + suc i) (skipped reliabilities (suc i) (as-words bs) at)
-    by more (inl d) = rw (ne-eqb (kind w) head-kind (d .no-head)) (stays (suc i) j at t (d .no-head))
-    by more (inr m) =
-        rw (eq-eqb (kind w) head-kind (m .head))
-        (subst (λ (x : ℕ). Stands bs x (skipped reliabilities i (as-words bs) (behind reliabilities (head-code w) at))) (suc-add j i ∙ sym (add-suc j i)) (more _ (m .next)))
+    by : ((b : ℕ) → Stands bs (suc j) b → Stands bs (j + suc i) (skipped reliabilities i (as-words bs) b)) → Done t ⊎ More t → Stands bs (j + suc i) (skipped reliabilities (suc i) (as-words bs) at)
+    by more (inl d) = rw (ne-eqb _ head-kind (d .no-head)) (rw (skip-end reliabilities (as-words bs) at i (d .no-head)) at (more at (d .stays)))
+    by more (inr m) = rw (eq-eqb _ head-kind (m .head)) (more _ (m .next))
 
 pub place-there : (bs : List ℕ) (i : ℕ) → sheet-refusal bs ≡ 0 → Stands bs i (skipped reliabilities i (as-words bs) 0)
 place-there bs i h = subst (λ (x : ℕ). Stands bs x (skipped reliabilities i (as-words bs) 0)) (zero-add i) (skip-stands i 0 0 (stands-first bs h))

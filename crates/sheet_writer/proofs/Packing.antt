@@ -3,7 +3,7 @@
 use mathlib.Core.Path.{_≡_, refl, sym, ap, ap₂, _∙_, subst}
 use mathlib.Core.Bool.{true, false}
 use mathlib.Core.List.{List, [], _∷_, _++_, append-assoc, append-nil}
-use Prim.Native.Nat.{ℕ, zero, suc, _+_, _*_, _-_, _/_, _%_, _^_, _<_, _≤_}
+use Prim.Native.Nat.{ℕ, suc, _+_, _*_, _-_, _/_, _%_, _^_, _<_, _≤_}
 use native.Mathlib.Nat.{lt-of-lt-of-le, pow-le-pow-right}
 use native.Mathlib.Numerals.{add-one}
 use native.Mathlib.Omega.{arith}
@@ -17,39 +17,39 @@ use mir.Syntax.{w16, w32}
 use mir.Val.{SFits, Fits, toZ, ofZ}
 use mir.Facts.{toZ-pos, toZ-ofZ}
 use Rattle.code.proofs.Words.{Below}
-use Rattle.metric.specs.Row.{bound, reliability-good, row-good}
+use Rattle.metric.specs.Row.{reliability-good}
 use Rattle.sheet.specs.declared.Form.{Form}
 use Rattle.sheet.specs.Sheet.{digits, packed, unsigned-of, row-items, as-bytes}
 use Rattle.sheet.proofs.Digits.{packed-lt}
-use Rattle.sheet.proofs.Items.{both, below-parts}
+use Rattle.sheet.proofs.Items.{below-parts}
 use Rattle.sheet.proofs.Forms.{unsigned-lt}
 use Rattle.sheet.proofs.Bytes.{bytes-length}
 use Rattle.sheet_writer.specs.Within.{begun}
 
 -- two's complement, as the code computes it
-module _ (b : ℕ) (wide : 128 ≤ b) (small : b < 2 ^ 15) (r : ℤ) (f : SFits w16 r) (g : reliability-good r ≡ true) where
+module _ (b : ℕ) (some : 0 < b) (small : b < 2 ^ 15) (r : ℤ) (f : SFits w16 r) (g : reliability-good (b / 2 - 1) r ≡ true) where
   plain : toZ w16 (ofZ w16 r) ≡ r
   plain = toZ-ofZ f
 
-  shifted : (r : ℤ) → reliability-good r ≡ true → ltZ r (pos 0) ≡ true → r +ℤ pos b ≡ pos (unsigned-of b r)
-  unfolding unsigned-of reliability-good bound
+  shifted : (r : ℤ) → reliability-good (b / 2 - 1) r ≡ true → ltZ r (pos 0) ≡ true → r +ℤ pos b ≡ pos (unsigned-of b r)
+  unfolding unsigned-of reliability-good
   shifted (pos n) g e = absurd (omega (arith, ltb-true n 0 e))
   shifted (negsuc n) g e =
-      let h : suc n ≤ 127 = leb-true (suc n) 127 g in
+      let h : suc n ≤ b / 2 - 1 = leb-true (suc n) (b / 2 - 1) g in
       rw (le-ltb b (suc n) (omega arith)) (ap pos (omega arith))
 
   below-sum : ltZ (toZ w16 (ofZ w16 r)) (pos 0) ≡ true → toZ w16 (ofZ w16 r) +ℤ toZ w16 b ≡ pos (unsigned-of b r)
   below-sum e = rw (plain, toZ-pos w16 {n = b} (omega arith)) (shifted r g (rw plain at e))
 
   pub below-fits : ltZ (toZ w16 (ofZ w16 r)) (pos 0) ≡ true → SFits w16 (toZ w16 (ofZ w16 r) +ℤ toZ w16 b)
-  below-fits e = rw (below-sum e) (record { sfits = omega (arith, unsigned-lt r wide g) })
+  below-fits e = rw (below-sum e) (record { sfits = omega (arith, unsigned-lt r some g) })
 
   below-is : ltZ (toZ w16 (ofZ w16 r)) (pos 0) ≡ true → toZ w16 (ofZ w16 (toZ w16 (ofZ w16 r) +ℤ toZ w16 b)) ≡ pos (unsigned-of b r)
   below-is e = toZ-ofZ (below-fits e) ∙ below-sum e
 
   pub below-cast : ltZ (toZ w16 (ofZ w16 r)) (pos 0) ≡ true →
       T (nonNeg (toZ w16 (ofZ w16 (toZ w16 (ofZ w16 r) +ℤ toZ w16 b)))) × Fits w32 (natAbs (toZ w16 (ofZ w16 (toZ w16 (ofZ w16 r) +ℤ toZ w16 b))))
-  below-cast e = rw (below-is e) (tt, record { fits = omega (arith, unsigned-lt r wide g) })
+  below-cast e = rw (below-is e) (tt, record { fits = omega (arith, unsigned-lt r some g) })
 
   pub below-value : ltZ (toZ w16 (ofZ w16 r)) (pos 0) ≡ true → natAbs (toZ w16 (ofZ w16 (toZ w16 (ofZ w16 r) +ℤ toZ w16 b))) ≡ unsigned-of b r
   below-value e = rw (below-is e)
@@ -63,55 +63,33 @@ module _ (b : ℕ) (wide : 128 ≤ b) (small : b < 2 ^ 15) (r : ℤ) (f : SFits 
   above-is e = plain ∙ as-is r (rw plain at e)
 
   pub above-cast : ltZ (toZ w16 (ofZ w16 r)) (pos 0) ≡ false → T (nonNeg (toZ w16 (ofZ w16 r))) × Fits w32 (natAbs (toZ w16 (ofZ w16 r)))
-  above-cast e = rw (above-is e) (tt, record { fits = omega (arith, unsigned-lt r wide g) })
+  above-cast e = rw (above-is e) (tt, record { fits = omega (arith, unsigned-lt r some g) })
 
   pub above-value : ltZ (toZ w16 (ofZ w16 r)) (pos 0) ≡ false → natAbs (toZ w16 (ofZ w16 r)) ≡ unsigned-of b r
   above-value e = rw (above-is e)
 
 -- one digit more
-pub packed-step : (b : ℕ) (ds : List ℕ) (i : ℕ) → i < length ds → packed b (drop i ds) ≡ getD ds i 0 + b * packed b (drop (i + 1) ds)
-unfolding packed
-packed-step b ds i h = rw (add-one, drop-cons ds i 0 h)
-
 pub packed-end : (b : ℕ) (ds : List ℕ) (i : ℕ) → length ds ≤ i → packed b (drop i ds) ≡ 0
 unfolding packed
 packed-end b ds i h = rw (drop-of-length-le ds h)
 
-pub packed-le : (b : ℕ) (ds : List ℕ) (i n : ℕ) → 0 < b → Below b ds → length ds ≤ n → packed b (drop i ds) < b ^ n
-packed-le b ds i n some g h =
-    lt-of-lt-of-le (packed-lt b (drop i ds) (below-parts b i ds g .1)) (pow-le-pow-right some (omega (arith, length-drop i ds)))
-
 pub digit-turn : (b k : ℕ) (ds : List ℕ) (i : ℕ) → 0 < i → i ≤ length (take k ds) →
     packed b (drop (i - 1) (take k ds)) ≡ getD ds (i - 1) 0 + b * packed b (drop i (take k ds))
+unfolding packed
 digit-turn b k ds i some h =
-    let e : i - 1 + 1 ≡ i = omega arith in
-    let l : i - 1 < k = omega (arith, length-take k ds) in
-    packed-step b (take k ds) (i - 1) (omega arith)
-    ∙ ap₂ (λ (x y : ℕ). x + b * packed b (drop y (take k ds))) (getD-take k ds (i - 1) 0 l) e
+    let e : suc (i - 1) ≡ i = omega arith in
+    ap (packed b) (drop-cons (take k ds) (i - 1) 0 (omega arith))
+    ∙ ap₂ (λ (x y : ℕ). x + b * packed b (drop y (take k ds))) (getD-take k ds (i - 1) 0 (omega (arith, length-take k ds))) e
 
 pub digit-bound : (b k : ℕ) (ds : List ℕ) (i : ℕ) → 0 < b → Below b ds → packed b (drop i (take k ds)) < b ^ k
-digit-bound b k ds i some g = packed-le b (take k ds) i k some (below-parts b k ds g .0) (omega (arith, length-take k ds))
+digit-bound b k ds i some g =
+    lt-of-lt-of-le (packed-lt b (drop i (take k ds)) (below-parts b i (take k ds) (below-parts b k ds g .0) .1))
+    (pow-le-pow-right some (omega (arith, length-drop i (take k ds), length-take k ds)))
 
 -- a row's items
 pub row-items-at : (f : Form) (rs : List ℤ) (i : ℕ) → getD (row-items f rs) i 0 ≡ unsigned-of (f .base) (getD rs i (pos 0))
 unfolding row-items unsigned-of
 row-items-at f rs i = List·getD-map (unsigned-of (f .base)) rs i (pos 0)
-
-pub row-good-at : (rs : List ℤ) (i : ℕ) → row-good rs ≡ true → i < length rs → reliability-good (getD rs i (pos 0)) ≡ true
-unfolding row-good
-row-good-at [] i g h = absurd (omega arith)
-row-good-at (r ∷ rs) zero g h = both (reliability-good r) (row-good rs) g .0
-row-good-at (r ∷ rs) (suc i) g h = row-good-at rs i (both (reliability-good r) (row-good rs) g .1) (omega arith)
-
--- items below a base, one by one
-pub below-at : (b : ℕ) (ds : List ℕ) → 0 < b → Below b ds → (i : ℕ) → getD ds i 0 < b
-below-at b [] some g i = some
-below-at b (d ∷ ds) some g zero = g .0
-below-at b (d ∷ ds) some g (suc i) = below-at b ds some (g .1) i
-
-pub all-below : (b : ℕ) (ds : List ℕ) → ((i : ℕ) → getD ds i 0 < b) → Below b ds
-all-below b [] h = tt
-all-below b (d ∷ ds) h = (h 0, all-below b ds (λ i. h (suc i)))
 
 -- four stores are a word
 pub four-stores : (l : List ℕ) (n w : ℕ) → n + 4 ≤ length l →

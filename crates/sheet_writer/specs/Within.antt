@@ -2,20 +2,21 @@
 use mathlib.Core.Path.{_≡_}
 use mathlib.Core.Bool.{true, cond}
 use mathlib.Core.List.{List, [], _∷_, _++_}
-use Prim.Native.Nat.{ℕ, _+_, _*_, _<_, _≤_}
+use Prim.Native.Nat.{ℕ, _+_, _*_, _^_, _≤_}
 use lib.Dec.{eqb}
-use lib.ListN.{length, getD, drop}
+use lib.ListN.{length, drop}
 use lib.IntN.{ℤ}
-use Rattle.code.specs.Code.{width}
+use Rattle.code.specs.Code.{width, symbols-good}
 use Rattle.metric.specs.Row.{row-good}
 use Rattle.sheet.specs.declared.Form.{Form}
-use Rattle.sheet.specs.Sheet.{reliabilities, symbols, row-items, question-long, as-bytes}
-use Rattle.sheet.specs.Within.{Fine}
+use Rattle.sheet.specs.Sheet.{symbols, sheet-bound, row-items, question-long, all-words, as-bytes}
+use Rattle.sheet.specs.Within.{Fine, Row-form}
+use Rattle.sheet_writer.specs.Calls.{listed, list-refusal}
 
 -- how many words the questions of these codes take
-unfoldable pub words-needed : (codes : List ℕ) → ℕ
-words-needed [] = 0
-words-needed (c ∷ cs) = 1 + question-long reliabilities (width c) + words-needed cs
+unfoldable pub words-needed : Form → (codes : List ℕ) → ℕ
+words-needed f [] = 0
+words-needed f (c ∷ cs) = 1 + question-long f (width c) + words-needed f cs
 
 -- an output whose first words were written
 unfoldable pub begun : (words output : List ℕ) → List ℕ
@@ -25,9 +26,18 @@ begun ws o = as-bytes ws ++ drop (4 * length ws) o
 unfoldable pub items-of : Form → (row : List ℤ) → (word : List ℕ) → List ℕ
 items-of f rs ws = cond (eqb (f .kind) (symbols .kind)) ws (row-items f rs)
 
--- the items have room in words of their form
+-- a row and a word whose items have room in words of a form
 pub record Packs (f : Form) (rs : List ℤ) (ws : List ℕ) : Type 0 where
   pub form : Fine f
-  pub row-wide : (f .kind ≡ symbols .kind → ⊥) → 128 ≤ f .base
-  pub row-fine : row-good rs ≡ true
-  pub below : (i : ℕ) → getD (items-of f rs ws) i 0 < f .base
+  pub row-fine : (f .kind ≡ symbols .kind → ⊥) → row-good (sheet-bound f) rs ≡ true
+  pub m : ℕ
+  pub wide : f .kind ≡ symbols .kind → 2 ^ m ≤ f .base
+  pub word-fine : symbols-good m ws ≡ true
+
+-- a list that is accepted, and an output of its sheet's length
+pub record List-within (f : Form) (cs ns : List ℕ) (rs : List ℤ) (ws : List ℕ) (output : ℕ) : Type 0 where
+  pub form : Row-form f
+  pub same : length cs ≡ length ns
+  pub few : length cs ≤ 200
+  pub taken : list-refusal f cs ns rs ws ≡ 0
+  pub room : output ≡ 4 * (length (all-words f (listed cs ns rs ws)) + 1)

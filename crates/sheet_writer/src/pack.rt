@@ -3,19 +3,17 @@ use sheet::Form;
 ghost use mathlib.Core.Path.{_≡_};
 ghost use mathlib.Core.Bool.{true};
 ghost use mathlib.Core.List.{_++_};
-ghost use Prim.Native.Nat.{_+_, _*_, _^_, _<_, _≤_};
+ghost use Prim.Native.Nat.{_+_, _*_, _-_, _/_, _^_, _<_, _≤_};
 ghost use lib.ListN.{length, getD, take, drop};
 ghost use Rattle.metric.specs.Row.{reliability-good};
-ghost use Rattle.sheet.specs.Sheet.{digits, packed, unsigned-of, question, question-words, question-good, worded, end-kind};
+ghost use Rattle.sheet.specs.Sheet.{digits, packed, unsigned-of, question, question-words, question-good, worded};
 ghost use Rattle.sheet_writer.specs.Within.{items-of, Packs};
 ghost use Rattle.sheet.specs.Within.{Row-form};
 
-const KINDS: u32 = 268435456;
-
 // Two's complement.
 fn unsigned(r: i16, base: u32) -> u32
-    requires { ⌜ reliability-good r ≡ true ⌝ }
-    requires { ⌜ 128 ≤ base ⌝ }
+    requires { ⌜ reliability-good (base / 2 - 1) r ≡ true ⌝ }
+    requires { ⌜ 0 < base ⌝ }
     requires { ⌜ base < 2 ^ 15 ⌝ }
     ensures { λ x. ⌜ x ≡ unsigned-of base r ⌝ }
 {
@@ -54,20 +52,20 @@ fn items_word(row: &[i16], word: &[u8], f: Form, n: usize, k: usize) -> u32
         i -= 1;
         v = v * base + item_of(row, word, f, from + i);
     }
-    kind * KINDS + v
+    kind * sheet::words::KINDS + v
 }
 
 // Word j of a question.
 pub fn question_word(f: Form, code: u32, number: u32, row: &[i16], word: &[u8], j: usize) -> u32
     requires { ⌜ Row-form f ⌝ }
-    requires { ⌜ question-good (question code number (now row) (now word)) ≡ true ⌝ }
+    requires { ⌜ question-good f (question code number (now row) (now word)) ≡ true ⌝ }
     requires { ⌜ j < length (question-words f (question code number (now row) (now word))) ⌝ }
     ensures { λ r. ⌜ r ≡ getD (question-words f (question code number (now (row .entry)) (now (word .entry)))) j 0 ⌝ }
 {
     if j == 0 {
-        return sheet::words::HEAD * KINDS + (code * sheet::words::NUMBERS + number);
+        return sheet::words::HEAD * sheet::words::KINDS + (code * sheet::words::NUMBERS + number);
     }
-    let k = sheet::words::row_words_of(f, code::width_of(code));
+    let k = sheet::words::count_of(f, row.len());
     if j <= k {
         return items_word(row, word, f, row.len(), j - 1);
     }
@@ -84,12 +82,4 @@ pub fn put_word(output: &mut [u8], i: usize, w: u32)
     output[at + 1] = (w / 256 % 256) as u8;
     output[at + 2] = (w / 256 / 256 % 256) as u8;
     output[at + 3] = (w / 256 / 256 / 256 % 256) as u8;
-}
-
-// The end word of so many questions.
-pub fn end_word(count: u32) -> u32
-    requires { ⌜ count ≤ 200 ⌝ }
-    ensures { λ r. ⌜ r ≡ worded end-kind count ⌝ }
-{
-    sheet::words::END * KINDS + count
 }

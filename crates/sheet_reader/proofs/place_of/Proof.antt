@@ -4,8 +4,6 @@ use mathlib.Core.Path.{_≡_, refl, sym, _∙_}
 use Prim.Native.Nat.{_≤_}
 use lib.ListN.{getD}
 use denote.Ref.{now}
-use Rattle.code.specs.Code.{width}
-use Rattle.code.proofs.Accepted.{width-fine}
 use Rattle.sheet.specs.Sheet.{as-words, kind, head-kind}
 use Rattle.sheet.proofs.Forms.{question-long-le}
 use Rattle.sheet_reader.specs.Within.{behind, skipped}
@@ -32,7 +30,7 @@ head c = let e = c .if1 .left in cc
 few : (c : tie.After-question-words-of Inv-loop μ-loop) → c .question-words-of .result ≤ 75
 few c =
     let k = c .before in let s = st (k .before .before .before .before .before) in
-    omega (arith, c .question-words-of .ensures, question-long-le (s .args .f) (s .pre) (width (k .head-code-of .result)) (width-fine (k .head-code-of .result)))
+    omega (arith, c .question-words-of .ensures, question-long-le (s .args .f) (s .pre) (k .head-code-of .result))
 
 returns : tie.Need-returns Inv-loop μ-loop
 unfolding head-kind

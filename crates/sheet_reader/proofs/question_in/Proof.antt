@@ -29,7 +29,7 @@ within a = inside (now (st a .args .sheet)) (st a .args .at) (found a .head)
 few : (c : tie.After-question-words-of) → c .question-words-of .result ≤ 75
 few c =
     let a = c .before .before .before .before .before .before .before .before in let k = a .answer .given .0 .0 in
-    omega (arith, c .question-words-of .ensures, question-long-le (st a .args .f) (st a .pre .form) (width k) (width-fine k))
+    omega (arith, c .question-words-of .ensures, question-long-le (st a .args .f) (st a .pre .form) k)
 
 read-parts-requires : tie.Need-read-parts-requires
 read-parts-requires c κs =

@@ -6,41 +6,41 @@ use Prim.Native.Nat.{ℕ, _+_, _*_, _-_, _<_, _≤_}
 use lib.ListN.{length, take, drop}
 use lib.Seq.{take-all}
 use denote.Ref.{now}
-use Rattle.sheet.specs.Sheet.{digits, reliabilities, question, question-words}
-use Rattle.sheet.proofs.Forms.{row-form}
-use Rattle.sheet.proofs.Judging.{question-long-le}
+use Rattle.sheet.specs.Sheet.{digits, question, question-words}
+use Rattle.sheet.proofs.Forms.{question-long-le}
+use Rattle.sheet.proofs.Longest.{question-length}
 use Rattle.sheet_writer.specs.Within.{begun}
 use Rattle.sheet_writer.proofs.Packing.{begun-none, begun-next}
-use Rattle.sheet_writer.proofs.Questions.{words-length}
 use borrow.Author.Needs.{needs}
 use native.Mathlib.Omega.{arith}
 use Rattle.sheet_writer.proofs.write_question.Statement.{statement}
 use Rattle.sheet_writer.proofs.write_question.Tie as tie
 
 abbrev Inv-loop : tie.InvT-loop
-Inv-loop code number row word output₀ n j₀ output j =
-    (j ≤ length (question-words reliabilities (question code number row word))) × (length output ≡ length output₀)
-    × (output ≡ begun (take j (question-words reliabilities (question code number row word))) output₀)
+Inv-loop f code number row word output₀ n j₀ output j =
+    (j ≤ length (question-words f (question code number row word))) × (length output ≡ length output₀)
+    × (output ≡ begun (take j (question-words f (question code number row word))) output₀)
 
 abbrev μ-loop : tie.MeasureT-loop
-μ-loop code number row word output₀ n j₀ output j = length (question-words reliabilities (question code number row word)) - j
+μ-loop f code number row word output₀ n j₀ output j = length (question-words f (question code number row word)) - j
 
-abbrev wanted : (c : tie.In-loop Inv-loop μ-loop) → List ℕ
-wanted c = let s = c .before .before .before .before .before .args in question-words reliabilities (question (s .code) (s .number) (now (s .row)) (now (s .word)))
+abbrev st : tie.After-question-words-of Inv-loop μ-loop → tie.Start Inv-loop μ-loop
+st c = c .before .before .before
 
-inside : (c : tie.In-loop Inv-loop μ-loop) → c .before .loop .j < length (wanted c)
-inside c =
-    let a = c .before in let s = a .before .before .before .before .args in
-    omega (arith, c .loop-test .taken, a .before .question-words-of .ensures, words-length reliabilities (s .code) (s .number) (now (s .row)) (now (s .word)))
+abbrev wanted : tie.After-question-words-of Inv-loop μ-loop → List ℕ
+wanted c = let s = st c .args in question-words (s .f) (question (s .code) (s .number) (now (s .row)) (now (s .word)))
+
+count : (c : tie.After-question-words-of Inv-loop μ-loop) → 1 + c .question-words-of .result ≡ length (wanted c)
+count c = let s = st c .args in omega (arith, c .question-words-of .ensures, question-length (s .f) (question (s .code) (s .number) (now (s .row)) (now (s .word))))
+
+inside : (c : tie.In-loop Inv-loop μ-loop) → c .before .loop .j < length (wanted (c .before .before))
+inside c = omega (arith, c .loop-test .taken, count (c .before .before))
 
 add-n : tie.Need-add-n Inv-loop μ-loop
-add-n c = let k : ℕ = c .before .before .before .args .code in omega (arith, c .question-words-of .ensures, question-long-le k)
+add-n c = let s = st c in omega (arith, c .question-words-of .ensures, question-long-le (s .args .f) (s .pre .0 .form) (s .args .code))
 
 put-word-requires : tie.Need-put-word-requires Inv-loop μ-loop
-put-word-requires c κs = let a = c .before .before .before in let s = a .before .before .before .before in omega (arith, inside (c .before .before), a .loop .inv .1, s .pre .1)
-
-add-j : tie.Need-add-j Inv-loop μ-loop
-add-j c = let i = c .before .before .before .before .before in omega (arith, inside i, i .before .before .before .before .before .pre .1)
+put-word-requires c κs = let i = c .before .before in omega (arith, inside i, i .before .loop .inv .1, st (i .before .before) .pre .1 .1)
 
 loop-again : tie.Need-loop-again Inv-loop μ-loop
 loop-again c = let p = c .before .before in let i = p .before .before .before in let a = i .before in (
@@ -48,14 +48,12 @@ loop-again c = let p = c .before .before in let i = p .before .before .before in
   p .put-word .kept .0 ∙ a .loop .inv .1,
   p .put-word .ensures
       ∙ ap₂ (λ (l : List ℕ) (w : ℕ). take (4 * a .loop .j) l ++ (digits 256 4 w ++ drop (4 * a .loop .j + 4) l)) (a .loop .inv .2) (p .before .before .question-word .ensures)
-      ∙ begun-next (wanted i) (now (i .before .before .before .before .before .args .output)) (a .loop .j) (inside i),
+      ∙ begun-next (wanted (a .before)) (now (st (a .before) .args .output)) (a .loop .j) (inside i),
 )
 
 returns : tie.Need-returns Inv-loop μ-loop
-returns c = let a = c .before in let s = a .before .before .before .before .args in
-    let ws : List ℕ = question-words reliabilities (question (s .code) (s .number) (now (s .row)) (now (s .word))) in
-    a .loop .inv .2 ∙ ap (λ (l : List ℕ). begun l (now (s .output)))
-    (take-all (a .loop .j) ws (omega (arith, c .loop-test .left, a .before .question-words-of .ensures, words-length reliabilities (s .code) (s .number) (now (s .row)) (now (s .word)))))
+returns c = let a = c .before in
+    a .loop .inv .2 ∙ ap (λ (l : List ℕ). begun l (now (st (a .before) .args .output))) (take-all (a .loop .j) (wanted (a .before)) (omega (arith, c .loop-test .left, count (a .before))))
 
 pub write-question-spec : {M : Type 1} → statement M
 write-question-spec =
@@ -65,11 +63,11 @@ write-question-spec =
     μ-loop
     (λ c κs. search needs)
     add-n
-    (λ c. (omega arith, refl, sym (begun-none (now (c .before .before .before .args .output)))))
-    (λ c κs. let s = c .before .before .before .before .before in (row-form, (s .pre .0, inside c)))
+    (λ c. (omega arith, refl, sym (begun-none (now (st c .args .output)))))
+    (λ c κs. let s = st (c .before .before) in (s .pre .0, (s .pre .1 .0, inside c)))
     put-word-requires
-    add-j
-    (λ c. let i = c .before .before .before .before .before in omega (arith, inside i))
+    (λ c. let i = c .before .before .before .before .before in omega (arith, inside i, st (i .before .before) .pre .1 .1))
+    (λ c. omega (arith, inside (c .before .before .before .before .before)))
     loop-again
     (λ c. c .before .loop .inv .1)
     returns)

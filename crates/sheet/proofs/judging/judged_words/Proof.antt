@@ -7,7 +7,6 @@ use lib.Dec.{lit≤}
 use lib.ListN.{getD, drop, drop-of-length-le}
 use denote.Ref.{now}
 use Rattle.code.specs.Code.{width}
-use Rattle.code.proofs.Accepted.{width-fine}
 use Rattle.sheet.specs.Sheet.{as-words, kind, head-code, end-kind, most, question-long}
 use Rattle.sheet.specs.Within.{judged-from}
 use Rattle.sheet.proofs.Forms.{question-long-le}
@@ -50,7 +49,7 @@ more c =
 few : (c : tie.After-question-words-of Inv-loop μ-loop) → c .question-words-of .result ≤ 75
 few c =
     let s = st (c .before .before .before .before .before .before .before .before) in
-    omega (arith, c .question-words-of .ensures, question-long-le (s .args .f) (s .pre .form) (width (c .before .head-code-of .result)) (width-fine (c .before .head-code-of .result)))
+    omega (arith, c .question-words-of .ensures, question-long-le (s .args .f) (s .pre .form) (c .before .head-code-of .result))
 
 returns : tie.Need-returns Inv-loop μ-loop
 unfolding end-kind most

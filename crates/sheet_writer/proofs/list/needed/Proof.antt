@@ -1,12 +1,12 @@
 -- `sheet_writer::needed` meets its contract.
 -- Assumes nothing.
-use mathlib.Core.Path.{_≡_, sym, ap, _∙_}
+use mathlib.Core.Path.{_≡_, sym, _∙_}
 use mathlib.Core.List.{List}
 use Prim.Native.Nat.{ℕ, _+_, _-_, _≤_}
 use lib.ListN.{length, getD, drop, length-drop}
 use lib.Seq.{drop-length}
 use denote.Ref.{now}
-use Rattle.sheet.proofs.Judging.{question-long-le}
+use Rattle.sheet.proofs.Forms.{question-long-le}
 use Rattle.sheet_writer.specs.Within.{words-needed}
 use Rattle.sheet_writer.proofs.Lists.{needed-step, needed-le}
 use borrow.Author.Needs.{needs}
@@ -15,33 +15,35 @@ use Rattle.sheet_writer.proofs.list.needed.Statement.{statement}
 use Rattle.sheet_writer.proofs.list.needed.Tie as tie
 
 abbrev Inv-loop : tie.InvT-loop
-Inv-loop codes total₀ i₀ total i = (i ≤ length codes) × (total ≡ words-needed (drop i codes))
+Inv-loop f codes total₀ i₀ total i = (i ≤ length codes) × (total ≡ words-needed f (drop i codes))
 
 abbrev μ-loop : tie.MeasureT-loop
-μ-loop codes total₀ i₀ total i = i
+μ-loop f codes total₀ i₀ total i = i
 
-few : (c : tie.After-question-words-of Inv-loop μ-loop) → c .question-words-of .result ≤ 23
-few c =
-    let a = c .before .before .before in
-    omega (arith, c .question-words-of .ensures, question-long-le (getD (now (a .before .before .args .codes)) (a .loop .i - 1) 0))
+abbrev st : tie.At-loop Inv-loop μ-loop → tie.Start Inv-loop μ-loop
+st a = a .before .before
+
+few : (c : tie.After-question-words-of Inv-loop μ-loop) → c .question-words-of .result ≤ 75
+few c = let a = c .before .before .before in let k : ℕ = getD (now (st a .args .codes)) (a .loop .i - 1) 0 in
+    omega (arith, c .question-words-of .ensures, question-long-le (st a .args .f) (st a .pre .0 .form) k)
 
 loop-holds : tie.Need-loop-holds Inv-loop μ-loop
 unfolding words-needed
 loop-holds c = (search needs, rw (drop-length (now (c .before .args .codes))))
 
 add-total-2 : tie.Need-add-total-2 Inv-loop μ-loop
-add-total-2 c = let a = c .before .before .before in let cs : List ℕ = now (a .before .before .args .codes) in
-    omega (arith, few c, a .loop .inv .1, needed-le (drop (a .loop .i) cs), length-drop (a .loop .i) cs, a .before .before .pre)
+add-total-2 c = let a = c .before .before .before in let cs : List ℕ = now (st a .args .codes) in
+    omega (arith, few c, a .loop .inv .1, needed-le (st a .args .f) (st a .pre .0 .form) (drop (a .loop .i) cs), length-drop (a .loop .i) cs, st a .pre .1)
 
 loop-again : tie.Need-loop-again Inv-loop μ-loop
-loop-again c = let a = c .before .before .before in let cs : List ℕ = now (a .before .before .args .codes) in
+loop-again c = let a = c .before .before .before in
     let e : a .loop .i - 1 + 1 ≡ a .loop .i = omega arith in (
       omega (arith, a .loop .inv .0),
-      sym (needed-step cs (a .loop .i - 1) (omega (arith, a .loop .inv .0)) ∙ rw e (omega (arith, c .question-words-of .ensures, a .loop .inv .1))),
+      sym (needed-step (st a .args .f) (now (st a .args .codes)) (a .loop .i - 1) (omega (arith, a .loop .inv .0)) ∙ rw e (omega (arith, c .question-words-of .ensures, a .loop .inv .1))),
     )
 
 returns : tie.Need-returns Inv-loop μ-loop
-returns c = let a = c .before in let z : a .loop .i ≡ 0 = omega arith in a .loop .inv .1 ∙ ap (λ (x : ℕ). words-needed (drop x (now (a .before .before .args .codes)))) z
+returns c = let a = c .before in let z : a .loop .i ≡ 0 = omega arith in rw z at (a .loop .inv .1)
 
 pub needed-spec : {M : Type 1} → statement M
 needed-spec =

@@ -1,82 +1,76 @@
 -- `sheet_writer::question_word` meets its contract.
 -- Assumes nothing.
-use mathlib.Core.Path.{_≡_, refl, sym, ap, _∙_, subst}
-use mathlib.Core.List.{List}
-use Prim.Native.Nat.{ℕ, _*_, _-_, _<_, _≤_}
+use mathlib.Core.Path.{_≡_, refl, sym, ap, _∙_}
+use Prim.Native.Nat.{ℕ, _-_, _<_}
+use native.Mathlib.Nat.{pos-of-ne-zero}
+use native.Mathlib.Omega.{arith}
+use lib.Pow.{pow-mono}
 use lib.ListN.{length}
 use denote.Ref.{now}
-use Rattle.field.specs.Field.{width-good}
 use Rattle.code.specs.Code.{width}
-use Rattle.sheet.specs.Sheet.{question, symbols, row-words}
-use Rattle.sheet.proofs.Forms.{row-items-length}
-use Rattle.sheet.proofs.Judging.{width-fine}
+use Rattle.code.proofs.Accepted.{width-fine}
+use Rattle.sheet.specs.Sheet.{question, symbols, count, row-words, symbol-words, question-long}
+use Rattle.sheet.proofs.Forms.{symbols-fine, row-items-length, row-long-le, count-place}
+use Rattle.sheet.proofs.Longest.{question-length}
 use Rattle.sheet.proofs.Trips.{Good, good-parts, code-lt, width-le}
-use Rattle.sheet_writer.proofs.Questions.{items-word, words-length, word-head, word-row, word-symbol, row-place, symbol-place, items-row, items-symbols, packs-row, packs-symbols}
-use native.Mathlib.Omega.{arith}
+use Rattle.sheet_writer.proofs.Questions.{items-word, word-head, word-row, word-symbol, items-row, items-symbols}
 use borrow.Author.Needs.{needs}
 use Rattle.sheet_writer.proofs.pack.question_word.Statement.{statement}
 use Rattle.sheet_writer.proofs.pack.question_word.Tie as tie
 
-good : (s : tie.Start) → Good (question (s .args .code) (s .args .number) (now (s .args .row)) (now (s .args .word)))
-good s = good-parts (question (s .args .code) (s .args .number) (now (s .args .row)) (now (s .args .word))) (s .pre .1 .0)
+good : (s : tie.Start) → Good (s .args .f) (question (s .args .code) (s .args .number) (now (s .args .row)) (now (s .args .word)))
+good s = good-parts (s .args .f) (question (s .args .code) (s .args .number) (now (s .args .row)) (now (s .args .word))) (s .pre .1 .0)
 
-size : (c : tie.After-row-words-of) → let s = c .before .before .before .before .args in c .row-words-of .result ≡ row-words (s .f) (width (s .code))
-size c = c .row-words-of .ensures ∙ ap (row-words (c .before .before .before .before .args .f)) (c .before .width-of .ensures)
+abbrev st : tie.After-count-of → tie.Start
+st k = k .before .before .before
 
-mul-result-2 : tie.Need-mul-result-2
-mul-result-2 c = let s = c .before .before in omega (arith, code-lt (s .args .code) (good s .known))
+size : (k : tie.After-count-of) → k .count-of .result ≡ row-words (st k .args .f) (width (st k .args .code))
+unfolding row-words
+size k = k .count-of .ensures ∙ ap (count (st k .args .f)) (good (st k) .row-length)
 
-add-result : tie.Need-add-result
-add-result c = let s = c .before .before in omega (arith, code-lt (s .args .code) (good s .known), good s .small)
-
-add-result-2 : tie.Need-add-result-2
-add-result-2 c = let s = c .before .before in omega (arith, code-lt (s .args .code) (good s .known), good s .small)
-
-row-words-of-requires : tie.Need-row-words-of-requires
-row-words-of-requires c κs = let s = c .before .before .before in (s .pre .0 .form, ap width-good (c .width-of .ensures) ∙ width-fine (s .args .code))
+some : (k : tie.After-count-of) → 0 < st k .args .j
+some k = pos-of-ne-zero (k .before .if1 .left)
 
 items-word-requires : tie.Need-items-word-requires
-items-word-requires c κs = let k = c .before in let e = k .before .before in let s = e .before .before in let a = s .args in let f = a .f in (
-  packs-row f (now (a .row)) (now (a .word)) (s .pre .0) (good s .row-fine),
+items-word-requires c κs = let k = c .before in let s = st k in let a = s .args in let z = s .pre .0 in let g = good s in (
+  record { form = z .form; row-fine = λ e. g .row-fine; m = width (a .code); wide = λ e. absurd (z .other e); word-fine = g .word-fine },
   (
-    ap length (items-row f (now (a .row)) (now (a .word)) (s .pre .0 .other)) ∙ row-items-length f (now (a .row)),
-    row-place f (s .pre .0 .form) (width (a .code)) (a .j) (length (now (a .row))) (good s .row-length) (e .if1 .left) (subst (λ (x : ℕ). a .j ≤ x) (size k) (c .if2 .taken)),
+    ap length (items-row (a .f) (now (a .row)) (now (a .word)) (z .other)) ∙ row-items-length (a .f) (now (a .row)),
+    omega (arith, count-place (a .f) (z .form) (length (now (a .row))) (a .j - 1) (omega (arith, some k, k .count-of .ensures, c .if2 .taken))),
   ),
 )
 
 returns-2 : tie.Need-returns-2
-returns-2 c = let k = c .before .before in let e = k .before .before in let s = e .before .before in let a = s .args in
-    c .items-word .ensures ∙ ap (λ (l : List ℕ). items-word (a .f) l (a .j - 1)) (items-row (a .f) (now (a .row)) (now (a .word)) (s .pre .0 .other))
-    ∙ sym (word-row _ _ _ _ _ _ (e .if1 .left) (subst (λ (x : ℕ). a .j ≤ x) (size k) (c .before .if2 .taken)))
+returns-2 c = let k = c .before .before in let s = st k in let a = s .args in
+    c .items-word .ensures ∙ rw (items-row (a .f) (now (a .row)) (now (a .word)) (s .pre .0 .other)) (sym (word-row _ _ _ _ _ (a .j) (some k) (omega (arith, size k, c .before .if2 .taken))))
+
+-- the symbols come after the row
+place : (c : tie.Else2) → let k = c .before in st k .args .j - 1 - k .count-of .result < count symbols (length (now (st k .args .word)))
+unfolding question-long symbol-words
+place c = let k = c .before in let s = st k in
+    omega (arith, size k, c .if2 .left, s .pre .1 .1, question-length (s .args .f) (question (s .args .code) (s .args .number) (now (s .args .row)) (now (s .args .word))), ap (count symbols) (good s .word-length))
 
 items-word-requires-2 : tie.Need-items-word-requires-2
-items-word-requires-2 c κs = let k = c .before in let s = k .before .before .before .before in let a = s .args in (
-  packs-symbols (width (a .code)) (now (a .row)) (now (a .word)) (width-le (a .code) (good s .known)) (good s .row-fine) (good s .word-fine),
-  (
-    ap length (items-symbols symbols (now (a .row)) (now (a .word)) refl),
-    subst (λ (x : ℕ). 6 * (a .j - 1 - x) ≤ length (now (a .word))) (sym (size k))
-        (symbol-place (a .f) (width (a .code)) (a .j) (length (now (a .word))) (good s .word-length) (subst (λ (x : ℕ). x < a .j) (size k) (c .if2 .left))
-        (subst (λ (x : ℕ). a .j < x) (words-length _ _ _ _ _) (s .pre .1 .1))),
-  ),
+items-word-requires-2 c κs = let k = c .before in let s = st k in let a = s .args in let g = good s in (
+  record { form = symbols-fine; row-fine = λ n. absurd (n refl); m = width (a .code); wide = λ e. pow-mono {j = 4} (width-le (a .code) (g .known)); word-fine = g .word-fine },
+  (ap length (items-symbols symbols (now (a .row)) (now (a .word)) refl), omega (arith, count-place symbols symbols-fine (length (now (a .word))) _ (place c))),
 )
 
 returns-3 : tie.Need-returns-3
-returns-3 c = let k = c .before .before in let s = k .before .before .before .before in let a = s .args in
-    c .items-word2 .ensures ∙ ap (λ (l : List ℕ). items-word symbols l (a .j - 1 - k .row-words-of .result)) (items-symbols symbols (now (a .row)) (now (a .word)) refl)
-    ∙ ap (λ (x : ℕ). items-word symbols (now (a .word)) (a .j - 1 - x)) (size k)
-    ∙ sym (word-symbol _ _ _ _ _ _ (subst (λ (x : ℕ). x < a .j) (size k) (c .before .if2 .left)) (s .pre .1 .1))
+returns-3 c = let k = c .before .before in let s = st k in let a = s .args in
+    c .items-word2 .ensures ∙ rw (items-symbols symbols (now (a .row)) (now (a .word)) refl) (ap (λ (x : ℕ). items-word symbols (now (a .word)) (a .j - 1 - x)) (size k)
+    ∙ sym (word-symbol _ _ _ _ _ (a .j) (omega (arith, size k, c .before .if2 .left)) (s .pre .1 .1)))
 
 pub question-word-spec : {M : Type 1} → statement M
 question-word-spec =
     tie.close
     (tie.spec
     (λ c. search needs)
-    mul-result-2
-    add-result
-    add-result-2
+    (λ c. let s = c .before .before in omega (arith, code-lt (s .args .code) (good s .known)))
+    (λ c. let s = c .before .before in omega (arith, code-lt (s .args .code) (good s .known), good s .small))
+    (λ c. let s = c .before .before in omega (arith, code-lt (s .args .code) (good s .known), good s .small))
     (λ c. sym (word-head _ _ _ _ _ _ (c .if1 .taken)))
-    (λ c κs. search needs)
-    row-words-of-requires
+    (λ c κs. let s = c .before .before in let k = s .args .code in (s .pre .0 .form, omega (arith, good s .row-length, row-long-le (width k) (width-fine k))))
     (λ c. search needs)
     items-word-requires
     returns-2

@@ -5,20 +5,13 @@ use borrow.Author.Needs.{needs}
 use Rattle.sheet_writer.proofs.pack.unsigned.Statement.{statement}
 use Rattle.sheet_writer.proofs.pack.unsigned.Tie as tie
 
-add-result : tie.Need-add-result
-add-result c = let s = c .before in below-fits (s .args .base) (s .pre .1 .0) (s .pre .1 .1) (s .args .r) (s .fits .r) (s .pre .0) (c .if1 .taken)
-
-cast-result-2 : tie.Need-cast-result-2
-cast-result-2 c = let s = c .before in below-cast (s .args .base) (s .pre .1 .0) (s .pre .1 .1) (s .args .r) (s .fits .r) (s .pre .0) (c .if1 .taken)
-
-returns : tie.Need-returns
-returns c = let s = c .before in below-value (s .args .base) (s .pre .1 .0) (s .pre .1 .1) (s .args .r) (s .fits .r) (s .pre .0) (c .if1 .taken)
-
-cast-result-3 : tie.Need-cast-result-3
-cast-result-3 c = let s = c .before in above-cast (s .args .base) (s .pre .1 .0) (s .pre .1 .1) (s .args .r) (s .fits .r) (s .pre .0) (c .if1 .left)
-
-returns-2 : tie.Need-returns-2
-returns-2 c = let s = c .before in above-value (s .args .base) (s .pre .1 .0) (s .pre .1 .1) (s .args .r) (s .fits .r) (s .pre .0) (c .if1 .left)
-
 pub unsigned-spec : {M : Type 1} → statement M
-unsigned-spec = tie.close (tie.spec (λ c. search needs) add-result cast-result-2 returns cast-result-3 returns-2)
+unsigned-spec =
+    tie.close
+    (tie.spec
+    (λ c. search needs)
+    (λ c. let s = c .before in below-fits (s .args .base) (s .pre .1 .0) (s .pre .1 .1) (s .args .r) (s .fits .r) (s .pre .0) (c .if1 .taken))
+    (λ c. let s = c .before in below-cast (s .args .base) (s .pre .1 .0) (s .pre .1 .1) (s .args .r) (s .fits .r) (s .pre .0) (c .if1 .taken))
+    (λ c. let s = c .before in below-value (s .args .base) (s .pre .1 .0) (s .pre .1 .1) (s .args .r) (s .fits .r) (s .pre .0) (c .if1 .taken))
+    (λ c. let s = c .before in above-cast (s .args .base) (s .pre .1 .0) (s .pre .1 .1) (s .args .r) (s .fits .r) (s .pre .0) (c .if1 .left))
+    (λ c. let s = c .before in above-value (s .args .base) (s .pre .1 .0) (s .pre .1 .1) (s .args .r) (s .fits .r) (s .pre .0) (c .if1 .left)))
