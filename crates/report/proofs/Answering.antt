@@ -1,104 +1,80 @@
 -- A question that a sheet can hold is refused by neither decoder nor marker, so what they say makes its line.
 -- Assumes nothing.
 use mathlib.Core.Path.{_≡_, refl, _∙_}
-use mathlib.Core.Bool.{true}
 use mathlib.Core.List.{List}
-use Prim.Native.Nat.{ℕ, zero, suc, _+_, _^_, _≤_, _<_}
+use Prim.Native.Nat.{ℕ, _+_, _≤_}
 use native.Mathlib.Omega.{arith}
 use borrow.Author.Tests.{eq-eqb}
 use lib.ListN.{length}
 use lib.IntN.{ℤ}
-use Rattle.code.specs.Code.{width, roots, long, is-codeword}
-use Rattle.code.specs.Bits.{row-long}
-use Rattle.refusal.specs.Refusal.{unless, Outcome}
-use Rattle.metric.specs.Metric.{Greatest, Marked}
+use Rattle.refusal.specs.Refusal.{unless, first}
+use Rattle.refusal.proofs.Outcomes.{outcome-taken}
+use Rattle.code.specs.declared.Chosen.{Chosen}
+use Rattle.code.specs.Code.{width, roots, is-codeword}
+use Rattle.code.specs.Within.{Chosen-says}
+use Rattle.code.proofs.Accepted.{number-free}
+use Rattle.code.proofs.Promise.{of-shape, of-number}
+use Rattle.metric.specs.Metric.{Greatest, Decoded, Marked}
 use Rattle.metric.proofs.Promise.{decoded-greatest}
 use Rattle.decoder.specs.declared.Decoding.{Decoding}
-use Rattle.marker.specs.declared.Mark.{Mark}
 use Rattle.decoder.specs.Calls.{decode-refusal, Decode-says}
-use Rattle.marker.specs.Calls.{mark-refusal, Mark-says}
-use Rattle.sheet.specs.Sheet.{question, question-good}
-use Rattle.sheet.proofs.Trips.{good-parts}
+use Rattle.marker.specs.declared.Mark.{Mark}
+use Rattle.marker.specs.Calls.{mark-refusal}
+use Rattle.marker.specs.Within.{Verdict}
+use Rattle.sheet.specs.Sheet.{Question, reliabilities}
+use Rattle.sheet.proofs.Trips.{Good, good-parts}
 use Rattle.text.specs.Text.{question-line}
 use Rattle.text.specs.Within.{Written}
+use Rattle.report.specs.Listing.{Line}
 use Rattle.report.specs.Calls.{line-most}
-use Rattle.report.specs.Within.{Answered, Put-line}
-use Rattle.report.proofs.Bounds.{Fine, line-fits}
+use Rattle.report.specs.Within.{Holds, Put-line}
+use Rattle.report.proofs.Bounds.{line-fits}
 
-done : (refusal r : ℕ) (D K : Type 0) → refusal ≡ 0 → Outcome refusal r D K → D
-unfolding Outcome
-done zero r D K e o = o .1
-done (suc n) r D K e o = absurd (omega arith)
+-- a question that a sheet can hold was decoded, whichever best word was found
+pub record Decoded-question (q : Question) (best : ℤ) (soft : List ℤ) : Type 0 where
+  pub good : Good reliabilities q
+  pub word : List ℕ
+  pub decoded : Decoded (width (q .code)) (is-codeword (width (q .code)) (roots (q .code))) (q .row) word best soft
 
--- the decoder takes the row of a question
 pub answered :
-    (c n : ℕ) (rs : List ℤ) (ws : List ℕ) (d : Decoding) (b us : List ℕ) (s so : List ℤ) → question-good (question c n rs ws) ≡ true →
-    length b ≡ length ws → length s ≡ length rs → Decode-says c rs d b us s so → Answered c rs (d .metric) so
-unfolding Decode-says decode-refusal unless
-answered c n rs ws d b us s so q lb ls x =
-    let g = good-parts (question c n rs ws) q in
-    let m = width c in
-    let er = eq-eqb (length rs) (row-long m) (g .row-length) in
-    let eb = eq-eqb (length b) (long m) (lb ∙ g .word-length) in
-    let es = eq-eqb (length s) (row-long m) (ls ∙ g .row-length) in
-    record { word = us; decoded = done _ (d .number) _ _ (rw (g .known, er, eb, es, g .row-fine)) x }
-
--- what decoder and marker say of a question
-pub record Said (c n : ℕ) (rs : List ℤ) (ws : List ℕ) (best : ℤ) (so : List ℤ) (verdict : ℕ) (shortfall : ℤ) : Type 0 where
-  pub few : n < 2 ^ 24
-  pub fine : Fine c rs
-  pub answer : Answered c rs best so
-  pub marked : Marked verdict shortfall (width c) (is-codeword (width c) (roots c)) rs ws
-
--- the marker takes its word, and the decoder has found the best metric
-pub taken : (c n : ℕ) (rs : List ℤ) (ws : List ℕ) → question-good (question c n rs ws) ≡ true → mark-refusal c rs ws ≡ 0
-unfolding mark-refusal unless
-taken c n rs ws q =
-    let g = good-parts (question c n rs ws) q in
-    let er = eq-eqb (length rs) (row-long (width c)) (g .row-length) in
-    let ew = eq-eqb (length ws) (long (width c)) (g .word-length) in
-    rw (g .known, er, ew, g .row-fine, g .word-fine)
-
-pub found : (c : ℕ) (rs : List ℤ) (g : ℤ) (so : List ℤ) → Answered c rs g so → Greatest (width c) (is-codeword (width c) (roots c)) rs g
-found c rs g so x = decoded-greatest (width c) (is-codeword (width c) (roots c)) rs (x .word) g so (x .decoded)
-
-pub said :
-    (c n : ℕ) (rs : List ℤ) (ws : List ℕ) (k : Mark) (g : ℤ) (so : List ℤ) → question-good (question c n rs ws) ≡ true → Answered c rs g so →
-    Mark-says c rs ws k → Said c n rs ws g so (k .verdict) (k .shortfall)
-unfolding Mark-says
-said c n rs ws k best so q x y =
-    let g = good-parts (question c n rs ws) q in
+    {q : Question} {g : ℤ} (d : Decoding) (b us : List ℕ) (s so : List ℤ) → Holds q (length b) (length s) → Decode-says (q .code) (q .row) d b us s so →
+    g ≡ d .metric → Decoded-question q g so
+unfolding Decode-says decode-refusal unless first
+answered {q} d b us s so h x e =
+    let g = good-parts reliabilities q (h .good) in
     record {
-      few = g .small;
-      fine = record { known = g .known; whole = g .row-length; good = g .row-fine };
-      answer = x;
-      marked = done _ (k .number) _ _ (taken c n rs ws q) y;
+      good = g;
+      word = us;
+      decoded =
+          rw e (outcome-taken _ (d .number) _ _ (rw (number-free (q .code) (g .known), eq-eqb _ _ (g .row-length), eq-eqb _ _ (h .best-is), eq-eqb _ _ (h .soft-is), g .row-fine)) x .1);
     }
 
-pub said-fits : {c n : ℕ} {rs : List ℤ} {ws : List ℕ} {g : ℤ} {so : List ℤ} {v : ℕ} {d : ℤ} → Said c n rs ws g so v d →
-    length (question-line n c g v d so) ≤ line-most
-said-fits {c} {n} {rs} {ws} {g} {so} {v} {d} s =
-    line-fits n c rs (s .answer .word) ws g so v d (s .few) (s .fine) (s .answer .decoded) (s .marked)
+module _ {q : Question} {g : ℤ} {so : List ℤ} (x : Decoded-question q g so) where
+  module _ {a : Chosen} (c : Chosen-says (q .code) a) where
+    -- the marker takes its word, and the decoder has found the best metric
+    pub taken : (mark-refusal (a .shape .m) (q .row) (q .word) ≡ 0) × Greatest (a .shape .m) (is-codeword (a .shape .m) (a .shape .r)) (q .row) g
+    unfolding mark-refusal unless
+    taken =
+        let f = x .good in
+        of-shape (λ m r. (mark-refusal m (q .row) (q .word) ≡ 0) × Greatest m (is-codeword m r) (q .row) g) (c .m-is) (c .r-is)
+        (rw (eq-eqb _ _ (f .row-length), eq-eqb _ _ (f .word-length), f .row-fine, f .word-fine), decoded-greatest _ _ _ (x .word) _ so (x .decoded))
 
-pub put-line : {c n at next : ℕ} {rs : List ℤ} {ws o p : List ℕ} {g : ℤ} {so : List ℤ} {v : ℕ} {d : ℤ} → Said c n rs ws g so v d →
-    Written at (question-line n c g v d so) o p next → Put-line (question c n rs ws) at o p next
-put-line {c} {n} {at} {next} {rs} {ws} {o} {p} {g} {so} {v} {d} s w =
-    record {
-      text = question-line n c g v d so;
-      line =
-          record {
-            word = s .answer .word;
-            best = g;
-            soft = so;
-            decoded = s .answer .decoded;
-            verdict = v;
-            shortfall = d;
-            marked = s .marked;
-            text-is = refl;
-          };
-      written = w;
-      short = said-fits s;
-    }
+    pub line : (k : Mark) {d : ℤ} → Verdict (a .shape .m) (a .shape .r) (q .row) (q .word) k → d ≡ k .shortfall →
+        Line q (question-line (q .number) (q .code) g (k .verdict) d so)
+    line k {d} v e =
+        record {
+          word = x .word;
+          best = g;
+          soft = so;
+          decoded = x .decoded;
+          verdict = k .verdict;
+          shortfall = d;
+          marked = rw e (of-number (λ m r. Marked (k .verdict) (k .shortfall) m (is-codeword m r) (q .row) (q .word)) (c .m-is) (c .r-is) (v .0));
+          text-is = refl;
+        }
 
-pub room : (at n : ℕ) {k l : ℕ} → l ≤ k → at + k ≤ n → at + l ≤ n
-room at n h r = omega arith
+  pub room : {t : List ℕ} (at n : ℕ) → Line q t → at + line-most ≤ n → at + length t ≤ n
+  room at n l r = omega (arith, line-fits (x .good) l)
+
+  pub put-line : {t o p : List ℕ} {at next : ℕ} → Line q t → Written at t o p next → Put-line q at o p next
+  put-line {t} l w = record { text = t; line = l; written = w; short = line-fits (x .good) l }

@@ -13,11 +13,11 @@ use Rattle.code.specs.Code.{width, roots, is-codeword}
 use Rattle.code.proofs.Accepted.{width-fine, roots-few}
 use Rattle.metric.specs.Promise.{Codewords-for, Decoded-there, Decoded-one, Marked-there, Marked-one}
 use Rattle.metric.proofs.Promise.{codewords-for, decoded-there, decoded-one, marked-there, marked-one}
-use Rattle.sheet.specs.Sheet.{Question, most, question-good, all-good, sheet-refusal, questions}
+use Rattle.sheet.specs.Sheet.{Question, reliabilities, most, question-good, all-good, sheet-refusal, questions}
 use Rattle.sheet.specs.Calls.{judgement, judged}
 use Rattle.sheet.specs.Promise.{Read-written}
 use Rattle.sheet.proofs.Items.{both}
-use Rattle.sheet.proofs.Trips.{Good, good-parts, read-written}
+use Rattle.sheet.proofs.Trips.{good-parts, read-written}
 use Rattle.sheet_reader.proofs.Places.{judged-large}
 use Rattle.text.specs.Text.{header, question-line, count-line, refused-line, decimal-from, decimal, line, question-word, code-word, best-word, verdict-word, short-word, bits-word, least-word}
 use Rattle.text.proofs.Decimal.{digits-at-most}
@@ -25,25 +25,25 @@ use Rattle.text.proofs.Lines.{count-length, refused-length}
 use Rattle.report.specs.Listing.{Line, Lines, Printed, Listing}
 use Rattle.report.specs.Calls.{line-most, listing-most}
 use Rattle.report.specs.Promise.{Listing-there, Listing-one, Listing-fits}
-use Rattle.report.proofs.Bounds.{Fine, line-fits}
+use Rattle.report.proofs.Bounds.{line-fits}
 
 -- THERE IS A LISTING: a line for each question of an accepted sheet, which is one that a sheet can hold
-line-there : (q : Question) → question-good q ≡ true → (t : List ℕ) × Line q t
+line-there : (q : Question) → question-good reliabilities q ≡ true → (t : List ℕ) × Line q t
 unfolding Codewords-for Decoded-there Marked-there
 line-there q h =
     let m = width (q .code) in let r = roots (q .code) in
-    let x = codewords-for m r (q .row) (width-fine (q .code)) (roots-few (q .code)) (good-parts q h .row-length) in
+    let x = codewords-for m r (q .row) (width-fine (q .code)) (roots-few (q .code)) (good-parts reliabilities q h .row-length) in
     let d = decoded-there m (is-codeword m r) (q .row) x in
     let k = marked-there m (is-codeword m r) (q .row) (q .word) x in (
       question-line (q .number) (q .code) (d .1) (k .0) (k .1) (d .2),
       record { word = d .0; best = d .1; soft = d .2; decoded = d .3; verdict = k .0; shortfall = k .1; marked = k .2; text-is = refl },
     )
 
-lines-there : (qs : List Question) → all-good qs ≡ true → (t : List ℕ) × Lines qs t
+lines-there : (qs : List Question) → all-good reliabilities qs ≡ true → (t : List ℕ) × Lines qs t
 unfolding Lines all-good
 lines-there [] h = ([], refl)
 lines-there (q ∷ qs) h =
-    let p = both (question-good q) (all-good qs) h in
+    let p = both _ _ h in
     let a = line-there q (p .0) in
     let b = lines-there qs (p .1) in
     (a .0 ++ b .0, (a .0, b .0, a .1, b .1, refl))
@@ -83,20 +83,12 @@ unfolding Listing-one Listing
 listing-one bs s t v w = printed-one (sheet-refusal bs) (questions bs) s t v w
 
 -- ---- LENGTHS: each question of an accepted sheet is one that a sheet can hold
-fine : (q : Question) → Good q → Fine (q .code) (q .row)
-fine q g = record { known = g .known; whole = g .row-length; good = g .row-fine }
-
-line-short : (q : Question) (t : List ℕ) → question-good q ≡ true → Line q t → length t ≤ line-most
-line-short q t h l =
-    let g = good-parts q h in
-    rw (l .text-is) (line-fits (q .number) (q .code) (q .row) (l .word) (q .word) (l .best) (l .soft) (l .verdict) (l .shortfall) (g .small) (fine q g) (l .decoded) (l .marked))
-
-pub lines-short : (qs : List Question) (t : List ℕ) → all-good qs ≡ true → Lines qs t → length t ≤ length qs * line-most
+pub lines-short : (qs : List Question) (t : List ℕ) → all-good reliabilities qs ≡ true → Lines qs t → length t ≤ length qs * line-most
 unfolding Lines all-good
 lines-short [] t h l = rw l (omega arith)
 lines-short (q ∷ qs) t h l =
-    let p = both (question-good q) (all-good qs) h in
-    let a = line-short q (l .0) (p .0) (l .2) in
+    let p = both _ _ h in
+    let a = line-fits (good-parts reliabilities q (p .0)) (l .2) in
     let b = lines-short qs (l .1) (p .1) (l .3) in
     rw (l .4, length-append, suc-mul) (omega arith)
 
@@ -127,7 +119,7 @@ pub few-is : most ≡ 200
 unfolding most
 few-is = refl
 
-accepted-short : (qs : List Question) (t : List ℕ) → all-good qs ≡ true → length qs ≤ most → Printed 0 qs t → length t ≤ listing-most
+accepted-short : (qs : List Question) (t : List ℕ) → all-good reliabilities qs ≡ true → length qs ≤ most → Printed 0 qs t → length t ≤ listing-most
 unfolding Printed listing-most
 accepted-short qs t g few p =
     let a = lines-short qs (p .0) g (p .1) in

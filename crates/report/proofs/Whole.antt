@@ -1,16 +1,16 @@
 -- The whole text: a refusal's line, or the header, the lines and the count, one behind the other from the output's start.
 -- Assumes nothing.
-use mathlib.Core.Path.{_≡_, refl, sym, ap, _∙_}
-use mathlib.Core.Bool.{true, cond}
-use mathlib.Core.List.{List, _++_}
+use mathlib.Core.Path.{_≡_, refl, sym, ap, ap₂, _∙_}
+use mathlib.Core.Bool.{true, _&&_}
+use mathlib.Core.List.{List, [], _∷_, _++_}
 use Prim.Native.Nat.{ℕ, zero, suc, _+_, _-_, _*_, _≤_, _<_}
 use native.Mathlib.Nat.{zero-add, mul-le-mul-right}
 use native.Mathlib.Omega.{arith}
-use borrow.Author.Tests.{eq-eqb, ne-eqb}
+use borrow.Author.Tests.{eq-eqb, ne-eqb, lt-ltb}
 use lib.Dec.{eqb}
-use lib.ListN.{length, drop, length-append}
-use Rattle.refusal.specs.Refusal.{Outcome}
-use Rattle.sheet.specs.Sheet.{most, all-good, sheet-refusal, questions}
+use lib.ListN.{length, getD, drop, length-append}
+use Rattle.refusal.specs.Refusal.{unless, Outcome}
+use Rattle.sheet.specs.Sheet.{most, sheet-refusal, questions}
 use Rattle.sheet.specs.Calls.{judgement, judged}
 use Rattle.sheet.specs.Promise.{all-bytes, Read-written}
 use Rattle.sheet.proofs.Trips.{read-written}
@@ -23,7 +23,7 @@ use Rattle.text.proofs.Writing.{written-length, then}
 use Rattle.report.specs.declared.Listed.{Listed}
 use Rattle.report.specs.Listing.{Printed, Listing}
 use Rattle.report.specs.Calls.{line-most, listing-most, List-says}
-use Rattle.report.specs.Within.{Put-lines, Accepted}
+use Rattle.report.specs.Within.{Put-lines, Sheet-taken}
 use Rattle.report.proofs.Promise.{lines-short, count-short, header-length, few-is}
 
 most-is : listing-most ≡ 19058
@@ -39,12 +39,12 @@ unfolding line-most
 line-is = refl
 
 pub wrong-length : (bs o : List ℕ) → (length o ≡ 19058 → ⊥) → List-says bs (record { number = 4; long = 0 }) o o
-unfolding List-says Outcome
+unfolding List-says Outcome unless
 wrong-length bs o h = rw (ne-eqb (length o) listing-most (λ e. h (e ∙ most-is))) (refl, (refl, refl))
 
 -- a text at the start of the output
 listed : (bs t o p : List ℕ) (n : ℕ) → length o ≡ 19058 → Listing bs t → Written 0 t o p n → List-says bs (record { number = 0; long = n }) o p
-unfolding List-says Outcome put
+unfolding List-says Outcome unless put
 listed bs t o p n h l w =
     rw (eq-eqb (length o) listing-most (h ∙ sym most-is))
     (refl, (t, l, w .next-is ∙ zero-add (length t), w .now-is ∙ ap (λ k. t ++ drop k o) (zero-add (length t))))
@@ -63,60 +63,57 @@ unfolding judged Listing
 refused bs o p j n h e l w = listed bs (refused-line j) o p n h (rw e (refused-listing bs (sheet-refusal bs) (length (questions bs)) (rw e at l))) w
 
 -- ---- an accepted sheet
-pub record Counted (bs : List ℕ) (n : ℕ) : Type 0 where
-  pub accepted : Accepted bs n
-  pub good : all-good (questions bs) ≡ true
-  pub few : n ≤ 200
-
 judgement-count : (r n : ℕ) → r ≡ 0 → judgement r n - 100 ≡ n
 unfolding judgement
 judgement-count zero n e = omega arith
 judgement-count (suc r) n e = absurd (omega arith)
 
-pub counted : (bs : List ℕ) (j : ℕ) → all-bytes bs ≡ true → j ≡ judged bs → 100 ≤ j → Counted bs (j - 100)
+bytes : (bs : List ℕ) → ((i : ℕ) → i < length bs → getD bs i 0 < 256) → all-bytes bs ≡ true
+unfolding all-bytes
+bytes [] f = refl
+bytes (b ∷ bs) f = ap₂ _&&_ (lt-ltb b 256 (f 0 (omega arith))) (bytes bs (λ i h. f (suc i) (omega arith)))
+
+pub counted : {bs : List ℕ} {j : ℕ} → ((i : ℕ) → i < length bs → getD bs i 0 < 256) → j ≡ judged bs → 100 ≤ j → Sheet-taken bs (j - 100)
 unfolding judged Read-written
-counted bs j b e h =
+counted {bs} f e h =
     let r : sheet-refusal bs ≡ 0 = judged-large bs (rw e at h) in
-    let c : j - 100 ≡ length (questions bs) = ap (λ x. x - 100) e ∙ judgement-count (sheet-refusal bs) (length (questions bs)) r in
-    let w = read-written bs b r in
-    record { accepted = record { none = r; count-is = c }; good = w .0; few = omega (arith, c, w .1, few-is) }
+    let w = read-written bs (bytes bs f) r in
+    let c = ap (λ x. x - 100) e ∙ judgement-count (sheet-refusal bs) (length (questions bs)) r in
+    record { none = r; count-is = c; few = rw c (w .1); good = w .0 }
 
-pub header-room : (k : ℕ) → k ≡ 19058 → 0 + length header ≤ k
-header-room k e = omega (arith, header-length)
+pub header-room : {k : ℕ} → k ≡ 19058 → 0 + length header ≤ k
+header-room e = omega (arith, header-length)
 
-pub lines-room : (bs : List ℕ) (n a : ℕ) (o p : List ℕ) → Counted bs n → length o ≡ 19058 → Written 0 header o p a → a + n * line-most ≤ length p
-lines-room bs n a o p c e w =
-    let f = c .few in
-    omega (arith, w .next-is, header-length, written-length w, line-is, mul-le-mul-right line-most f)
+module _ {bs o p : List ℕ} {n a : ℕ} (t : Sheet-taken bs n) (e : length o ≡ 19058) (w : Written 0 header o p a) where
+  few : n ≤ 200
+  few = omega (arith, t .few, few-is)
 
-pub count-room :
-    (bs : List ℕ) (n a b : ℕ) (o p q : List ℕ) → Counted bs n → length o ≡ 19058 → Written 0 header o p a → Put-lines (questions bs) a p q b →
-    b + length (count-line n) ≤ length q
-count-room bs n a b o p q c e w v =
-    let f = c .few in
-    let s = lines-short (questions bs) (v .text) (c .good) (v .lines) in
-    let l : length (questions bs) ≤ 200 = omega (arith, c .accepted .count-is) in
-    omega (
-      arith,
-      w .next-is,
-      header-length,
-      written-length w,
-      v .written .next-is,
-      written-length (v .written),
-      mul-le-mul-right line-most l,
-      line-is,
-      count-short n f,
-      last-is,
-    )
+  pub lines-room : a + n * line-most ≤ length p
+  lines-room = omega (arith, w .next-is, header-length, written-length w, line-is, mul-le-mul-right line-most few)
 
-pub accepted :
-    (bs : List ℕ) (n a b k : ℕ) (o p q u : List ℕ) → Counted bs n → length o ≡ 19058 → Written 0 header o p a → Put-lines (questions bs) a p q b →
-    Written b (count-line n) q u k → List-says bs (record { number = 0; long = k }) o u
-unfolding Listing Printed
-accepted bs n a b k o p q u c e w v x =
-    let l : Printed (sheet-refusal bs) (questions bs) (header ++ (v .text ++ count-line n)) =
-    rw (c .accepted .none) (v .text, v .lines, ap (λ m. header ++ (v .text ++ count-line m)) (c .accepted .count-is)) in
-    listed bs _ o u k e l (then w (then (v .written) x))
+  module _ {q : List ℕ} {b : ℕ} (v : Put-lines (questions bs) a p q b) where
+    pub count-room : b + length (count-line n) ≤ length q
+    count-room =
+        let s : length (v .text) ≤ n * line-most = rw (t .count-is) (lines-short (questions bs) (v .text) (t .good) (v .lines)) in
+        omega (
+          arith,
+          w .next-is,
+          header-length,
+          written-length w,
+          v .written .next-is,
+          written-length (v .written),
+          mul-le-mul-right line-most few,
+          line-is,
+          count-short n few,
+          last-is,
+        )
+
+    pub accepted : {k : ℕ} {u : List ℕ} → Written b (count-line n) q u k → List-says bs (record { number = 0; long = k }) o u
+    unfolding Listing Printed
+    accepted x =
+        let l : Printed (sheet-refusal bs) (questions bs) (header ++ (v .text ++ count-line n)) =
+        rw (t .none) (v .text, v .lines, ap (λ m. header ++ (v .text ++ count-line m)) (t .count-is)) in
+        listed bs _ o _ _ e l (then w (then (v .written) x))
 
 -- ---- for a caller that hands the text on
 says-room : (e : ℕ) (bs : List ℕ) (r : Listed) (o p : List ℕ) →
@@ -127,4 +124,4 @@ says-room (suc e) bs r o p s = omega (arith, s .1 .0)
 
 pub long-fits : (bs : List ℕ) (r : Listed) (o p : List ℕ) → List-says bs r o p → r .long ≤ length p
 unfolding List-says
-long-fits bs r o p s = says-room (cond (eqb (length o) listing-most) 0 4) bs r o p s
+long-fits bs r o p s = says-room (unless (eqb (length o) listing-most) 4 0) bs r o p s

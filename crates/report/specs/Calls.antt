@@ -1,11 +1,10 @@
 -- What the listing as a call answers and leaves behind, for every input. Assumes nothing: these are definitions.
 use mathlib.Core.Path.{_≡_}
-use mathlib.Core.Bool.{cond}
 use mathlib.Core.List.{List, _++_}
 use Prim.Native.Nat.{ℕ, _+_, _*_}
 use lib.Dec.{eqb}
 use lib.ListN.{length, drop}
-use Rattle.refusal.specs.Refusal.{Outcome}
+use Rattle.refusal.specs.Refusal.{unless, Outcome}
 use Rattle.sheet.specs.Sheet.{most}
 use Rattle.text.specs.Text.{header, count-line}
 use Rattle.report.specs.declared.Listed.{Listed}
@@ -23,5 +22,5 @@ listing-most = length header + (most * line-most + length (count-line most))
 -- the text stands at the start of the output, `long` bytes of it, and what stood behind is kept; an output of another length is 4
 unfoldable pub List-says : (sheet : List ℕ) → Listed → (output output-now : List ℕ) → Type 0
 List-says bs r o p =
-    Outcome (cond (eqb (length o) listing-most) 0 4) (r .number)
+    Outcome (unless (eqb (length o) listing-most) 4 0) (r .number)
     ((text : List ℕ) × Listing bs text × (r .long ≡ length text) × (p ≡ text ++ drop (length text) o)) ((r .long ≡ 0) × (p ≡ o))

@@ -1,15 +1,11 @@
 // The listing of a sheet, written into a lent output. `list` is offered to callers: it takes any bytes and promises by
 // specs/Calls.antt that the text is the one that specs/Listing.antt says.
-ghost use mathlib.Core.Path.{_≡_};
-ghost use mathlib.Core.Bool.{true};
+use sheet_reader::Yield;
 ghost use Prim.Native.Nat.{ℕ, _+_, _*_, _≤_};
-ghost use lib.ListN.{length, getD};
-ghost use Rattle.code.specs.Code.{width, long};
-ghost use Rattle.code.specs.Bits.{row-long};
-ghost use Rattle.sheet.specs.Sheet.{as-words, head-code, question, question-good, sheet-refusal, questions};
-ghost use Rattle.sheet_reader.specs.Within.{question-here};
+ghost use lib.ListN.{length};
+ghost use Rattle.sheet.specs.Sheet.{question, questions};
 ghost use Rattle.report.specs.Calls.{line-most, List-says};
-ghost use Rattle.report.specs.Within.{Answered, Asked, Lengths, Passed, Accepted, Put-line, Put-lines};
+ghost use Rattle.report.specs.Within.{code-at, Holds, Asked, Rooms, Passed, Sheet-taken, Put-line, Put-lines};
 
 // 0 and the number of bytes of the text, or the number of a refusal and 0.
 #[repr(C)]
@@ -27,30 +23,33 @@ struct Place {
     text: usize,
 }
 
-// Marks the word of a question whose row was decoded, and writes the question's line.
+// Decodes the row of a question, marks its word and writes its line. `best` and `soft` hold what is decoded.
 fn put_answer(
     code: u32,
     number: u32,
-    metric: i32,
     row: &[i16],
     word: &[u8],
-    soft: &[i16],
+    best: &mut [u8],
+    soft: &mut [i16],
     out: &mut [u8],
     at: usize,
 ) -> usize
-    requires { ⌜ question-good (question code number (now row) (now word)) ≡ true ⌝ }
-    requires { ⌜ Answered code (now row) metric (now soft) ⌝ }
+    requires { ⌜ Holds (question code number (now row) (now word)) (length (now best)) (length (now soft)) ⌝ }
     requires { ⌜ at + line-most ≤ length (now out) ⌝ }
     ensures { λ r. ⌜ Put-line (question code number (now (row .entry)) (now (word .entry))) at (now (out .entry)) (now (out .exit)) r ⌝ }
 {
-    let mark = marker::verdict_on_word(code, row, word, metric);
+    let decoding = decoder::decode(code, row, best, soft);
+    let metric = decoding.metric;
+    let chosen = code::by_number(code);
+    let shape = chosen.shape;
+    let mark = marker::verdict_on_word(shape, row, word, metric);
     let verdict = mark.verdict;
     let shortfall = mark.shortfall;
     text::put_question(number, code, metric, verdict, shortfall, soft, out, at)
 }
 
-// Reads the question that begins at a word of the sheet, decodes its row and writes its line. The other slices hold its row and
-// its word, and what is decoded.
+// Reads the question that begins at a word of the sheet, and writes its line. The other slices hold its row and its word, and what
+// is decoded. The reader finds a question there, so its two other answers do not come.
 fn put_read(
     sheet: &[u8],
     place: Place,
@@ -61,20 +60,22 @@ fn put_read(
     out: &mut [u8],
 ) -> Place
     requires { ⌜ ((i : ℕ) × Asked (now sheet) i (place .word)) ⌝ }
-    requires { ⌜ Lengths (now sheet) (place .word) (length (now row)) (length (now word)) (length (now best)) (length (now soft)) ⌝ }
+    requires { ⌜ Rooms (code-at (now sheet) (place .word)) (length (now row)) (length (now word)) (length (now best)) (length (now soft)) ⌝ }
     requires { ⌜ place .text + line-most ≤ length (now out) ⌝ }
     ensures { λ r. ⌜ Passed (now (sheet .entry)) place r (now (out .entry)) (now (out .exit)) ⌝ }
 {
     let at = place.word;
-    let w = sheet::words::word_at(sheet, at);
-    let code = sheet::words::head_code_of(w);
-    let number = sheet::words::low_of(w);
     let step = sheet_reader::question_at(sheet, at, row, word);
-    let decoding = decoder::decode(code, row, best, soft);
-    let metric = decoding.metric;
-    let text = put_answer(code, number, metric, row, word, soft, out, place.text);
-    let next = step.next;
-    Place { word: next, text }
+    let answer = step.answer;
+    match answer {
+        Yield::Found { code, number } => {
+            let text = put_answer(code, number, row, word, best, soft, out, place.text);
+            let next = step.next;
+            Place { word: next, text }
+        }
+        Yield::NoneLeft => place,
+        Yield::Refused(_) => place,
+    }
 }
 
 // The same, with room of its own.
@@ -85,9 +86,10 @@ fn put_next(sheet: &[u8], place: Place, out: &mut [u8]) -> Place
 {
     let at = place.word;
     let w = sheet::words::word_at(sheet, at);
-    let m = code::width_of(sheet::words::head_code_of(w));
-    let n = code::long_of(m);
-    let k = code::row_long_of(m);
+    let chosen = code::by_number(sheet::words::head_code_of(w));
+    let shape = chosen.shape;
+    let n = shape.n;
+    let k = shape.bits;
     let mut row_room = [0i16; 60];
     let row: &mut [i16] = &mut row_room;
     let mut word_room = [0u8; 15];
@@ -109,7 +111,7 @@ fn put_next(sheet: &[u8], place: Place, out: &mut [u8]) -> Place
 
 // The lines of all questions.
 fn put_lines(sheet: &[u8], count: usize, out: &mut [u8], at: usize) -> usize
-    requires { ⌜ Accepted (now sheet) count ⌝ }
+    requires { ⌜ Sheet-taken (now sheet) count ⌝ }
     requires { ⌜ at + count * line-most ≤ length (now out) ⌝ }
     ensures { λ r. ⌜ Put-lines (questions (now (sheet .entry))) at (now (out .entry)) (now (out .exit)) r ⌝ }
 {

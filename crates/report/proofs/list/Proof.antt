@@ -1,68 +1,49 @@
 -- `report::list` meets its contract: a refused sheet has its one line, any other the header, the lines and the count, and each finds room.
 -- Assumes nothing.
-use Rattle.report.proofs.Whole.{wrong-length, refused-room, refused, counted, header-room, lines-room, count-room, accepted}
-use Rattle.report.proofs.Passing.{bytes}
+use mathlib.Core.Path.{_≡_}
+use Prim.Native.Nat.{_-_}
 use lib.ListN.{length}
 use denote.Ref.{now}
-use mathlib.Core.Path.{_≡_}
+use Rattle.report.specs.Within.{Sheet-taken}
+use Rattle.report.proofs.Whole.{wrong-length, refused-room, refused, counted, header-room, lines-room, count-room, accepted}
 use borrow.Author.Needs.{needs}
 use Rattle.report.proofs.list.Statement.{statement}
 use Rattle.report.proofs.list.Tie as tie
 
-returns : tie.Need-returns
-returns c = let s = c .before .before .before in let bs = now (s .args .sheet) in let o = now (s .args .out) in
-    wrong-length bs o (c .if1 .taken)
+abbrev st : tie.After-put-header → tie.Start
+st h = h .before .before .before .before .before .before .before
 
-put-refused-requires : tie.Need-put-refused-requires
-put-refused-requires c κs = let s = c .before .before .before .before .before .before in let bs = now (s .args .sheet) in let o = now (s .args .out) in
-    let e : length o ≡ 19058 = c .before .before .before .if1 .left in
-    refused-room _ _ (c .before .if2 .taken) e
+-- what is known of an accepted sheet, and of the output
+taken : (h : tie.After-put-header) → Sheet-taken (now (st h .args .sheet)) (h .before .before .before .judge-sheet .result - 100)
+taken h = counted (λ i _. h .before .before .before .before .before .before .shared-slice-known .given i .fits) (h .before .before .before .judge-sheet .ensures) (h .before .before .if2 .left)
+
+whole : (h : tie.After-put-header) → length (now (st h .args .out)) ≡ 19058
+whole h = h .before .before .before .before .if1 .left
 
 returns-2 : tie.Need-returns-2
-returns-2 c = let s = c .before .before .before .before .before .before .before .before .before in let bs = now (s .args .sheet) in let o = now (s .args .out) in
-    let e : length o ≡ 19058 = c .before .before .before .before .before .before .if1 .left in
-    let j = c .before .before .before .before .before .judge-sheet in
-    refused bs o _ (j .result) _ e (j .ensures) (c .before .before .before .before .if2 .taken) (c .before .before .put-refused .ensures)
-
-put-header-requires : tie.Need-put-header-requires
-put-header-requires c κs = let s = c .before .before .before .before .before .before in let bs = now (s .args .sheet) in let o = now (s .args .out) in
-    let e : length o ≡ 19058 = c .before .before .before .if1 .left in
-    header-room _ e
+returns-2 c = let s = c .before .before .before .before .before .before .before .before .before in let j = c .before .before .before .before .before .judge-sheet in
+    refused (now (s .args .sheet)) (now (s .args .out)) _ (j .result) _ (c .before .before .before .before .before .before .if1 .left) (j .ensures) (c .before .before .before .before .if2 .taken) (c .before .before .put-refused .ensures)
 
 put-lines-requires : tie.Need-put-lines-requires
-put-lines-requires c κs = let s = c .before .before .before .before .before .before .before .before .before .before in let bs = now (s .args .sheet) in let o = now (s .args .out) in
-    let e : length o ≡ 19058 = c .before .before .before .before .before .before .before .if1 .left in
-    let j = c .before .before .before .before .before .before .judge-sheet in
-    let b = bytes bs (λ i h. c .before .before .before .before .before .before .before .before .before .shared-slice-known .given i .fits) in
-    let k = counted bs (j .result) b (j .ensures) (c .before .before .before .before .before .if2 .left) in
-    (k .accepted, lines-room bs _ _ o _ k e (c .before .before .before .put-header .ensures))
+put-lines-requires c κs = let h = c .before .before .before in (taken h, lines-room (taken h) (whole h) (h .put-header .ensures))
 
 put-count-requires : tie.Need-put-count-requires
-put-count-requires c κs = let s = c .before .before .before .before .before .before .before .before .before .before .before .before .before .before in let bs = now (s .args .sheet) in let o = now (s .args .out) in
-    let e : length o ≡ 19058 = c .before .before .before .before .before .before .before .before .before .before .before .if1 .left in
-    let j = c .before .before .before .before .before .before .before .before .before .before .judge-sheet in
-    let b = bytes bs (λ i h. c .before .before .before .before .before .before .before .before .before .before .before .before .before .shared-slice-known .given i .fits) in
-    let k = counted bs (j .result) b (j .ensures) (c .before .before .before .before .before .before .before .before .before .if2 .left) in
-    count-room bs _ _ _ o _ _ k e (c .before .before .before .before .before .before .before .put-header .ensures) (c .before .before .before .put-lines .ensures)
+put-count-requires c κs = let l = c .before .before .before in let h = l .before .before .before .before in count-room (taken h) (whole h) (h .put-header .ensures) (l .put-lines .ensures)
 
 returns-3 : tie.Need-returns-3
-returns-3 c = let s = c .before .before .before .before .before .before .before .before .before .before .before .before .before .before .before .before .before in let bs = now (s .args .sheet) in let o = now (s .args .out) in
-    let e : length o ≡ 19058 = c .before .before .before .before .before .before .before .before .before .before .before .before .before .before .if1 .left in
-    let j = c .before .before .before .before .before .before .before .before .before .before .before .before .before .judge-sheet in
-    let b = bytes bs (λ i h. c .before .before .before .before .before .before .before .before .before .before .before .before .before .before .before .before .shared-slice-known .given i .fits) in
-    let k = counted bs (j .result) b (j .ensures) (c .before .before .before .before .before .before .before .before .before .before .before .before .if2 .left) in
-    accepted bs _ _ _ _ o _ _ _ k e (c .before .before .before .before .before .before .before .before .before .before .put-header .ensures) (c .before .before .before .before .before .before .put-lines .ensures) (c .before .before .put-count .ensures)
+returns-3 c = let k = c .before .before in let l = k .before .before .before .before in let h = l .before .before .before .before in
+    accepted (taken h) (whole h) (h .put-header .ensures) (l .put-lines .ensures) (k .put-count .ensures)
 
 pub list-spec : {M : Type 1} → statement M
 list-spec =
     tie.close
     (tie.spec
-    returns
+    (λ c. wrong-length (now (c .before .before .before .args .sheet)) (now (c .before .before .before .args .out)) (c .if1 .taken))
     (λ c κs. search needs)
-    put-refused-requires
+    (λ c κs. refused-room _ _ (c .before .if2 .taken) (c .before .before .before .if1 .left))
     (λ c. search needs)
     returns-2
-    put-header-requires
+    (λ c κs. header-room (c .before .before .before .if1 .left))
     (λ c. search needs)
     put-lines-requires
     put-count-requires

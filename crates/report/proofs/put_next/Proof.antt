@@ -1,38 +1,31 @@
 -- `report::put_next` meets its contract: the rooms are cut to the lengths of the question's code.
 -- Assumes nothing.
-use Rattle.sheet.proofs.Judging.{width-fine}
-use Rattle.report.proofs.Passing.{Sizes, sizes, part, lengths}
 use mathlib.Core.Path.{sym}
+use lib.Seq.{length-take-le}
 use denote.Ref.{now}
+use Prim.Native.Nat.{_≤_}
+use Rattle.sheet.proofs.Forms.{bits-le, n-le}
+use Rattle.report.proofs.Passing.{rooms}
 use borrow.Author.Needs.{needs}
 use Rattle.report.proofs.put_next.Statement.{statement}
 use Rattle.report.proofs.put_next.Tie as tie
 
-sized : (c : tie.After-row-long-of) → let s = c .before .before .before .before .before .before .before in Sizes (now (s .args .sheet)) (s .args .place .word) (c .row-long-of .result) (c .before .long-of .result)
-sized c =
-    sizes _ _ _ _ _ _ _ (c .before .before .before .before .word-at .ensures) (c .before .before .before .head-code-of .ensures) (c .before .before .width-of .ensures)
-    (c .row-long-of .ensures) (c .before .long-of .ensures)
+-- how many reliabilities and how many symbols there are
+bits : (n : tie.After-by-number) → n .by-number .result .shape .bits ≤ 60
+bits n = bits-le (n .by-number .ensures .coded)
 
-slice-aggregate-put-read : tie.Need-slice-aggregate-put-read
-slice-aggregate-put-read c = let z = sized (c .before .before .before .before .before) in
-    sym (part _ _ (z .row-most))
-
-slice-aggregate-put-read-2 : tie.Need-slice-aggregate-put-read-2
-slice-aggregate-put-read-2 c = let z = sized (c .before .before .before .before .before .before) in
-    sym (part _ _ (z .word-most))
-
-slice-aggregate-put-read-3 : tie.Need-slice-aggregate-put-read-3
-slice-aggregate-put-read-3 c = let z = sized (c .before .before .before .before .before .before .before) in
-    sym (part _ _ (z .word-most))
-
-slice-aggregate-put-read-4 : tie.Need-slice-aggregate-put-read-4
-slice-aggregate-put-read-4 c = let z = sized (c .before .before .before .before .before .before .before .before) in
-    sym (part _ _ (z .row-most))
+symbols : (n : tie.After-by-number) → n .by-number .result .shape .n ≤ 15
+symbols n = n-le (n .by-number .ensures .coded)
 
 put-read-requires : tie.Need-put-read-requires
-put-read-requires c κs = let z = sized (c .before .before .before .before .before .before .before .before .before) in
-    let s = c .before .before .before .before .before .before .before .before .before .before .before .before .before .before .before .before in
-    (s .pre .0, (lengths (now (s .args .sheet)) (s .args .place .word) _ _ _ _ _ _ z (part _ _ (z .row-most)) (part _ _ (z .word-most)) (part _ _ (z .word-most)) (part _ _ (z .row-most)), s .pre .1))
+put-read-requires c κs = let n = c .before .before .before .before .before .before .before .before .before .before in let s = n .before .before .before .before .before in (
+  s .pre .0,
+  (
+    rooms (now (s .args .sheet)) (s .args .place .word) (n .before .before .word-at .ensures) (n .before .head-code-of .ensures) (n .by-number .ensures)
+        (length-take-le _ _ (bits n)) (length-take-le _ _ (symbols n)) (length-take-le _ _ (symbols n)) (length-take-le _ _ (bits n)),
+    s .pre .1,
+  ),
+)
 
 pub put-next-spec : {M : Type 1} → statement M
 put-next-spec =
@@ -41,16 +34,14 @@ put-next-spec =
     (λ c κs. search needs)
     (λ c κs. search needs)
     (λ c κs. search needs)
-    (λ c κs. rw (c .width-of .ensures) (width-fine _))
-    (λ c κs. rw (c .before .width-of .ensures) (width-fine _))
     (λ c. search needs)
     (λ c. search needs)
     (λ c. search needs)
     (λ c. search needs)
-    slice-aggregate-put-read
-    slice-aggregate-put-read-2
-    slice-aggregate-put-read-3
-    slice-aggregate-put-read-4
+    (λ c. sym (length-take-le _ _ (bits (c .before .before .before .before .before .before))))
+    (λ c. sym (length-take-le _ _ (symbols (c .before .before .before .before .before .before .before))))
+    (λ c. sym (length-take-le _ _ (symbols (c .before .before .before .before .before .before .before .before))))
+    (λ c. sym (length-take-le _ _ (bits (c .before .before .before .before .before .before .before .before .before))))
     put-read-requires
     (λ c. search needs)
     (λ c. search needs))
