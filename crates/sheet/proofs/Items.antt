@@ -32,15 +32,15 @@ le-or-lt a b = by (leb a b) refl
 
 -- a word's kind and body
 pub kind-worded : (k v : ℕ) → v < 2 ^ 28 → kind (worded k v) ≡ k
-unfolding kind worded
+unfolding worded
 kind-worded k v h = omega arith
 
 pub body-worded : (k v : ℕ) → v < 2 ^ 28 → body (worded k v) ≡ v
-unfolding body worded
+unfolding worded
 body-worded k v h = omega arith
 
 pub worded-again : (w : ℕ) → worded (kind w) (body w) ≡ w
-unfolding kind body worded
+unfolding worded
 worded-again w = omega arith
 
 pub below-parts : (b n : ℕ) (ds : List ℕ) → Below b ds → Below b (take n ds) × Below b (drop n ds)

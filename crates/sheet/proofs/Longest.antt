@@ -15,7 +15,7 @@ use Rattle.code.specs.Bits.{row-long}
 use Rattle.code.proofs.Accepted.{width-fine}
 use Rattle.metric.specs.Row.{reliability-good, row-good}
 use Rattle.sheet.specs.declared.Form.{Form}
-use Rattle.sheet.specs.Sheet.{Question, question, reliabilities, end-kind, most, numbers, worded, count, row-words, symbol-words, question-long, question-words, all-words, written-in, written, questions, question-good, all-good}
+use Rattle.sheet.specs.Sheet.{Question, question, reliabilities, end-kind, most, worded, count, row-words, symbol-words, question-long, question-words, all-words, written-in, written, questions, question-good, all-good}
 use Rattle.sheet.specs.Promise.{sheet-most, Longest-sheet, Read-written, Written-read}
 use Rattle.sheet.proofs.Items.{items-words-length}
 use Rattle.sheet.proofs.Bytes.{bytes-length, bytes, as-bytes-below}
@@ -46,7 +46,7 @@ longest : Question
 longest = question 3 0 (replicate 60 (pos 0)) (replicate 15 0)
 
 longest-good : (n : ℕ) → all-good reliabilities (replicate n longest) ≡ true
-unfolding all-good question-good longest code-good width long row-long numbers row-good reliability-good symbols-good
+unfolding all-good question-good longest code-good width long row-long row-good reliability-good symbols-good
 longest-good zero = refl
 longest-good (suc n) = longest-good n
 

@@ -37,7 +37,7 @@ pub record Good (f : Form) (q : Question) : Type 0 where
   pub word-fine : symbols-good (width (q .code)) (q .word) ≡ true
 
 pub good-parts : (f : Form) (q : Question) → question-good f q ≡ true → Good f q
-unfolding question-good numbers
+unfolding question-good
 good-parts f q g =
     let a = both _ _ g in
     let b = both _ _ (a .1) in
@@ -47,7 +47,7 @@ good-parts f q g =
     record { known = a .0; small = ltb-true _ _ (b .0); row-length = eqb-true _ _ (c .0); row-fine = d .0; word-length = eqb-true _ _ (e .0); word-fine = e .1 }
 
 pub parts-good : (f : Form) (q : Question) → Good f q → question-good f q ≡ true
-unfolding question-good numbers
+unfolding question-good
 parts-good f q g = rw (g .known, lt-ltb _ _ (g .small), eq-eqb _ _ (g .row-length), g .row-fine, eq-eqb _ _ (g .word-length), g .word-fine)
 
 pub code-lt : (c : ℕ) → code-good c ≡ true → c < 16
@@ -63,19 +63,16 @@ module _ (k c n : ℕ) (hc : c < 16) (hn : n < 2 ^ 24) where
   small-body = omega arith
 
   head-kind-is : kind (worded k (c * numbers + n)) ≡ k
-  unfolding numbers
   head-kind-is = kind-worded k (c * 2 ^ 24 + n) small-body
 
   head-code-is : head-code (worded k (c * numbers + n)) ≡ c
-  unfolding head-code numbers
   head-code-is = rw (body-worded k (c * 2 ^ 24 + n) small-body) (omega arith)
 
   head-low-is : low (worded k (c * numbers + n)) ≡ n
-  unfolding low numbers
   head-low-is = rw (body-worded k (c * 2 ^ 24 + n) small-body) (omega arith)
 
   head-lt : k < 16 → worded k (c * numbers + n) < 2 ^ 32
-  unfolding worded numbers
+  unfolding worded
   head-lt h = omega arith
 
 -- A QUESTION THAT WAS WRITTEN, with anything after it
@@ -168,7 +165,7 @@ module _ (n : ℕ) (hn : n < 2 ^ 24) where
   end-lt = omega arith
 
   end-accepted : end-refusal n end-of 0 ≡ 0
-  unfolding end-refusal head-code low numbers unless
+  unfolding end-refusal unless
   end-accepted = rw (body-worded end-kind n (omega arith), div-eq-of-lt hn, mod-eq-of-lt hn, eq-eqb n n refl)
 
 module _ {f : Form} (z : Row-form f) where
@@ -227,7 +224,7 @@ record Back (f : Form) (left : ℕ) (ws : List ℕ) : Type 0 where
   again : ws ≡ all-words f qs ++ worded end-kind count ∷ []
 
 end-back : (n w : ℕ) (ws : List ℕ) → kind w ≡ end-kind → end-refusal n w (length ws) ≡ 0 → w ∷ ws ≡ worded end-kind n ∷ []
-unfolding end-refusal head-code low numbers kind body worded
+unfolding end-refusal worded
 end-back n w ws k e =
     let a = passed _ _ _ e in
     let b = passed _ _ _ (a .1) in
@@ -236,7 +233,7 @@ end-back n w ws k e =
     ap₂ _∷_ (omega (arith, k, c, l)) (empty ws (eqb-true _ _ (passed _ _ _ (b .1) .0)))
 
 head-back : (w : ℕ) → kind w ≡ head-kind → w ≡ worded head-kind (head-code w * numbers + low w)
-unfolding head-code low numbers kind body worded
+unfolding worded
 head-back w k = omega arith
 
 -- what was accepted after a head is that of a question
@@ -247,7 +244,7 @@ record Asked (f : Form) (w : ℕ) (ws : List ℕ) : Type 0 where
 
 module _ {f : Form} (z : Row-form f) where
   asked : (w : ℕ) (ws : List ℕ) → kind w ≡ head-kind → question-refusal f (head-code w) ws ≡ 0 → Asked f w ws
-  unfolding question-refusal row-refusal symbol-refusal question-words after after-row low numbers
+  unfolding question-refusal row-refusal symbol-refusal question-words after after-row
   asked w ws k e =
       let m : ℕ = width (head-code w) in
       let a = first-none _ _ e in

@@ -31,7 +31,7 @@ symbols = record { kind = 3; each = 6; base = 2 ^ 4 }
 unfoldable pub most : ℕ
 most = 200
 
-unfoldable pub numbers : ℕ
+abbrev pub numbers : ℕ
 numbers = 2 ^ 24
 
 pub record Question : Type 0 where
@@ -76,17 +76,17 @@ sheet-bound f = f .base / 2 - 1
 unfoldable pub worded : (kind body : ℕ) → ℕ
 worded k v = k * 2 ^ 28 + v
 
-unfoldable pub kind : (word : ℕ) → ℕ
+abbrev pub kind : (word : ℕ) → ℕ
 kind w = w / 2 ^ 28
 
-unfoldable pub body : (word : ℕ) → ℕ
+abbrev pub body : (word : ℕ) → ℕ
 body w = w % 2 ^ 28
 
 -- the code of a head, in bits 27..24, and the low 24 bits: its question number, or the count of an end
-unfoldable pub head-code : (word : ℕ) → ℕ
+abbrev pub head-code : (word : ℕ) → ℕ
 head-code w = body w / numbers
 
-unfoldable pub low : (word : ℕ) → ℕ
+abbrev pub low : (word : ℕ) → ℕ
 low w = body w % numbers
 
 -- how many words so many items take

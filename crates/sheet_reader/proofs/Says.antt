@@ -44,7 +44,7 @@ standing w r n c k h = by (eqb (kind w) head-kind) (eqb r (row-long (width (head
 
 -- a head stands inside the sheet
 pub inside : (bs : List ℕ) (at : ℕ) → kind (getD (as-words bs) at 0) ≡ head-kind → at < length bs / 4
-unfolding kind head-kind
+unfolding head-kind
 inside bs at h = by (le-or-lt (length bs / 4) at)
   where
     by : (length bs / 4 ≤ at) ⊎ (at < length bs / 4) → at < length bs / 4

@@ -15,7 +15,7 @@ use Rattle.field.proofs.Tests.{to-T}
 use Rattle.code.specs.Code.{width}
 use Rattle.code.proofs.Words.{Below, below, widen}
 use Rattle.sheet.specs.declared.Form.{Form}
-use Rattle.sheet.specs.Sheet.{question, symbols, head-kind, numbers, worded, packed, row-items, row-words, symbol-words, question-long, items-words, question-words}
+use Rattle.sheet.specs.Sheet.{question, symbols, head-kind, worded, packed, row-items, row-words, symbol-words, question-long, items-words, question-words}
 use Rattle.sheet.proofs.Items.{items-words-length, below-parts}
 use Rattle.sheet.proofs.Forms.{items-below}
 use Rattle.sheet.proofs.Longest.{question-length}
@@ -46,7 +46,7 @@ module _ (f : Form) (c n : ℕ) (rs : List ℤ) (ws : List ℕ) where
   syms = items-words symbols (symbol-words (width c)) ws
 
   pub word-head : (j : ℕ) → j ≡ 0 → getD words j 0 ≡ 268435456 + (c * 16777216 + n)
-  unfolding question-words worded head-kind numbers
+  unfolding question-words worded head-kind
   word-head j e = rw e
 
   shifted : (j : ℕ) → (j ≡ 0 → ⊥) → getD words j 0 ≡ getD (rows ++ syms) (j - 1) 0

@@ -16,7 +16,7 @@ use Rattle.code.specs.Code.{width, long}
 use Rattle.code.specs.Bits.{row-long}
 use Rattle.code.proofs.Accepted.{number-free}
 use Rattle.sheet.specs.declared.Form.{Form}
-use Rattle.sheet.specs.Sheet.{Question, reliabilities, most, numbers, all-good, questions}
+use Rattle.sheet.specs.Sheet.{Question, reliabilities, most, all-good, questions}
 use Rattle.sheet.specs.Promise.{Written-read, Read-written}
 use Rattle.sheet.proofs.Items.{both}
 use Rattle.sheet.proofs.Forms.{row-form}
@@ -54,7 +54,7 @@ lent : (f : Form) (qs : List Question) → all-good f qs ≡ true →
     let rs : List ℤ = flatMap (λ q. q .row) qs in
     let ws : List ℕ = flatMap (λ q. q .word) qs in
     (list-refusal f cs ns rs ws ≡ 0) × (listed cs ns rs ws ≡ qs)
-unfolding all-good list-refusal listed flatMap asked-refusal parts-refusal numbers first unless
+unfolding all-good list-refusal listed flatMap asked-refusal parts-refusal first unless
 lent f [] g = (refl, refl)
 lent f (q ∷ qs) g =
     let p = both _ _ g in

@@ -15,7 +15,7 @@ use Rattle.code.specs.Code.{width, long}
 use Rattle.code.specs.Bits.{row-long}
 use Rattle.code.proofs.Accepted.{number-taken}
 use Rattle.sheet.specs.declared.Form.{Form}
-use Rattle.sheet.specs.Sheet.{Question, question, end-kind, most, numbers, worded, digits, question-words, all-words, written-in, question-good}
+use Rattle.sheet.specs.Sheet.{Question, question, end-kind, most, worded, digits, question-words, all-words, written-in, question-good}
 use Rattle.sheet.specs.Within.{Row-form}
 use Rattle.sheet.proofs.Items.{both}
 use Rattle.sheet.proofs.Longest.{question-length, written-length}
@@ -36,7 +36,7 @@ first-of c n rs ws = question c n (take (row-long (width c)) rs) (take (long (wi
 
 -- an accepted question can be written
 pub asked-good : (f : Form) (c n k : ℕ) (rs : List ℤ) (ws : List ℕ) → asked-refusal f c n k rs ws ≡ 0 → Good f (first-of c n rs ws)
-unfolding asked-refusal parts-refusal numbers
+unfolding asked-refusal parts-refusal
 asked-good f c n k rs ws h =
     let a = first-none _ _ h in
     let b = passed _ _ _ (a .1) in

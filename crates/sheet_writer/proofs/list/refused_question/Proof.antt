@@ -1,13 +1,12 @@
 -- `sheet_writer::refused_question` meets its contract.
 -- Assumes nothing.
-use Rattle.sheet.specs.Sheet.{numbers}
 use Rattle.sheet_writer.specs.Calls.{asked-refusal}
 use borrow.Author.Needs.{needs}
 use Rattle.sheet_writer.proofs.list.refused_question.Statement.{statement}
 use Rattle.sheet_writer.proofs.list.refused_question.Tie as tie
 
 returns : tie.Need-returns
-unfolding asked-refusal numbers
+unfolding asked-refusal
 returns c = cc
 
 pub refused-question-spec : {M : Type 1} → statement M
