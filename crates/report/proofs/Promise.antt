@@ -92,11 +92,8 @@ lines-short (q ∷ qs) t h l =
     let b = lines-short qs (l .1) (p .1) (l .3) in
     rw (l .4, length-append, suc-mul) (omega arith)
 
-pub count-short : (n : ℕ) → n ≤ 200 → length (count-line n) ≤ length (count-line most)
-unfolding most decimal decimal-from
-count-short n h =
-    let e : length (decimal 200) ≡ 3 = refl in
-    omega (arith, count-length n, count-length 200, digits-at-most 2 n (omega arith))
+pub count-short : (n : ℕ) → n ≤ 200 → length (count-line n) ≤ 14
+count-short n h = omega (arith, count-length n, digits-at-most 2 n (omega arith))
 
 small : (r n : ℕ) → (100 ≤ judgement r n → r ≡ 0) → r < 100
 unfolding judgement
@@ -111,25 +108,29 @@ small-refusal : (bs : List ℕ) → sheet-refusal bs < 100
 unfolding judged
 small-refusal bs = small (sheet-refusal bs) (length (questions bs)) (judged-large bs)
 
-pub header-length : length header ≡ 44
-unfolding header line question-word code-word best-word verdict-word short-word bits-word least-word
-header-length = refl
+-- the numbers that the definitions compute to
+pub record Numerals : Type 0 where
+  pub header-is : length header ≡ 44
+  pub line-is : line-most ≡ 95
+  pub most-is : most ≡ 200
+  pub count-is : length (count-line most) ≡ 14
+  pub whole-is : listing-most ≡ 19058
 
-pub few-is : most ≡ 200
-unfolding most
-few-is = refl
+pub numerals : Numerals
+unfolding listing-most line-most most header count-line line decimal decimal-from question-word code-word best-word verdict-word short-word bits-word least-word
+numerals = record { header-is = refl; line-is = refl; most-is = refl; count-is = refl; whole-is = refl }
 
 accepted-short : (qs : List Question) (t : List ℕ) → all-good reliabilities qs ≡ true → length qs ≤ most → Printed 0 qs t → length t ≤ listing-most
 unfolding Printed listing-most
 accepted-short qs t g few p =
+    let n = numerals in
     let a = lines-short qs (p .0) g (p .1) in
-    let b = count-short (length qs) (omega (arith, few-is)) in
+    let b = count-short (length qs) (omega arith) in
     rw (p .2, length-append, length-append) (omega (arith, mul-le-mul-right line-most few))
 
 refused-short : (e : ℕ) (qs : List Question) (t : List ℕ) → suc e < 100 → Printed (suc e) qs t → length t ≤ listing-most
 unfolding Printed listing-most
-refused-short e qs t h p =
-    rw p (omega (arith, refused-length (suc e), digits-at-most 1 (suc e) (omega arith), header-length))
+refused-short e qs t h p = let n = numerals in rw p (omega (arith, refused-length (suc e), digits-at-most 1 (suc e) h))
 
 pub listing-fits : Listing-fits
 unfolding Listing-fits Listing Read-written
