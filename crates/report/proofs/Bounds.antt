@@ -41,13 +41,10 @@ record Flat (c b : ℕ) : Type 0 where
   in-code : is-codeword (width c) (roots c) (flat c b) ≡ true
   bits : all-bits (width c) (flat c b) ≡ replicate (row-long (width c)) b
 
-zeros : (c : ℕ) → code-good c ≡ true → Flat c 0
+flats : (c : ℕ) → code-good c ≡ true → Flat c 0 × Flat c 1
 unfolding flat width roots xor times times-from doubled alpha long row-long bits-of all-bits value-from value-at vanishes symbols-good is-codeword
-zeros = codes (λ c. Flat c 0) (record { in-code = refl; bits = refl }) (record { in-code = refl; bits = refl }) (record { in-code = refl; bits = refl })
-
-ones : (c : ℕ) → code-good c ≡ true → Flat c 1
-unfolding flat width roots xor times times-from doubled alpha long row-long bits-of all-bits value-from value-at vanishes symbols-good is-codeword
-ones = codes (λ c. Flat c 1) (record { in-code = refl; bits = refl }) (record { in-code = refl; bits = refl }) (record { in-code = refl; bits = refl })
+flats =
+    codes (λ c. Flat c 0 × Flat c 1) (record { in-code = refl; bits = refl }, record { in-code = refl; bits = refl }) (record { in-code = refl; bits = refl }, record { in-code = refl; bits = refl }) (record { in-code = refl; bits = refl }, record { in-code = refl; bits = refl })
 
 both-sides : (rs : List ℤ) (k : ℕ) → length rs ≤ k → discrepancy rs (replicate k 0) + discrepancy rs (replicate k 1) ≡ weight-of rs
 unfolding discrepancy weight-of
@@ -98,12 +95,12 @@ module _ {q : Question} (f : Good reliabilities q) where
   best-not-negative : (g : ℤ) → ((ws : List ℕ) → among q ws ≡ true → at-most (value q ws) g ≡ true) → costZero g ≡ 0
   unfolding cost
   best-not-negative g all =
-      let z = zeros (q .code) (f .known) in let o = ones (q .code) (f .known) in
-      let a = at-cost _ (z .in-code) in let b = at-cost _ (o .in-code) in
+      let b = flats (q .code) (f .known) in let z = b .0 in let o = b .1 in
+      let a = at-cost _ (z .in-code) in let d = at-cost _ (o .in-code) in
       let p = at-most-true _ g (all _ (z .in-code)) in let k = at-most-true _ g (all _ (o .in-code)) in
       let s : discrepancy (q .row) (all-bits (width (q .code)) (flat (q .code) 0)) + discrepancy (q .row) (all-bits (width (q .code)) (flat (q .code) 1)) ≡ weight-of (q .row) =
       rw (z .bits, o .bits) (both-sides (q .row) (row-long (width (q .code))) (omega (arith, f .row-length))) in
-      not-negative g (omega (arith, a .parts, b .parts))
+      not-negative g (omega (arith, a .parts, d .parts))
 
   short-length : (ws : List ℕ) (g d : ℤ) → among q ws ≡ true → Greatest (width (q .code)) (among q) (q .row) g →
       at-most g (value q ws) ≡ false → d ≡ g -ℤ value q ws → length (signed d) ≤ 5
