@@ -1,20 +1,20 @@
 -- How long a line is at most: a best metric is not below 0, since it is at least that of the zero word and that of the word of ones, of which one is not.
 -- Assumes nothing.
 use mathlib.Core.Path.{_≡_, refl}
-use mathlib.Core.Bool.{Bool, true, false}
+use mathlib.Core.Bool.{Bool, true}
 use mathlib.Core.List.{List, [], _∷_}
 use Prim.Native.Nat.{ℕ, zero, suc, _+_, _*_, _^_, _-_, _≤_, _<_}
 use native.Mathlib.Omega.{arith}
 use lib.Dec.{lit<, lit≤}
 use lib.ListN.{length, getD, replicate}
-use lib.IntN.{ℤ, pos, negsuc, natAbs, _-ℤ_}
+use lib.IntN.{ℤ, pos, negsuc, natAbs}
 use Rattle.field.specs.Field.{xor, doubled, times-from, times, alpha, width-good}
 use Rattle.field.proofs.Tests.{widths}
 use Rattle.code.specs.Code.{code-good, width, roots, long, value-from, value-at, vanishes, symbols-good, is-codeword}
 use Rattle.code.specs.Bits.{bits-of, all-bits, row-long}
 use Rattle.code.proofs.Accepted.{width-fine}
 use Rattle.code.proofs.Promise.{codes}
-use Rattle.metric.specs.Metric.{metric, at-most, Greatest, Soft, Marked}
+use Rattle.metric.specs.Metric.{metric, at-most, Soft, Marked}
 use Rattle.metric.specs.Cost.{costZero, costOne, discrepancy, weight-of, cost}
 use Rattle.metric.proofs.Integers.{at-most-true, at-most-false, minus, minus-size}
 use Rattle.metric.proofs.Bounds.{word-size}
@@ -88,17 +88,13 @@ module _ {q : Question} (f : Good reliabilities q) where
       rw (b .0 .bits, b .1 .bits) (both-sides (q .row) (row-long (width (q .code))) (omega (arith, f .row-length))) in
       omega (arith, parts _ z, parts _ o, at-most-true _ g (all _ z), at-most-true _ g (all _ o))
 
-  short-length : (ws : List ℕ) (g d : ℤ) → among q ws ≡ true → Greatest (width (q .code)) (among q) (q .row) g →
-      at-most g (value q ws) ≡ false → d ≡ g -ℤ value q ws → length (signed d) ≤ 5
-  short-length ws g d h k lacks e =
-      let x = value q ws in
-      let a : natAbs g ≤ 7620 = rw (← k .met .2) (sized (k .met .0)) in
-      signed-short 4 d (rw e (omega (arith, minus g x, at-most-false g x lacks))) (rw e (omega (arith, minus-size g x, sized ws)))
-
   mark-length : (v : ℕ) (d : ℤ) (ws : List ℕ) → Marked v d (width (q .code)) (among q) (q .row) ws → length (shortfall-field v d) ≤ 5
   unfolding shortfall-field Marked
   mark-length zero d ws k = lit≤ tt
-  mark-length (suc zero) d ws k = let j = k .1 in short-length ws (j .0) d (k .0) (j .1) (j .2) (j .3)
+  mark-length (suc zero) d ws k =
+      let j = k .1 in let g = j .0 in let x = value q ws in
+      let a : natAbs g ≤ 7620 = rw (← j .1 .met .2) (sized (j .1 .met .0)) in
+      signed-short 4 d (rw (j .3) (omega (arith, minus g x, at-most-false g x (j .2)))) (rw (j .3) (omega (arith, minus-size g x, sized ws)))
   mark-length (suc (suc zero)) d ws k = rw (k .2) (signed-at-most 4 (pos 0) refl (lit< tt))
   mark-length (suc (suc (suc v))) d ws k = absurd k
 

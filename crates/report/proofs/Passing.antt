@@ -29,10 +29,6 @@ use Rattle.report.specs.Calls.{line-most}
 use Rattle.report.specs.Within.{code-at, Holds, Put-lines, Begins, Rooms, Passed, Sheet-taken}
 
 -- ---- one question
-filled-found : {A : Type 0} {a : Yield} {c n : ℕ} (q o : List A) → a ≡ Found c n → filled a q o ≡ q
-unfolding filled
-filled-found q o e = rw e
-
 clash : {A : Type 0} → _≡_ {A = ℕ} 0 1 → A
 clash e = absurd (omega arith)
 
@@ -62,10 +58,10 @@ module _ {bs : List ℕ} {i at b o : ℕ} {s : Step} {rs rs' : List ℤ} {ws ws'
 
     -- which is the one that stands there
     pub here : question c n rs' ws' ≡ question-here reliabilities bs at
-    unfolding question-here question-in
+    unfolding question-here question-in filled
     here =
         let x : n ≡ low (getD (as-words bs) at 0) = cc answer-is in
-        rw (code-is, x, y .row-is ∙ filled-found _ rs answer-is, y .word-is ∙ filled-found _ ws answer-is)
+        rw (code-is, x, y .row-is, y .word-is, answer-is)
 
     pub holds : Holds (question c n rs' ws') b o
     holds = record { good = rw here (k .good); best-is = rw code-is (l .best-is); soft-is = rw code-is (l .soft-is) }
