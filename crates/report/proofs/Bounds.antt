@@ -1,27 +1,23 @@
 -- How long a line is at most: a best metric is not below 0, since it is at least that of the zero word and that of the word of ones, of which one is not.
 -- Assumes nothing.
 use mathlib.Core.Path.{_≡_, refl}
-use mathlib.Core.Bool.{Bool, true, false}
+use mathlib.Core.Bool.{Bool, true}
 use mathlib.Core.List.{List, [], _∷_}
 use Prim.Native.Nat.{ℕ, zero, suc, _+_, _*_, _^_, _-_, _≤_, _<_}
-use native.Mathlib.Nat.{mul-le-mul-right}
 use native.Mathlib.Omega.{arith}
 use lib.Dec.{lit<, lit≤}
 use lib.ListN.{length, getD, replicate}
-use lib.IntN.{ℤ, pos, negsuc, natAbs, _-ℤ_}
+use lib.IntN.{ℤ, pos, negsuc, natAbs}
 use Rattle.field.specs.Field.{xor, doubled, times-from, times, alpha, width-good}
 use Rattle.field.proofs.Tests.{widths}
 use Rattle.code.specs.Code.{code-good, width, roots, long, value-from, value-at, vanishes, symbols-good, is-codeword}
 use Rattle.code.specs.Bits.{bits-of, all-bits, row-long}
 use Rattle.code.proofs.Accepted.{width-fine}
 use Rattle.code.proofs.Promise.{codes}
-use Rattle.metric.specs.Row.{row-bound}
-use Rattle.metric.specs.Metric.{metric, at-most, Greatest, Soft, Marked}
-use Rattle.metric.specs.Promise.{Soft-width}
-use Rattle.metric.proofs.Promise.{soft-width}
+use Rattle.metric.specs.Metric.{metric, at-most, Soft, Marked}
 use Rattle.metric.specs.Cost.{costZero, costOne, discrepancy, weight-of, cost}
-use Rattle.metric.proofs.Integers.{at-most-true, at-most-false, minus}
-use Rattle.metric.proofs.Bounds.{weight-le, cost-le}
+use Rattle.metric.proofs.Integers.{at-most-true, at-most-false, minus, minus-size}
+use Rattle.metric.proofs.Bounds.{word-size}
 use Rattle.metric.proofs.Costs.{codeword-bits, top-own, top-parts}
 use Rattle.sheet.specs.Sheet.{Question, reliabilities}
 use Rattle.sheet.proofs.Forms.{row-long-le}
@@ -41,13 +37,10 @@ record Flat (c b : ℕ) : Type 0 where
   in-code : is-codeword (width c) (roots c) (flat c b) ≡ true
   bits : all-bits (width c) (flat c b) ≡ replicate (row-long (width c)) b
 
-zeros : (c : ℕ) → code-good c ≡ true → Flat c 0
+flats : (c : ℕ) → code-good c ≡ true → Flat c 0 × Flat c 1
 unfolding flat width roots xor times times-from doubled alpha long row-long bits-of all-bits value-from value-at vanishes symbols-good is-codeword
-zeros = codes (λ c. Flat c 0) (record { in-code = refl; bits = refl }) (record { in-code = refl; bits = refl }) (record { in-code = refl; bits = refl })
-
-ones : (c : ℕ) → code-good c ≡ true → Flat c 1
-unfolding flat width roots xor times times-from doubled alpha long row-long bits-of all-bits value-from value-at vanishes symbols-good is-codeword
-ones = codes (λ c. Flat c 1) (record { in-code = refl; bits = refl }) (record { in-code = refl; bits = refl }) (record { in-code = refl; bits = refl })
+flats =
+    codes (λ c. Flat c 0 × Flat c 1) (record { in-code = refl; bits = refl }, record { in-code = refl; bits = refl }) (record { in-code = refl; bits = refl }, record { in-code = refl; bits = refl }) (record { in-code = refl; bits = refl }, record { in-code = refl; bits = refl })
 
 both-sides : (rs : List ℤ) (k : ℕ) → length rs ≤ k → discrepancy rs (replicate k 0) + discrepancy rs (replicate k 1) ≡ weight-of rs
 unfolding discrepancy weight-of
@@ -62,18 +55,9 @@ row-some = widths (λ m. 0 < row-long m) (lit< tt) (lit< tt)
 code-digit : (c : ℕ) → code-good c ≡ true → c < 10
 code-digit = codes (λ c. c < 10) (lit< tt) (lit< tt) (lit< tt)
 
-not-negative : (g : ℤ) → costZero g ≤ costOne g → costZero g ≡ 0
-not-negative (pos n) h = refl
-not-negative (negsuc n) h = absurd (omega arith)
-
-size-le : (z : ℤ) (k : ℕ) → costOne z ≤ k + costZero z → costZero z ≤ costOne z + k → natAbs z ≤ k
-size-le (pos n) k p q = omega arith
-size-le (negsuc n) k p q = omega arith
-
--- a metric lies at its cost
-record At (rs : List ℤ) (z : ℤ) (d : ℕ) : Type 0 where
-  below : d ≤ weight-of rs
-  parts : costOne z + 2 * d ≡ costZero z + weight-of rs
+signed-short : (k : ℕ) (z : ℤ) → costZero z ≤ costOne z → natAbs z < 10 ^ suc k → length (signed z) ≤ suc k
+signed-short k (pos n) h l = signed-at-most k (pos n) refl l
+signed-short k (negsuc n) h l = absurd (omega arith)
 
 -- ---- a question that a sheet can hold
 abbrev among : Question → List ℕ → Bool
@@ -86,58 +70,46 @@ module _ {q : Question} (f : Good reliabilities q) where
   row-few : length (q .row) ≤ 60
   row-few = omega (arith, f .row-length, row-long-le (width (q .code)) (width-fine (q .code)))
 
-  weight-most : weight-of (q .row) ≤ 7620
-  weight-most = omega (arith, weight-le row-bound (q .row) (f .row-fine), mul-le-mul-right 127 row-few)
+  sized : (ws : List ℕ) → natAbs (value q ws) ≤ 7620
+  sized ws = word-size (width (q .code)) (q .row) ws row-few (f .row-fine)
 
-  at-cost : (ws : List ℕ) → among q ws ≡ true → At (q .row) (value q ws) (cost (width (q .code)) (q .row) ws)
-  at-cost ws h =
+  -- a codeword's metric lies at its cost
+  parts : (ws : List ℕ) → among q ws ≡ true → costOne (value q ws) + 2 * cost (width (q .code)) (q .row) ws ≡ costZero (value q ws) + weight-of (q .row)
+  parts ws h =
       let m = width (q .code) in
-      record { below = cost-le m (q .row) ws; parts = rw (top-own m (q .row) ws (codeword-bits m (roots (q .code)) (q .row) (f .row-length) ws h)) (top-parts (q .row) (cost m (q .row) ws)) }
+      rw (top-own m (q .row) ws (codeword-bits m (roots (q .code)) (q .row) (f .row-length) ws h)) (top-parts (q .row) (cost m (q .row) ws))
 
   -- no negative metric is the greatest
-  best-not-negative : (g : ℤ) → ((ws : List ℕ) → among q ws ≡ true → at-most (value q ws) g ≡ true) → costZero g ≡ 0
+  not-negative : (g : ℤ) → ((ws : List ℕ) → among q ws ≡ true → at-most (value q ws) g ≡ true) → costZero g ≤ costOne g
   unfolding cost
-  best-not-negative g all =
-      let z = zeros (q .code) (f .known) in let o = ones (q .code) (f .known) in
-      let a = at-cost _ (z .in-code) in let b = at-cost _ (o .in-code) in
-      let p = at-most-true _ g (all _ (z .in-code)) in let k = at-most-true _ g (all _ (o .in-code)) in
+  not-negative g all =
+      let b = flats (q .code) (f .known) in let z = b .0 .in-code in let o = b .1 .in-code in
       let s : discrepancy (q .row) (all-bits (width (q .code)) (flat (q .code) 0)) + discrepancy (q .row) (all-bits (width (q .code)) (flat (q .code) 1)) ≡ weight-of (q .row) =
-      rw (z .bits, o .bits) (both-sides (q .row) (row-long (width (q .code))) (omega (arith, f .row-length))) in
-      not-negative g (omega (arith, a .parts, b .parts))
-
-  short-length : (ws : List ℕ) (g d : ℤ) → among q ws ≡ true → Greatest (width (q .code)) (among q) (q .row) g →
-      at-most g (value q ws) ≡ false → d ≡ g -ℤ value q ws → length (signed d) ≤ 5
-  short-length ws g d h k lacks e =
-      let x = value q ws in
-      let b = at-cost ws h in
-      let vs = k .met .0 in
-      let a : At (q .row) g (cost (width (q .code)) (q .row) vs) = rw (← k .met .2) (at-cost vs (k .met .1)) in
-      let j = minus g x in
-      let l = at-most-false g x lacks in
-      let z : costZero (g -ℤ x) ≡ 0 = not-negative (g -ℤ x) (omega arith) in
-      signed-at-most 4 d (rw e z) (rw e (omega (arith, a .parts, b .parts, a .below, b .below, weight-most)))
+      rw (b .0 .bits, b .1 .bits) (both-sides (q .row) (row-long (width (q .code))) (omega (arith, f .row-length))) in
+      omega (arith, parts _ z, parts _ o, at-most-true _ g (all _ z), at-most-true _ g (all _ o))
 
   mark-length : (v : ℕ) (d : ℤ) (ws : List ℕ) → Marked v d (width (q .code)) (among q) (q .row) ws → length (shortfall-field v d) ≤ 5
   unfolding shortfall-field Marked
   mark-length zero d ws k = lit≤ tt
-  mark-length (suc zero) d ws k = let j = k .1 in short-length ws (j .0) d (k .0) (j .1) (j .2) (j .3)
+  mark-length (suc zero) d ws k =
+      let j = k .1 in let g = j .0 in let x = value q ws in
+      let a : natAbs g ≤ 7620 = rw (← j .1 .met .2) (sized (j .1 .met .0)) in
+      signed-short 4 d (rw (j .3) (omega (arith, minus g x, at-most-false g x (j .2)))) (rw (j .3) (omega (arith, minus-size g x, sized ws)))
   mark-length (suc (suc zero)) d ws k = rw (k .2) (signed-at-most 4 (pos 0) refl (lit< tt))
   mark-length (suc (suc (suc v))) d ws k = absurd k
 
   soft-size : (s : ℤ) (b : ℕ) → Soft (width (q .code)) (among q) (q .row) b s → natAbs s ≤ 15240
-  unfolding Soft-width
   soft-size s b o =
-      let w = soft-width (width (q .code)) (among q) (q .row) b (o .of-zero) (o .of-one) row-few (f .row-fine) (o .greatest-zero) (o .greatest-one) in
-      let z = o .of-zero -ℤ o .of-one in
-      rw (o .difference) (size-le z 15240 (omega (arith, at-most-true z (pos 15240) (w .0))) (omega (arith, at-most-true (negsuc 15239) z (w .1))))
+      let x : natAbs (o .of-zero) ≤ 7620 = rw (o .greatest-zero .met .3) at (sized (o .greatest-zero .met .0)) in
+      let y : natAbs (o .of-one) ≤ 7620 = rw (o .greatest-one .met .3) at (sized (o .greatest-one .met .0)) in
+      rw (o .difference) (omega (arith, minus-size (o .of-zero) (o .of-one)))
 
   -- the length of its line
   pub line-fits : {t : List ℕ} → Line q t → length t ≤ line-most
   unfolding line-most
   line-fits l =
       let g = l .best in let so = l .soft in let p = l .decoded in
-      let a : At (q .row) g (cost (width (q .code)) (q .row) (l .word)) = rw (p .own) (at-cost (l .word) (p .word)) in
-      let z = best-not-negative g (p .most) in
+      let a : natAbs g ≤ 7620 = rw (p .own) (sized (l .word)) in
       let o = p .softly 0 (omega (arith, row-some (width (q .code)) (width-fine (q .code)), f .row-length)) in
       let m : least-magnitude so < 10 ^ 5 = omega (arith, least-at-most so 15240 (soft-size (getD so 0 (pos 0)) 0 o)) in
       rw (l .text-is)
@@ -146,7 +118,7 @@ module _ {q : Question} (f : Good reliabilities q) where
         question-length (q .number) (q .code) g (l .verdict) (l .shortfall) so,
         digits-at-most 7 (q .number) (omega (arith, f .small)),
         digits-at-most 0 (q .code) (code-digit (q .code) (f .known)),
-        signed-at-most 3 g z (omega (arith, a .parts, weight-most)),
+        signed-short 3 g (not-negative g (p .most)) (omega arith),
         verdict-at-most (l .verdict),
         mark-length (l .verdict) (l .shortfall) (q .word) (l .marked),
         bits-length so,

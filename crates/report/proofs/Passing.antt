@@ -26,17 +26,13 @@ use Rattle.text.proofs.Writing.{nothing, then, written-length}
 use Rattle.report.specs.declared.Place.{Place}
 use Rattle.report.specs.Listing.{Line, Lines}
 use Rattle.report.specs.Calls.{line-most}
-use Rattle.report.specs.Within.{code-at, Holds, Put-lines, Asked, Rooms, Passed, Sheet-taken}
+use Rattle.report.specs.Within.{code-at, Holds, Put-lines, Begins, Rooms, Passed, Sheet-taken}
 
 -- ---- one question
-filled-found : {A : Type 0} {a : Yield} {c n : ℕ} (q o : List A) → a ≡ Found c n → filled a q o ≡ q
-unfolding filled
-filled-found q o e = rw e
-
 clash : {A : Type 0} → _≡_ {A = ℕ} 0 1 → A
 clash e = absurd (omega arith)
 
-module _ {bs : List ℕ} {i at b o : ℕ} {s : Step} {rs rs' : List ℤ} {ws ws' : List ℕ} (k : Asked bs i at) (l : Rooms (code-at bs at) (length rs) (length ws) b o) (y : Place-says reliabilities bs at s rs rs' ws ws') where
+module _ {bs : List ℕ} {i at b o : ℕ} {s : Step} {rs rs' : List ℤ} {ws ws' : List ℕ} (k : Begins bs i at) (l : Rooms (code-at bs at) (length rs) (length ws) b o) (y : Place-says reliabilities bs at s rs rs' ws ws') where
   is-found : answered (getD (as-words bs) at 0) (length rs) (length ws) ≡ Found (code-at bs at) (low (getD (as-words bs) at 0))
   unfolding answered
   is-found = rw (eq-eqb _ _ (k .head), eq-eqb _ _ (l .row-is), eq-eqb _ _ (l .word-is))
@@ -62,10 +58,10 @@ module _ {bs : List ℕ} {i at b o : ℕ} {s : Step} {rs rs' : List ℤ} {ws ws'
 
     -- which is the one that stands there
     pub here : question c n rs' ws' ≡ question-here reliabilities bs at
-    unfolding question-here question-in
+    unfolding question-here question-in filled
     here =
         let x : n ≡ low (getD (as-words bs) at 0) = cc answer-is in
-        rw (code-is, x, y .row-is ∙ filled-found _ rs answer-is, y .word-is ∙ filled-found _ ws answer-is)
+        rw (code-is, x, y .row-is, y .word-is, answer-is)
 
     pub holds : Holds (question c n rs' ws') b o
     holds = record { good = rw here (k .good); best-is = rw code-is (l .best-is); soft-is = rw code-is (l .soft-is) }
@@ -83,38 +79,29 @@ good-at [] rest q i g e = absurd (omega (arith, ap length e, length-drop {A = Qu
 good-at (p ∷ qs) rest q zero g e = let z : q ≡ p = cc in rw z (both (question-good reliabilities p) (all-good reliabilities qs) g .0)
 good-at (p ∷ qs) rest q (suc i) g e = good-at qs rest q i (both (question-good reliabilities p) (all-good reliabilities qs) g .1) e
 
-pub record Next-question (bs : List ℕ) (i at : ℕ) : Type 0 where
-  pub asked : Asked bs i at
-  pub rest : drop i (questions bs) ≡ question-here reliabilities bs at ∷ drop (suc i) (questions bs)
-  pub next : Stands bs (suc i) (behind reliabilities (code-at bs at) at)
-
-next : {bs : List ℕ} {i at : ℕ} → all-good reliabilities (questions bs) ≡ true → i < length (questions bs) → Stands bs i at → Next-question bs i at
-next {bs} {i} {at} g l t = by (cases t)
+more : {bs : List ℕ} {i at : ℕ} (t : Stands bs i at) → i < length (questions bs) → More t
+more {bs} {i} t l = by (cases t)
   where
-    by : Done t ⊎ More t → Next-question bs i at
+    by : Done t ⊎ More t → More t
     by (inl d) = absurd (omega (arith, length-drop i (questions bs), ap length (d .none)))
-    by (inr m) = record { asked = record { stands = t; head = m .head; good = good-at (questions bs) _ _ i g (m .list) }; rest = m .list; next = m .next }
+    by (inr m) = m
 
--- ---- lines
-take-next : {A : Type 0} (l r : List A) (x : A) (i : ℕ) → drop i l ≡ x ∷ r → take (suc i) l ≡ take i l ++ (x ∷ [])
-take-next {A} [] r x i e = absurd (omega (arith, ap length e, length-drop {A = A} i []))
-take-next (y ∷ l) r x zero e = let z : y ≡ x = cc in ap (λ w. w ∷ []) z
-take-next (y ∷ l) r x (suc i) e = ap (λ w. y ∷ w) (take-next l r x i e)
-
-lines-more : (qs : List Question) (q : Question) (s t : List ℕ) → Lines qs s → Line q t → Lines (qs ++ (q ∷ [])) (s ++ t)
+-- its line follows the lines before
+lines-next : (qs rest : List Question) (q : Question) (i : ℕ) (s : List ℕ) {t : List ℕ} → drop i qs ≡ q ∷ rest → Lines (take i qs) s → Line q t → Lines (take (suc i) qs) (s ++ t)
 unfolding Lines
-lines-more [] q s t v w = (t, [], w, refl, rw v (sym (append-nil t)))
-lines-more (p ∷ qs) q s t v w = (v .0, v .1 ++ t, v .2, lines-more qs q (v .1) t (v .3) w, rw (v .4) (append-assoc (v .0) (v .1) t))
+lines-next [] rest q i s e v w = absurd (omega (arith, ap length e, length-drop {A = Question} i []))
+lines-next (p ∷ qs) rest q zero s {t} e v w = let z : p ≡ q = cc in (t, [], rw z w, refl, rw v (sym (append-nil t)))
+lines-next (p ∷ qs) rest q (suc i) s {t} e v w = (v .0, v .1 ++ t, v .2, lines-next qs rest q i (v .1) e (v .3) w, rw (v .4) (append-assoc (v .0) (v .1) t))
 
 -- ---- the walk over the sheet
-pub record Walked (bs : List ℕ) (count at : ℕ) (o p : List ℕ) (here : Place) (i : ℕ) : Type 0 where
+pub record Walked-sheet (bs : List ℕ) (count at : ℕ) (o p : List ℕ) (here : Place) (i : ℕ) : Type 0 where
   pub inside : i ≤ count
   pub stands : Stands bs i (here .word)
   pub near : here .text ≤ at + i * line-most
   pub lines : Put-lines (take i (questions bs)) at o p (here .text)
 
 module _ {bs o : List ℕ} {count at : ℕ} (t : Sheet-taken bs count) (r : at + count * line-most ≤ length o) where
-  pub walk-first : Walked bs count at o o (record { word = 0; text = at }) 0
+  pub walk-first : Walked-sheet bs count at o o (record { word = 0; text = at }) 0
   unfolding Lines
   walk-first =
       record {
@@ -124,16 +111,19 @@ module _ {bs o : List ℕ} {count at : ℕ} (t : Sheet-taken bs count) (r : at +
         lines = record { text = []; lines = refl; written = nothing at o (omega arith) };
       }
 
-  module _ {p : List ℕ} {here : Place} {i : ℕ} (w : Walked bs count at o p here i) where
+  module _ {p : List ℕ} {here : Place} {i : ℕ} (w : Walked-sheet bs count at o p here i) where
     pub walk-room : i < count → here .text + line-most ≤ length p
     walk-room l = omega (arith, w .near, written-length (w .lines .written), mul-le-mul-right line-most l, suc-mul i line-most)
 
-    pub walk-next : i < count → Next-question bs i (here .word)
-    walk-next l = next (t .good) (omega (arith, t .count-is)) (w .stands)
+    here-is : i < count → More (w .stands)
+    here-is l = more (w .stands) (omega (arith, t .count-is))
 
-    pub walk-more : {q : List ℕ} {to : Place} → i < count → Passed bs here to p q → Walked bs count at o q to (i + 1)
+    pub walk-asked : i < count → Begins bs i (here .word)
+    walk-asked l = let m = here-is l in record { stands = w .stands; head = m .head; good = good-at (questions bs) _ _ i (t .good) (m .list) }
+
+    pub walk-more : {q : List ℕ} {to : Place} → i < count → Passed bs here to p q → Walked-sheet bs count at o q to (i + 1)
     walk-more l x =
-        let k = walk-next l in let v = w .lines in let y = x .line in
+        let k = here-is l in let v = w .lines in let y = x .line in
         record {
           inside = omega arith;
           stands = rw (add-one, x .next) (k .next);
@@ -141,7 +131,7 @@ module _ {bs o : List ℕ} {count at : ℕ} (t : Sheet-taken bs count) (r : at +
           lines =
               record {
                 text = v .text ++ y .text;
-                lines = rw (add-one, take-next (questions bs) _ _ i (k .rest)) (lines-more (take i (questions bs)) _ (v .text) (y .text) (v .lines) (y .line));
+                lines = rw add-one (lines-next (questions bs) _ _ i (v .text) (k .list) (v .lines) (y .line));
                 written = then (v .written) (y .written);
               };
         }

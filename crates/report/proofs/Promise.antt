@@ -2,12 +2,11 @@
 -- Assumes nothing.
 use mathlib.Core.Path.{_≡_, refl, sym, ap, ap₂, _∙_}
 use mathlib.Core.List.{List, [], _∷_, _++_}
-use mathlib.Core.Bool.{Bool, true, false}
+use mathlib.Core.Logic.{_⊎_, inl, inr}
+use mathlib.Core.Bool.{true}
 use Prim.Native.Nat.{ℕ, zero, suc, _*_, _≤_, _<_}
 use native.Mathlib.Nat.{suc-mul, mul-le-mul-right}
 use native.Mathlib.Omega.{arith}
-use borrow.Author.Tests.{ltb-true, ltb-false}
-use lib.Dec.{ltb, lit<}
 use lib.ListN.{length, length-append}
 use Rattle.code.specs.Code.{width, roots, is-codeword}
 use Rattle.code.proofs.Accepted.{width-fine, roots-few}
@@ -16,7 +15,7 @@ use Rattle.metric.proofs.Promise.{codewords-for, decoded-there, decoded-one, ma
 use Rattle.sheet.specs.Sheet.{Question, reliabilities, most, question-good, all-good, sheet-refusal, questions}
 use Rattle.sheet.specs.Calls.{judgement, judged}
 use Rattle.sheet.specs.Promise.{Read-written}
-use Rattle.sheet.proofs.Items.{both}
+use Rattle.sheet.proofs.Items.{both, le-or-lt}
 use Rattle.sheet.proofs.Trips.{good-parts, read-written}
 use Rattle.sheet_reader.proofs.Places.{judged-large}
 use Rattle.text.specs.Text.{header, question-line, count-line, refused-line, decimal-from, decimal, line, question-word, code-word, best-word, verdict-word, short-word, bits-word, least-word}
@@ -92,49 +91,38 @@ lines-short (q ∷ qs) t h l =
     let b = lines-short qs (l .1) (p .1) (l .3) in
     rw (l .4, length-append, suc-mul) (omega arith)
 
-pub count-short : (n : ℕ) → n ≤ 200 → length (count-line n) ≤ length (count-line most)
-unfolding most decimal decimal-from
-count-short n h =
-    let e : length (decimal 200) ≡ 3 = refl in
-    omega (arith, count-length n, count-length 200, digits-at-most 2 n (omega arith))
+pub count-short : (n : ℕ) → n ≤ 200 → length (count-line n) ≤ 14
+count-short n h = omega (arith, count-length n, digits-at-most 2 n (omega arith))
 
-small : (r n : ℕ) → (100 ≤ judgement r n → r ≡ 0) → r < 100
-unfolding judgement
-small zero n h = lit< tt
-small (suc e) n h = go (ltb (suc e) 100) refl
+-- the numbers that the definitions compute to
+pub record Numerals : Type 0 where
+  pub header-is : length header ≡ 44
+  pub line-is : line-most ≡ 95
+  pub most-is : most ≡ 200
+  pub count-is : length (count-line most) ≡ 14
+  pub whole-is : listing-most ≡ 19058
+
+pub numerals : Numerals
+unfolding listing-most line-most most header count-line line decimal decimal-from question-word code-word best-word verdict-word short-word bits-word least-word
+numerals = record { header-is = refl; line-is = refl; most-is = refl; count-is = refl; whole-is = refl }
+
+small : (bs : List ℕ) (e : ℕ) → sheet-refusal bs ≡ suc e → suc e < 100
+unfolding judged judgement
+small bs e r = by (le-or-lt 100 (suc e))
   where
-    go : (b : Bool) → ltb (suc e) 100 ≡ b → suc e < 100
-    go true p = ltb-true (suc e) 100 p
-    go false p = absurd (omega (arith, h (ltb-false (suc e) 100 p)))
-
-small-refusal : (bs : List ℕ) → sheet-refusal bs < 100
-unfolding judged
-small-refusal bs = small (sheet-refusal bs) (length (questions bs)) (judged-large bs)
-
-pub header-length : length header ≡ 44
-unfolding header line question-word code-word best-word verdict-word short-word bits-word least-word
-header-length = refl
-
-pub few-is : most ≡ 200
-unfolding most
-few-is = refl
-
-accepted-short : (qs : List Question) (t : List ℕ) → all-good reliabilities qs ≡ true → length qs ≤ most → Printed 0 qs t → length t ≤ listing-most
-unfolding Printed listing-most
-accepted-short qs t g few p =
-    let a = lines-short qs (p .0) g (p .1) in
-    let b = count-short (length qs) (omega (arith, few-is)) in
-    rw (p .2, length-append, length-append) (omega (arith, mul-le-mul-right line-most few))
-
-refused-short : (e : ℕ) (qs : List Question) (t : List ℕ) → suc e < 100 → Printed (suc e) qs t → length t ≤ listing-most
-unfolding Printed listing-most
-refused-short e qs t h p =
-    rw p (omega (arith, refused-length (suc e), digits-at-most 1 (suc e) (omega arith), header-length))
+    by : (100 ≤ suc e) ⊎ (suc e < 100) → suc e < 100
+    by (inl h) = absurd (omega (arith, judged-large bs (rw r h)))
+    by (inr h) = h
 
 pub listing-fits : Listing-fits
-unfolding Listing-fits Listing Read-written
+unfolding Listing-fits Listing Read-written Printed listing-most
 listing-fits bs t h l = go (sheet-refusal bs) refl l
   where
     go : (e : ℕ) → sheet-refusal bs ≡ e → Printed e (questions bs) t → length t ≤ listing-most
-    go zero r p = let b = read-written bs h r in accepted-short (questions bs) t (b .0) (b .1) p
-    go (suc e) r p = refused-short e (questions bs) t (omega (arith, small-refusal bs)) p
+    go zero r p =
+        let n = numerals in
+        let b = read-written bs h r in
+        let a = lines-short (questions bs) (p .0) (b .0) (p .1) in
+        let k = count-short (length (questions bs)) (omega (arith, b .1)) in
+        rw (p .2, length-append, length-append) (omega (arith, mul-le-mul-right line-most (b .1)))
+    go (suc e) r p = let n = numerals in rw p (omega (arith, refused-length (suc e), digits-at-most 1 (suc e) (small bs e r)))

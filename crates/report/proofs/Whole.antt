@@ -10,12 +10,12 @@ use borrow.Author.Tests.{eq-eqb, ne-eqb, lt-ltb}
 use lib.Dec.{eqb}
 use lib.ListN.{length, getD, drop, length-append}
 use Rattle.refusal.specs.Refusal.{unless, Outcome}
-use Rattle.sheet.specs.Sheet.{most, sheet-refusal, questions}
+use Rattle.sheet.specs.Sheet.{sheet-refusal, questions}
 use Rattle.sheet.specs.Calls.{judgement, judged}
 use Rattle.sheet.specs.Promise.{all-bytes, Read-written}
 use Rattle.sheet.proofs.Trips.{read-written}
 use Rattle.sheet_reader.proofs.Places.{judged-large}
-use Rattle.text.specs.Text.{decimal-from, decimal, line, question-word, code-word, best-word, verdict-word, short-word, bits-word, least-word, header, count-line, refused-line}
+use Rattle.text.specs.Text.{header, count-line, refused-line}
 use Rattle.text.specs.Within.{put, Written}
 use Rattle.text.proofs.Decimal.{digits-at-most}
 use Rattle.text.proofs.Lines.{refused-length}
@@ -24,29 +24,17 @@ use Rattle.report.specs.declared.Listed.{Listed}
 use Rattle.report.specs.Listing.{Printed, Listing}
 use Rattle.report.specs.Calls.{line-most, listing-most, List-says}
 use Rattle.report.specs.Within.{Put-lines, Sheet-taken}
-use Rattle.report.proofs.Promise.{lines-short, count-short, header-length, few-is}
-
-most-is : listing-most ≡ 19058
-unfolding listing-most line-most most header count-line line decimal decimal-from question-word code-word best-word verdict-word short-word bits-word least-word
-most-is = refl
-
-last-is : length (count-line most) ≡ 14
-unfolding most count-line line decimal decimal-from question-word
-last-is = refl
-
-line-is : line-most ≡ 95
-unfolding line-most
-line-is = refl
+use Rattle.report.proofs.Promise.{lines-short, count-short, numerals}
 
 pub wrong-length : (bs o : List ℕ) → (length o ≡ 19058 → ⊥) → List-says bs (record { number = 4; long = 0 }) o o
 unfolding List-says Outcome unless
-wrong-length bs o h = rw (ne-eqb (length o) listing-most (λ e. h (e ∙ most-is))) (refl, (refl, refl))
+wrong-length bs o h = rw (ne-eqb (length o) listing-most (λ e. h (e ∙ numerals .whole-is))) (refl, (refl, refl))
 
 -- a text at the start of the output
 listed : (bs t o p : List ℕ) (n : ℕ) → length o ≡ 19058 → Listing bs t → Written 0 t o p n → List-says bs (record { number = 0; long = n }) o p
 unfolding List-says Outcome unless put
 listed bs t o p n h l w =
-    rw (eq-eqb (length o) listing-most (h ∙ sym most-is))
+    rw (eq-eqb (length o) listing-most (h ∙ sym (numerals .whole-is)))
     (refl, (t, l, w .next-is ∙ zero-add (length t), w .now-is ∙ ap (λ k. t ++ drop k o) (zero-add (length t))))
 
 -- ---- a refused sheet
@@ -63,50 +51,35 @@ unfolding judged Listing
 refused bs o p j n h e l w = listed bs (refused-line j) o p n h (rw e (refused-listing bs (sheet-refusal bs) (length (questions bs)) (rw e at l))) w
 
 -- ---- an accepted sheet
-judgement-count : (r n : ℕ) → r ≡ 0 → judgement r n - 100 ≡ n
-unfolding judgement
-judgement-count zero n e = omega arith
-judgement-count (suc r) n e = absurd (omega arith)
-
 bytes : (bs : List ℕ) → ((i : ℕ) → i < length bs → getD bs i 0 < 256) → all-bytes bs ≡ true
 unfolding all-bytes
 bytes [] f = refl
 bytes (b ∷ bs) f = ap₂ _&&_ (lt-ltb b 256 (f 0 (omega arith))) (bytes bs (λ i h. f (suc i) (omega arith)))
 
 pub counted : {bs : List ℕ} {j : ℕ} → ((i : ℕ) → i < length bs → getD bs i 0 < 256) → j ≡ judged bs → 100 ≤ j → Sheet-taken bs (j - 100)
-unfolding judged Read-written
-counted {bs} f e h =
+unfolding judged judgement Read-written
+counted {bs} {j} f e h =
     let r : sheet-refusal bs ≡ 0 = judged-large bs (rw e at h) in
     let w = read-written bs (bytes bs f) r in
-    let c = ap (λ x. x - 100) e ∙ judgement-count (sheet-refusal bs) (length (questions bs)) r in
+    let c : j - 100 ≡ length (questions bs) = rw (e, r) (omega arith) in
     record { none = r; count-is = c; few = rw c (w .1); good = w .0 }
 
 pub header-room : {k : ℕ} → k ≡ 19058 → 0 + length header ≤ k
-header-room e = omega (arith, header-length)
+header-room e = let n = numerals in omega arith
 
 module _ {bs o p : List ℕ} {n a : ℕ} (t : Sheet-taken bs n) (e : length o ≡ 19058) (w : Written 0 header o p a) where
   few : n ≤ 200
-  few = omega (arith, t .few, few-is)
+  few = let k = numerals in omega (arith, t .few)
 
   pub lines-room : a + n * line-most ≤ length p
-  lines-room = omega (arith, w .next-is, header-length, written-length w, line-is, mul-le-mul-right line-most few)
+  lines-room = let k = numerals in omega (arith, w .next-is, written-length w, mul-le-mul-right line-most few)
 
   module _ {q : List ℕ} {b : ℕ} (v : Put-lines (questions bs) a p q b) where
     pub count-room : b + length (count-line n) ≤ length q
     count-room =
+        let k = numerals in
         let s : length (v .text) ≤ n * line-most = rw (t .count-is) (lines-short (questions bs) (v .text) (t .good) (v .lines)) in
-        omega (
-          arith,
-          w .next-is,
-          header-length,
-          written-length w,
-          v .written .next-is,
-          written-length (v .written),
-          mul-le-mul-right line-most few,
-          line-is,
-          count-short n few,
-          last-is,
-        )
+        omega (arith, w .next-is, written-length w, v .written .next-is, written-length (v .written), mul-le-mul-right line-most few, count-short n few)
 
     pub accepted : {k : ℕ} {u : List ℕ} → Written b (count-line n) q u k → List-says bs (record { number = 0; long = k }) o u
     unfolding Listing Printed

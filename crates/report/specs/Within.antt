@@ -37,7 +37,7 @@ pub record Put-lines (qs : List Question) (at : ℕ) (o p : List ℕ) (next : �
   pub written : Written at text o p next
 
 -- question i of an accepted sheet begins at a word, and a sheet can hold it
-pub record Asked (bs : List ℕ) (i word : ℕ) : Type 0 where
+pub record Begins (bs : List ℕ) (i word : ℕ) : Type 0 where
   pub stands : Stands bs i word
   pub head : kind (getD (as-words bs) word 0) ≡ head-kind
   pub good : question-good reliabilities (question-here reliabilities bs word) ≡ true

@@ -5,7 +5,7 @@ ghost use Prim.Native.Nat.{ℕ, _+_, _*_, _≤_};
 ghost use lib.ListN.{length};
 ghost use Rattle.sheet.specs.Sheet.{question, questions};
 ghost use Rattle.report.specs.Calls.{line-most, List-says};
-ghost use Rattle.report.specs.Within.{code-at, Holds, Asked, Rooms, Passed, Sheet-taken, Put-line, Put-lines};
+ghost use Rattle.report.specs.Within.{code-at, Holds, Begins, Rooms, Passed, Sheet-taken, Put-line, Put-lines};
 
 // 0 and the number of bytes of the text, or the number of a refusal and 0.
 #[repr(C)]
@@ -59,7 +59,7 @@ fn put_read(
     soft: &mut [i16],
     out: &mut [u8],
 ) -> Place
-    requires { ⌜ ((i : ℕ) × Asked (now sheet) i (place .word)) ⌝ }
+    requires { ⌜ ((i : ℕ) × Begins (now sheet) i (place .word)) ⌝ }
     requires { ⌜ Rooms (code-at (now sheet) (place .word)) (length (now row)) (length (now word)) (length (now best)) (length (now soft)) ⌝ }
     requires { ⌜ place .text + line-most ≤ length (now out) ⌝ }
     ensures { λ r. ⌜ Passed (now (sheet .entry)) place r (now (out .entry)) (now (out .exit)) ⌝ }
@@ -80,7 +80,7 @@ fn put_read(
 
 // The same, with room of its own.
 fn put_next(sheet: &[u8], place: Place, out: &mut [u8]) -> Place
-    requires { ⌜ ((i : ℕ) × Asked (now sheet) i (place .word)) ⌝ }
+    requires { ⌜ ((i : ℕ) × Begins (now sheet) i (place .word)) ⌝ }
     requires { ⌜ place .text + line-most ≤ length (now out) ⌝ }
     ensures { λ r. ⌜ Passed (now (sheet .entry)) place r (now (out .entry)) (now (out .exit)) ⌝ }
 {

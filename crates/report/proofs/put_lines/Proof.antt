@@ -3,19 +3,19 @@
 use Prim.Native.Nat.{_-_}
 use native.Mathlib.Omega.{arith}
 use Rattle.text.proofs.Writing.{written-length}
-use Rattle.report.proofs.Passing.{Walked, walk-first, walk-next, walk-room, walk-more, walk-done}
+use Rattle.report.proofs.Passing.{Walked-sheet, walk-first, walk-asked, walk-room, walk-more, walk-done}
 use Rattle.report.proofs.put_lines.Statement.{statement}
 use Rattle.report.proofs.put_lines.Tie as tie
 
 abbrev Inv-loop : tie.InvT-loop
-Inv-loop sheet count out₀ at place₀ i₀ out place i = Walked sheet count at out₀ out place i
+Inv-loop sheet count out₀ at place₀ i₀ out place i = Walked-sheet sheet count at out₀ out place i
 
 abbrev μ-loop : tie.MeasureT-loop
 μ-loop sheet count out₀ at place₀ i₀ out place i = count - i
 
 put-next-requires : tie.Need-put-next-requires Inv-loop μ-loop
 put-next-requires c κs = let l = c .before .before in let p = l .before .before .before .pre in let h = c .before .loop-test .taken in
-    ((l .loop .i, walk-next (p .0) (p .1) (l .loop .inv) h .asked), walk-room (p .0) (p .1) (l .loop .inv) h)
+    ((l .loop .i, walk-asked (p .0) (p .1) (l .loop .inv) h), walk-room (p .0) (p .1) (l .loop .inv) h)
 
 loop-again : tie.Need-loop-again Inv-loop μ-loop
 loop-again c = let l = c .before .before .before .before .before in let p = l .before .before .before .pre in
