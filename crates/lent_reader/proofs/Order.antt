@@ -18,13 +18,13 @@ use Rattle.sheet_reader.specs.declared.Yield.the-variants.{Found, NoneLeft}
 use Rattle.sheet_reader.specs.Calls.{chosen, filled, row-first, word-first, Choice-says}
 use Rattle.lent_reader.specs.Promise.{Yields-in-order}
 
-few : (k : ℕ) (ws : List ℕ) → length (questions-from k ws) ≤ k
+few : (k : ℕ) (ws : List ℕ) → length (questions-from reliabilities k ws) ≤ k
 unfolding questions-from
 few zero ws = omega arith
 few (suc k) [] = omega arith
 few (suc k) (w ∷ ws) = by (eqb (kind w) head-kind) (few k (after reliabilities (width (head-code w)) ws))
   where
-    by : (t : Bool) → length (questions-from k (after reliabilities (width (head-code w)) ws)) ≤ k → length (cond t (question-in reliabilities w ws ∷ questions-from k (after reliabilities (width (head-code w)) ws)) []) ≤ suc k
+    by : (t : Bool) → length (questions-from reliabilities k (after reliabilities (width (head-code w)) ws)) ≤ k → length (cond t (question-in reliabilities w ws ∷ questions-from reliabilities k (after reliabilities (width (head-code w)) ws)) []) ≤ suc k
     by true h = omega arith
     by false h = omega arith
 
