@@ -18,7 +18,7 @@ use Rattle.metric.proofs.Costs.{codeword-bits, decoded}
 use Rattle.metric.proofs.Bounds.{weight-le, cost-le}
 use Rattle.soft.specs.Pass.{folded}
 use Rattle.search.specs.Within.{Input}
-use Rattle.decoder.specs.Within.{Best, Softs, SoftRows, Softened}
+use Rattle.decoder.specs.Within.{Best, Softs, Softs-within, Softened}
 use Rattle.split.proofs.Whole.{row-small}
 
 module _ {s : Shape} {row : List ℤ} (z : Input s row) where
@@ -31,7 +31,7 @@ module _ {s : Shape} {row : List ℤ} (z : Input s row) where
   pub least-small : {t g word : List ℕ} {least : ℕ} → Best s row t g word least → least ≤ 7620
   least-small {t} {g} {word} b = omega (arith, b .costs, cost-le (s .m) row word, weight-small)
 
-  pub rows-ok : {za oa : List ℕ} {soft : List ℤ} → length za ≡ s .n * 2 * 4 → length oa ≡ s .n * 2 * 4 → length soft ≡ s .n * s .m → Softs s row za oa → SoftRows (s .m) (s .n) za oa soft
+  pub rows-ok : {za oa : List ℕ} {soft : List ℤ} → length za ≡ s .n * 2 * 4 → length oa ≡ s .n * 2 * 4 → length soft ≡ s .n * s .m → Softs s row za oa → Softs-within (s .m) (s .n) za oa soft
   rows-ok lz lo ls f = record {
     width = z .coded .width-is;
     length-zero = lz;

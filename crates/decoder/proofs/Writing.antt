@@ -23,7 +23,7 @@ use Rattle.lanes.specs.Lanes.{lane, lanes}
 use Rattle.soft.specs.Pass.{folded}
 use Rattle.lanes.proofs.Rows.{lanes-at}
 use Rattle.search.specs.Within.{big}
-use Rattle.decoder.specs.Within.{soft-of, SoftRow, Written, SoftRows, Softened}
+use Rattle.decoder.specs.Within.{soft-of, Soft-within, Soft-written, Softs-within, Softened}
 
 -- a difference is no larger than its parts
 pub within : (a b k : ℕ) → a < k → b < k → mag (pos a -ℤ pos b) < k
@@ -87,11 +87,11 @@ module _ (s : List ℤ) (at : ℕ) (v0 v1 v2 v3 : ℤ) where
   at2 : at + 3 ≤ length s → getD s3 (at + 2) (pos 0) ≡ v2
   at2 l = getD-set-same s2 (at + 2) v2 (pos 0) (simp length-set (omega arith))
 
-  module _ (m : ℕ) (z o : List ℕ) (w : SoftRow m at z o s) where
+  module _ (m : ℕ) (z o : List ℕ) (w : Soft-within m at z o s) where
     abbrev d : ℕ → ℤ
     d j = pos (2 * lane o j) -ℤ pos (2 * lane z j)
 
-    pub width-3 : m ≡ 3 → v0 ≡ d 0 → v1 ≡ d 1 → v2 ≡ d 2 → Written m at z o s s3
+    pub width-3 : m ≡ 3 → v0 ≡ d 0 → v1 ≡ d 1 → v2 ≡ d 2 → Soft-written m at z o s s3
     width-3 em e0 e1 e2 = record { long = long3; done = go; kept = kept3 }
       where
         fits : at + 3 ≤ length s
@@ -103,7 +103,7 @@ module _ (s : List ℤ) (at : ℕ) (v0 v1 v2 v3 : ℤ) where
         go (suc (suc zero)) h = at2 fits ∙ e2
         go (suc (suc (suc j))) h = absurd (omega arith)
 
-    pub width-4 : m ≡ 4 → v0 ≡ d 0 → v1 ≡ d 1 → v2 ≡ d 2 → v3 ≡ d 3 → Written m at z o s s4
+    pub width-4 : m ≡ 4 → v0 ≡ d 0 → v1 ≡ d 1 → v2 ≡ d 2 → v3 ≡ d 3 → Soft-written m at z o s s4
     width-4 em e0 e1 e2 e3 = record {
       long = length-set s3 (at + 3) v3 ∙ long3;
       done = go;
@@ -124,19 +124,19 @@ module _ (s : List ℤ) (at : ℕ) (v0 v1 v2 v3 : ℤ) where
         go (suc (suc (suc (suc j)))) h = absurd (omega arith)
 
 -- all positions
-module _ (m n : ℕ) (za oa : List ℕ) (s₀ : List ℤ) (w : SoftRows m n za oa s₀) where
+module _ (m n : ℕ) (za oa : List ℕ) (s₀ : List ℤ) (w : Softs-within m n za oa s₀) where
   under : (j : ℕ) → j < m → j < 4
   under j = widths (λ (m : ℕ). j < m → j < 4) (λ h. omega arith) (λ h. omega arith) m (w .width)
 
   module _ (i : ℕ) (s : List ℤ) (a : Softened m za oa i s₀ s) (l : i < n) where
-    pub row-ok : SoftRow m (i * m) (lanes (folded za i)) (lanes (folded oa i)) s
+    pub row-ok : Soft-within m (i * m) (lanes (folded za i)) (lanes (folded oa i)) s
     row-ok = record {
       width = w .width;
       fits = omega (arith, a .long, w .length-soft, mul-le-mul-right m l, suc-mul i m);
       small = λ j lj. rw (lanes-at (folded za i) j (under j lj), lanes-at (folded oa i) j (under j lj)) (w .small i j l lj);
     }
 
-    pub rows-more : (s' : List ℤ) → Written m (i * m) (lanes (folded za i)) (lanes (folded oa i)) s s' → Softened m za oa (i + 1) s₀ s'
+    pub rows-more : (s' : List ℤ) → Soft-written m (i * m) (lanes (folded za i)) (lanes (folded oa i)) s s' → Softened m za oa (i + 1) s₀ s'
     rows-more s' x = record { long = x .long ∙ a .long; done = λ k j lk lj. go k j lj (decLe i k) lk }
       where
         go : (k j : ℕ) → j < m → Dec (i ≤ k) → k < i + 1 → getD s' (k * m + j) (pos 0) ≡ soft-of za oa k j

@@ -34,7 +34,7 @@ abbrev pub soft-of : (zero one : List ℕ) → (i j : ℕ) → ℤ
 soft-of zs os i j = pos (2 * folded os i j) -ℤ pos (2 * folded zs i j)
 
 -- what `soft_rows` asks
-pub record SoftRows (m n : ℕ) (zero one : List ℕ) (soft : List ℤ) : Type 0 where
+pub record Softs-within (m n : ℕ) (zero one : List ℕ) (soft : List ℤ) : Type 0 where
   pub width : width-good m ≡ true
   pub length-zero : length zero ≡ n * 2 * 4
   pub length-one : length one ≡ n * 2 * 4
@@ -47,12 +47,12 @@ pub record Softened (m : ℕ) (zero one : List ℕ) (n : ℕ) (before soft : Lis
   pub done : (i j : ℕ) → i < n → j < m → getD soft (i * m + j) (pos 0) ≡ soft-of zero one i j
 
 -- one position's soft outputs, from two rows, at a place
-pub record SoftRow (m at : ℕ) (z o : List ℕ) (soft : List ℤ) : Type 0 where
+pub record Soft-within (m at : ℕ) (z o : List ℕ) (soft : List ℤ) : Type 0 where
   pub width : width-good m ≡ true
   pub fits : at + m ≤ length soft
   pub small : (j : ℕ) → j < m → (lane z j < big) × (lane o j < big)
 
-pub record Written (m at : ℕ) (z o : List ℕ) (before soft : List ℤ) : Type 0 where
+pub record Soft-written (m at : ℕ) (z o : List ℕ) (before soft : List ℤ) : Type 0 where
   pub long : length soft ≡ length before
   pub done : (j : ℕ) → j < m → getD soft (at + j) (pos 0) ≡ pos (2 * lane o j) -ℤ pos (2 * lane z j)
   pub kept : (i : ℕ) → i < at → getD soft i (pos 0) ≡ getD before i (pos 0)

@@ -11,7 +11,7 @@ ghost use Rattle.metric.specs.Metric.{Decoded};
 ghost use Rattle.glue.specs.Walk.{Marginals};
 ghost use Rattle.search.specs.Within.{cap, big, tuples-of, count-of, Headed, Input, Buffers, Tabled};
 ghost use Rattle.decoder.specs.Calls.{decode-refusal, Decode-says};
-ghost use Rattle.decoder.specs.Within.{Best, Softs, SoftRow, Written, SoftRows, Softened, Marginal-room, Outputs, Accepted};
+ghost use Rattle.decoder.specs.Within.{Best, Softs, Soft-within, Soft-written, Softs-within, Softened, Marginal-room, Outputs, Accepted};
 
 // 0 and the best metric, or the number of a refusal and 0.
 #[repr(C)]
@@ -105,8 +105,8 @@ fn soft_from(zero: u16, one: u16) -> i16
 
 // One position's soft outputs.
 fn soft_row(m: u32, z: [u16; 4], o: [u16; 4], at: usize, soft: &mut [i16])
-    requires { ⌜ SoftRow m at z o (now soft) ⌝ }
-    ensures { λ _. ⌜ Written m at z o (now (soft .entry)) (now (soft .exit)) ⌝ }
+    requires { ⌜ Soft-within m at z o (now soft) ⌝ }
+    ensures { λ _. ⌜ Soft-written m at z o (now (soft .entry)) (now (soft .exit)) ⌝ }
 {
     soft[at + 0] = soft_from(z[0], o[0]);
     soft[at + 1] = soft_from(z[1], o[1]);
@@ -118,7 +118,7 @@ fn soft_row(m: u32, z: [u16; 4], o: [u16; 4], at: usize, soft: &mut [i16])
 
 // All soft outputs.
 fn soft_rows(m: u32, n: usize, zero: &[u16], one: &[u16], soft: &mut [i16])
-    requires { ⌜ SoftRows m n (now zero) (now one) (now soft) ⌝ }
+    requires { ⌜ Softs-within m n (now zero) (now one) (now soft) ⌝ }
     ensures { λ _. ⌜ Softened m (now (zero .entry)) (now (one .entry)) n (now (soft .entry)) (now (soft .exit)) ⌝ }
 {
     let w = m as usize;

@@ -44,12 +44,12 @@ place (pos k) = k + 149
 place (negsuc k) = 149 - suc k
 
 -- what `fits` says of a finite float
-record Inside (m : ℕ) (e : ℤ) : Type 0 where
+record Float-inside (m : ℕ) (e : ℤ) : Type 0 where
   digits : m < 2 ^ 24
   deep : down e ≤ 2 ^ 149
   below : m * up e < 2 ^ 128 * down e
 
-inside : (s : Bool) (m : ℕ) (e : ℤ) → T (fits binary32 (fin s m e)) → Inside m e
+inside : (s : Bool) (m : ℕ) (e : ℤ) → T (fits binary32 (fin s m e)) → Float-inside m e
 unfolding fits
 inside s zero e t = record { digits = lit< tt; deep = shallow e (eqb→eq (up e * down e) 1 t); below = rw zero-mul (mul-pos (lit< tt) (down-pos e)) }
   where
@@ -102,7 +102,7 @@ abbrev scaled : ℕ → ℤ → ℕ
 scaled m e = m * 2 ^ (place e + 5)
 
 -- below 2^277 units the float is exact; from there on it is an infinity, and the exact product is 128 or more
-module _ (s : Bool) (m : ℕ) (e : ℤ) (i : Inside m e) where
+module _ (s : Bool) (m : ℕ) (e : ℤ) (i : Float-inside m e) where
   count : 32 * m * up e * 2 ^ 149 ≡ scaled m e * down e
   count = rw (pow-add 2 (place e) 5) (by-32 m (up e) (2 ^ 149) (2 ^ place e) (down e) (in-units m e (i .deep)))
 

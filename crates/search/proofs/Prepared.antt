@@ -24,7 +24,7 @@ use Rattle.code.specs.Within.{Coded}
 use Rattle.split.specs.Split.{column}
 use Rattle.metric.specs.Cost.{costZero, costOne}
 use Rattle.lanes.proofs.Rows.{four}
-use Rattle.search.specs.Within.{reliability, Headed, put-four, Spread, CostsTo, Costed}
+use Rattle.search.specs.Within.{reliability, Headed, put-four, Spread, Costs-to, Costed}
 
 -- ---- a reliability's costs, by its sign
 clash : {X : Type 0} → false ≡ true → X
@@ -153,15 +153,15 @@ follow f wide xs b x l e p k h = go (decLe b k)
     go (yes a) = let q : k ≡ b = omega arith in rw q (getD-set-same xs b x 0 l ∙ e)
     go (no a) = getD-set-other xs b k x 0 (λ q. omega arith) ∙ p k (omega arith)
 
-pub costs-more : {wide : List ℤ} {zs os : List ℕ} {b x y : ℕ} → CostsTo b wide zs os → b < length zs → b < length os → x ≡ costZero (getD wide b (pos 0)) → y ≡ costOne (getD wide b (pos 0)) →
-    CostsTo (b + 1) wide (set zs b x) (set os b y)
+pub costs-more : {wide : List ℤ} {zs os : List ℕ} {b x y : ℕ} → Costs-to b wide zs os → b < length zs → b < length os → x ≡ costZero (getD wide b (pos 0)) → y ≡ costOne (getD wide b (pos 0)) →
+    Costs-to (b + 1) wide (set zs b x) (set os b y)
 costs-more {wide} {zs} {os} {b} {x} {y} d lz lo ex ey = record {
   zeros = follow costZero wide zs b x lz ex (d .zeros);
   ones = follow costOne wide os b y lo ey (d .ones);
 }
 
 -- the costs of all places are those of all positions
-pub costed : {k : ℕ} {wide : List ℤ} {zs os : List ℕ} (m n : ℕ) (row : List ℤ) → CostsTo k wide zs os → k ≡ n * 4 → Spread m n row wide → Costed m n row zs os
+pub costed : {k : ℕ} {wide : List ℤ} {zs os : List ℕ} (m n : ℕ) (row : List ℤ) → Costs-to k wide zs os → k ≡ n * 4 → Spread m n row wide → Costed m n row zs os
 costed m n row d e s = record {
   zeros = λ i j li lj. d .zeros (i * 4 + j) (omega arith) ∙ ap costZero (s i j li lj);
   ones = λ i j li lj. d .ones (i * 4 + j) (omega arith) ∙ ap costOne (s i j li lj);

@@ -21,7 +21,7 @@ use Rattle.metric.specs.Cost.{costZero, costOne}
 use Rattle.metric.proofs.Bounds.{row-at, costs-le}
 use Rattle.trellis.specs.Rows.{Layers, Make}
 use Rattle.search.proofs.Prepared.{long-le}
-use Rattle.search.specs.Within.{reliability, top, big, Spelt, Headed, CostRows, Costed, Input, Buffers}
+use Rattle.search.specs.Within.{reliability, top, big, Spelt, Headed, Costs-within, Costed, Input, Buffers}
 
 -- how long the tables of a code are
 room-of : (c : ℕ) → ℕ
@@ -76,7 +76,7 @@ module _ {s : Shape} {row : List ℤ} (z : Input s row) where
   some = rw (z .coded .q-is) (omega (arith, widths (λ (m : ℕ). 0 < m) (omega arith) (omega arith) (s .m) (z .coded .width-is)))
 
   module _ {zs os t : List ℕ} (b : Buffers s zs os t) where
-    pub costs-ok : CostRows (s .m) (s .n) row zs os
+    pub costs-ok : Costs-within (s .m) (s .n) row zs os
     costs-ok = record { width = z .coded .width-is; few = short; length-row = row-is; length-zs = b .length-zs; length-os = b .length-os }
 
     -- after the costs are written

@@ -49,12 +49,12 @@ abbrev pub Spread : (m n : ℕ) → (row wide : List ℤ) → Type 0
 Spread m n row wide = (i j : ℕ) → i < n → j < 4 → getD wide (i * 4 + j) (pos 0) ≡ reliability m row i j
 
 -- the costs of the first n places
-pub record CostsTo (n : ℕ) (wide : List ℤ) (zs os : List ℕ) : Type 0 where
+pub record Costs-to (n : ℕ) (wide : List ℤ) (zs os : List ℕ) : Type 0 where
   pub zeros : (b : ℕ) → b < n → getD zs b 0 ≡ costZero (getD wide b (pos 0))
   pub ones : (b : ℕ) → b < n → getD os b 0 ≡ costOne (getD wide b (pos 0))
 
 -- what `cost_rows` asks
-pub record CostRows (m n : ℕ) (row : List ℤ) (zs os : List ℕ) : Type 0 where
+pub record Costs-within (m n : ℕ) (row : List ℤ) (zs os : List ℕ) : Type 0 where
   pub width : width-good m ≡ true
   pub few : n ≤ 15
   pub length-row : length row ≡ n * m

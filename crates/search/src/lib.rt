@@ -13,7 +13,7 @@ ghost use Rattle.code.specs.Within.{Coded};
 ghost use Rattle.metric.specs.Row.{row-bound, reliability-good, row-good};
 ghost use Rattle.metric.specs.Cost.{costZero, costOne, weight-of};
 ghost use Rattle.lanes.specs.Lanes.{lane};
-ghost use Rattle.search.specs.Within.{cap, reliability, Headed, put-four, Spread, CostsTo, CostRows, Costed, Input, Buffers, Tabled, tuples-of, count-of, symbol-cost, word-cost, Own, Symbol};
+ghost use Rattle.search.specs.Within.{cap, reliability, Headed, put-four, Spread, Costs-to, Costs-within, Costed, Input, Buffers, Tabled, tuples-of, count-of, symbol-cost, word-cost, Own, Symbol};
 ghost use Rattle.trellis.specs.Trellis.{pick};
 ghost use Rattle.glue.specs.Walk.{sum4, least-total, Tuples, Walked, Marginals};
 
@@ -95,7 +95,7 @@ fn spread(m: u32, n: usize, row: &[i16], wide: &mut [i16])
 // What a 0 and a 1 cost at each place.
 fn costs(wide: &[i16], zs: &mut [u16], os: &mut [u16])
     requires { ⌜ (length (now zs) ≡ length (now os)) × (length (now zs) ≤ length (now wide)) ⌝ }
-    ensures { λ _. ⌜ CostsTo (length (now (zs .entry))) (now (wide .entry)) (now (zs .exit)) (now (os .exit)) ⌝ }
+    ensures { λ _. ⌜ Costs-to (length (now (zs .entry))) (now (wide .entry)) (now (zs .exit)) (now (os .exit)) ⌝ }
 {
     let mut b = 0;
     while b < zs.len() {
@@ -108,7 +108,7 @@ fn costs(wide: &[i16], zs: &mut [u16], os: &mut [u16])
 
 // The costs of a row, four layers to a position. At each place they are found without regard to positions, several at a time.
 pub fn cost_rows(m: u32, n: usize, row: &[i16], zs: &mut [u16], os: &mut [u16])
-    requires { ⌜ CostRows m n (now row) (now zs) (now os) ⌝ }
+    requires { ⌜ Costs-within m n (now row) (now zs) (now os) ⌝ }
     ensures { λ _. ⌜ Costed m n (now (row .entry)) (now (zs .exit)) (now (os .exit)) ⌝ }
 {
     let mut wide = [0i16; 60];

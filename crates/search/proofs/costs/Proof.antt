@@ -9,13 +9,13 @@ use lib.IntN.{pos}
 use mir.Syntax.{w16}
 use mir.Val.{SFits}
 use Rattle.metric.specs.Cost.{costZero, costOne}
-use Rattle.search.specs.Within.{CostsTo}
+use Rattle.search.specs.Within.{Costs-to}
 use Rattle.search.proofs.Prepared.{costs-more, through}
 use Rattle.search.proofs.costs.Statement.{statement}
 use Rattle.search.proofs.costs.Tie as tie
 
 abbrev Inv-loop : tie.InvT-loop
-Inv-loop wide zs₀ os₀ b₀ zs os b = (b ≤ length zs₀) × (length zs ≡ length zs₀) × (length os ≡ length zs₀) × CostsTo b wide zs os
+Inv-loop wide zs₀ os₀ b₀ zs os b = (b ≤ length zs₀) × (length zs ≡ length zs₀) × (length os ≡ length zs₀) × Costs-to b wide zs os
 
 abbrev μ-loop : tie.MeasureT-loop
 μ-loop wide zs₀ os₀ b₀ zs os b = length zs₀ - b
