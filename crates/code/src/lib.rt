@@ -131,7 +131,7 @@ fn check_refusal(shape: Shape, word: &[u8]) -> u32
 }
 
 // Whether a number is that of a code.
-pub fn is_code(code: u32) -> bool
+fn is_code(code: u32) -> bool
     ensures { λ r. ⌜ r ≡ code-good code ⌝ }
 {
     if code < 1 {
@@ -141,7 +141,7 @@ pub fn is_code(code: u32) -> bool
 }
 
 // How many bits a symbol of a code has: m.
-pub fn width_of(code: u32) -> u32
+fn width_of(code: u32) -> u32
     ensures { λ r. ⌜ r ≡ width code ⌝ }
 {
     if code == 3 { 4 } else { 3 }
@@ -187,7 +187,7 @@ fn shape_of(m: u32, r: u32) -> Shape
 }
 
 // How many symbols a word has: n.
-pub fn long_of(m: u32) -> usize
+fn long_of(m: u32) -> usize
     requires { ⌜ width-good m ≡ true ⌝ }
     ensures { λ r. ⌜ r ≡ long m ⌝ }
 {
@@ -195,7 +195,7 @@ pub fn long_of(m: u32) -> usize
 }
 
 // How many bits a word has, and how long a row is: n·m.
-pub fn row_long_of(m: u32) -> usize
+fn row_long_of(m: u32) -> usize
     requires { ⌜ width-good m ≡ true ⌝ }
     ensures { λ r. ⌜ r ≡ row-long m ⌝ }
 {

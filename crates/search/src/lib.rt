@@ -39,13 +39,13 @@ pub fn columns(shape: Shape) -> [u16; 15]
 }
 
 // What a 0 and a 1 contradicts of a reliability.
-pub fn cost_of_zero(r: i16) -> u16
+fn cost_of_zero(r: i16) -> u16
     ensures { λ x. ⌜ x ≡ costZero r ⌝ }
 {
     if r < 0 { (0 - (r as i32)) as u16 } else { 0 }
 }
 
-pub fn cost_of_one(r: i16) -> u16
+fn cost_of_one(r: i16) -> u16
     ensures { λ x. ⌜ x ≡ costOne r ⌝ }
 {
     if r > 0 { r as u16 } else { 0 }
@@ -107,7 +107,7 @@ fn costs(wide: &[i16], zs: &mut [u16], os: &mut [u16])
 }
 
 // The costs of a row, four layers to a position. At each place they are found without regard to positions, several at a time.
-pub fn cost_rows(m: u32, n: usize, row: &[i16], zs: &mut [u16], os: &mut [u16])
+fn cost_rows(m: u32, n: usize, row: &[i16], zs: &mut [u16], os: &mut [u16])
     requires { ⌜ Costs-within m n (now row) (now zs) (now os) ⌝ }
     ensures { λ _. ⌜ Costed m n (now (row .entry)) (now (zs .exit)) (now (os .exit)) ⌝ }
 {

@@ -86,16 +86,24 @@ fn lists() -> Tally {
 
 // Entry k of each list; a configuration starts with its number.
 fn entry(t: Tally, k: u16, leader: u16, second: u16, third: u16) -> Tally {
-    let i = k % 8;
-    let all = configurations::all_of_code_1();
-    let at = 4 * (i as usize);
-    let c = [all[at], all[at + 1], all[at + 2], all[at + 3]];
-    let chosen = code::by_number(1);
-    let shape = chosen.shape;
-    t.with(split::leader(shape, i) == leader)
+    let c = listed(k);
+    t.with(leads(k, leader))
         .with(is_triple(c, k, second, third))
         .with(is_triple(c, k, times(6, k), times(4, k)))
         .with(is_generated_at_square(c))
+}
+
+// Configuration k of code 1.
+fn listed(k: u16) -> [u16; 4] {
+    let all = configurations::all_of_code_1();
+    let at = 4 * ((k % 8) as usize);
+    [all[at], all[at + 1], all[at + 2], all[at + 3]]
+}
+
+// Whether the leader of coset k of code 1 is this word.
+fn leads(k: u16, leader: u16) -> bool {
+    let chosen = code::by_number(1);
+    split::leader(chosen.shape, k % 8) == leader
 }
 
 // Whether a tuple of code 1 has these syndromes.

@@ -1,18 +1,18 @@
--- `test_records::splits::entry` is safe and ends.
+-- `test_records::splits::leads` is safe and ends.
 -- Assumes nothing.
 use mathlib.Core.Path.{_≡_, ap, ap₂, _∙_}
 use Prim.Native.Nat.{ℕ, _^_}
 use native.Mathlib.Omega.{arith}
 use borrow.Author.Needs.{needs}
 use Rattle.code.specs.Code.{width, roots, syndrome-long}
-use Rattle.test_records.proofs.splits.entry.Statement.{statement}
-use Rattle.test_records.proofs.splits.entry.Tie as tie
+use Rattle.test_records.proofs.splits.leads.Statement.{statement}
+use Rattle.test_records.proofs.splits.leads.Tie as tie
 
 leader-requires : tie.Need-leader-requires
 unfolding width roots
-leader-requires c κs = let n = c .before .by-number .ensures in let z = n .coded in
+leader-requires c κs = let n = c .by-number .ensures in let z = n .coded in
     let e = z .size-is ∙ ap (λ (q : ℕ). 2 ^ q) (z .q-is ∙ ap₂ syndrome-long (n .m-is) (n .r-is)) in
     record { coded = z; inside = omega (arith, e) }
 
-pub entry-spec : {M : Type 1} → statement M
-entry-spec = tie.close (tie.spec leader-requires)
+pub leads-spec : {M : Type 1} → statement M
+leads-spec = tie.close (tie.spec (λ c κs. search needs) leader-requires (λ c. search needs))
