@@ -66,7 +66,7 @@ fn layer_value(m: u32, t: u32, j: u32, word: &[u8]) -> u8
 }
 
 // An element's number as a syndrome's.
-pub fn wide(x: u8) -> u16
+fn wide(x: u8) -> u16
     ensures { λ r. ⌜ r ≡ x ⌝ }
 {
     x as u16
