@@ -11,7 +11,7 @@ use Rattle.code.specs.declared.Membership.{Membership}
 use Rattle.code.specs.declared.Membership.the-variants.{Codeword, NoCodeword, Refused}
 use Rattle.code.specs.Code.{number-refusal, width, roots, long, message-long, symbols-good, is-codeword, message}
 
--- what follows the code's own refusal, over its m and r; so it is of each call
+-- what follows the code's own refusal, over its m and r; the refusals of the other calls below are meant so too
 unfoldable pub encode-refusal : (m r : ℕ) → (message : List ℕ) → (output : ℕ) → ℕ
 encode-refusal m r ms o =
     unless (eqb (length ms) (message-long m r)) 3
