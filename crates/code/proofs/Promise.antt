@@ -16,7 +16,8 @@ use Rattle.refusal.specs.Refusal.{first}
 use Rattle.refusal.proofs.Tests.{first-none, first-free}
 use Rattle.code.specs.Calls.{Encode-says, Read-says, encode-refusal, member-refusal}
 use Rattle.code.specs.declared.Shape.{Shape}
-use Rattle.code.specs.Within.{Coded, number-of, Message-within}
+use Rattle.code.specs.declared.Chosen.{Chosen}
+use Rattle.code.specs.Within.{Coded, Chosen-says, number-of, Message-within}
 use Rattle.code.proofs.Accepted.{
   width-fine,
   roots-few,
@@ -77,6 +78,14 @@ module _ (P : ℕ → ℕ → Type 0) {a b m r : ℕ} (m-is : a ≡ m) (r-is : b
 
   pub of-number : P a b → P m r
   of-number x = rw (← m-is, ← r-is) x
+
+-- what a call is refused by, from what it is refused by over the chosen m and r
+pub chosen-refusal : (X : ℕ → ℕ → ℕ) {c n b : ℕ} {a : Chosen} →
+    Chosen-says c a → n ≡ first (a .number) b → b ≡ X (a .shape .m) (a .shape .r) → n ≡ first (number-refusal c) (X (width c) (roots c))
+chosen-refusal X s e f = go e (s .number-is) f (s .m-is) (s .r-is)
+  where
+    go : {n p p′ b m m′ r r′ : ℕ} → n ≡ first p b → p ≡ p′ → b ≡ X m r → m ≡ m′ → r ≡ r′ → n ≡ first p′ (X m′ r′)
+    go e p f m r = rw (← p, ← m, ← r, ← f) e
 
 pub codes-inside : Codes-inside
 unfolding Codes-inside width roots long width-good

@@ -11,6 +11,10 @@ unfolding unless
 passed true n e h = (refl, h)
 passed false n e h = absurd (omega arith)
 
+-- a link of a chain, with what its test and what comes after it are known to be
+pub link : (n : ℕ) {r x y : ℕ} {a b : Bool} → r ≡ unless a n x → a ≡ b → x ≡ y → r ≡ unless b n y
+link n e f g = rw (← f, ← g) e
+
 -- the first of two refusals, as a branch has it
 pub first-refuses : (n e : ℕ) → (n ≡ 0 → ⊥) → n ≡ first n e
 unfolding first

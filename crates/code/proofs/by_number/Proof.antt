@@ -1,5 +1,7 @@
 -- `code::by_number` meets its contract.
 -- Assumes nothing.
+use mathlib.Core.Path.{refl, _∙_}
+use Rattle.refusal.proofs.Tests.{link}
 use borrow.Author.Needs.{needs}
 use Rattle.code.specs.Code.{number-refusal}
 use Rattle.code.proofs.by_number.Statement.{statement}
@@ -7,7 +9,9 @@ use Rattle.code.proofs.by_number.Tie as tie
 
 returns : tie.Need-returns
 unfolding number-refusal
-returns c = let s = c .shape-of .ensures in record { number-is = cc; coded = s .0; m-is = cc; r-is = cc }
+returns c =
+    let s = c .shape-of .ensures in let r = c .before in let w = r .before in let u = w .before in
+    record { number-is = link 1 (u .unless .ensures) (u .before .is-code .ensures) refl; coded = s .0; m-is = s .1 ∙ w .width-of .ensures; r-is = s .2 ∙ r .roots-of .ensures }
 
 pub by-number-spec : {M : Type 1} → statement M
 by-number-spec =

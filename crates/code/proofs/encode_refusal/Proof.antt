@@ -1,5 +1,8 @@
 -- `code::encode_refusal` meets its contract.
 -- Assumes nothing.
+use mathlib.Core.Path.{refl, ap}
+use lib.Dec.{eqb}
+use Rattle.refusal.proofs.Tests.{link}
 use borrow.Author.Needs.{needs}
 use Rattle.code.specs.Calls.{encode-refusal}
 use Rattle.code.proofs.encode_refusal.Statement.{statement}
@@ -7,7 +10,8 @@ use Rattle.code.proofs.encode_refusal.Tie as tie
 
 returns : tie.Need-returns
 unfolding encode-refusal
-returns c = cc
+returns c = let b = c .before .before in let a = b .before .before in let z = a .before .before .before .pre in
+    link 3 (c .unless3 .ensures) (ap (eqb _) (z .k-is)) (link 4 (b .unless2 .ensures) (ap (eqb _) (z .n-is)) (link 6 (a .unless .ensures) (a .before .symbols-good .ensures) refl))
 
 pub encode-refusal-spec : {M : Type 1} → statement M
 encode-refusal-spec = tie.close (tie.spec (λ c κs. search needs) (λ c κs. search needs) (λ c κs. search needs) (λ c κs. search needs) returns)

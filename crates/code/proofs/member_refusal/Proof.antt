@@ -1,8 +1,9 @@
 -- `code::member_refusal` meets its contract.
 -- Assumes nothing.
-use mathlib.Core.Path.{_≡_, sym, _∙_}
+use mathlib.Core.Path.{_≡_, refl, sym, ap, _∙_}
+use lib.Dec.{eqb}
 use borrow.Author.Needs.{needs}
-use Rattle.refusal.proofs.Tests.{first-refuses, first-passes}
+use Rattle.refusal.proofs.Tests.{link, first-refuses, first-passes}
 use Rattle.code.specs.Calls.{word-refusal, member-refusal}
 use Rattle.code.proofs.Accepted.{word-accepts}
 use Rattle.code.proofs.member_refusal.Statement.{statement}
@@ -14,7 +15,8 @@ start c = c .before .before .before .before .before .before
 
 before : (c : tie.After-unless3) → let a = start c .args in c .unless3 .result ≡ word-refusal (a .shape .m) (a .word .now) (a .output) (a .needed)
 unfolding word-refusal
-before c = cc
+before c = let b = c .before .before in let a = b .before in
+    link 3 (c .unless3 .ensures) (ap (eqb _) (start c .pre .n-is)) (link 4 (b .unless2 .ensures) refl (link 6 (a .unless .ensures) (a .before .symbols-good .ensures) refl))
 
 returns : tie.Need-returns
 unfolding member-refusal

@@ -5,42 +5,54 @@ use Prim.Native.Nat.{ℕ, _-_, _≤_}
 use native.Mathlib.Omega.{arith}
 use lib.ListN.{length, drop}
 use borrow.Author.Needs.{needs}
+use Rattle.refusal.specs.Refusal.{first}
 use Rattle.refusal.proofs.Tests.{first-none}
-use Rattle.code.specs.Code.{message-long, message}
-use Rattle.code.specs.Calls.{Read-says}
+use Rattle.code.specs.Code.{number-refusal, width, roots, message-long, message}
+use Rattle.code.specs.Calls.{member-refusal, Read-says}
 use Rattle.code.proofs.Parts.{tail-is, tail-long}
 use Rattle.code.proofs.Accepted.{outcome-refused, outcome-done, Member, member-accepts}
+use Rattle.code.proofs.Promise.{chosen-refusal}
 use Rattle.code.proofs.read_word.Statement.{statement}
 use Rattle.code.proofs.read_word.Tie as tie
 
-abbrev chosen : (c : tie.Else1) → tie.After-by-number
-chosen c = c .before .before .before .before
+abbrev chosen : (f : tie.After-first) → tie.After-by-number
+chosen f = f .before .before .before
 
-abbrev start : (c : tie.Else1) → tie.Start
-start c = chosen c .before .before .before
+abbrev start : (f : tie.After-first) → tie.Start
+start f = chosen f .before .before .before
 
-readable : (c : tie.Else1) → let s = chosen c .by-number .result .shape in let a = start c .args in
+refusal-is : (f : tie.After-first) → let a = start f .args in let m = width (a .code) in let r = roots (a .code) in
+    f .first .result ≡ first (number-refusal (a .code)) (member-refusal m r (a .word .now) (length (a .output .now)) (message-long m r))
+refusal-is f =
+    let a = start f .args in let z = chosen f .by-number in let s = z .result .shape in
+    chosen-refusal (λ m r. member-refusal m r (a .word .now) (length (a .output .now)) (message-long m r)) (z .ensures) (f .first .ensures)
+    (f .before .member-refusal .ensures ∙ ap (λ (k : ℕ). member-refusal (s .m) (s .r) (a .word .now) (length (a .output .now)) k) (z .ensures .coded .k-is))
+
+readable : (c : tie.Else1) → let s = chosen (c .before) .by-number .result .shape in let a = start (c .before) .args in
     Member (s .m) (s .r) (a .word .now) (length (a .output .now)) (s .k)
 readable c = let f = c .before in member-accepts _ _ _ _ _ (sym (f .before .member-refusal .ensures) ∙ first-none _ _ (sym (f .first .ensures) ∙ c .if1 .left) .1)
 
-starts : (c : tie.Else1) → chosen c .by-number .result .shape .r ≤ length (start c .args .word .now)
-starts c = omega (arith, chosen c .by-number .ensures .coded .few, readable c .count)
+starts : (c : tie.Else1) → chosen (c .before) .by-number .result .shape .r ≤ length (start (c .before) .args .word .now)
+starts c = omega (arith, chosen (c .before) .by-number .ensures .coded .few, readable c .count)
 
 returns : tie.Need-returns
 unfolding Read-says
-returns c = outcome-refused _ _ _ _ (cc) (c .if1 .taken) refl
+returns c = outcome-refused _ _ _ _ (refusal-is (c .before)) (c .if1 .taken) refl
 
 copy-requires : tie.Need-copy-requires
 unfolding message-long
 copy-requires c κs =
-    let e = c .before .before .before in let s = chosen e .by-number .result .shape in let m = readable e in
-    tail-long (start e .args .word .now) (s .r) ∙ ap (λ (n : ℕ). n - s .r) (m .count) ∙ sym (m .room ∙ chosen e .by-number .ensures .coded .k-is)
+    let e = c .before .before .before in let z = chosen (e .before) .by-number in let m = readable e in
+    tail-long (start (e .before) .args .word .now) (z .result .shape .r) ∙ ap (λ (n : ℕ). n - z .result .shape .r) (m .count) ∙ sym (m .room ∙ z .ensures .coded .k-is)
 
 returns-2 : tie.Need-returns-2
 unfolding Read-says message
 returns-2 c =
-    let d = c .before .before in let e = d .before .before .before .before in let s = chosen e .by-number in let w = start e .args .word .now in
-    outcome-done _ _ _ _ (cc) refl (d .copy .ensures ∙ tail-is w (s .result .shape .r) ∙ ap (λ (k : ℕ). drop k w) (s .ensures .r-is))
+    let d = c .before .before in let e = d .before .before .before .before in let s = chosen (e .before) .by-number in let w = start (e .before) .args .word .now in
+    outcome-done _ _ _ _
+    (sym (refusal-is (e .before)) ∙ e .if1 .left)
+    refl
+    (d .copy .ensures ∙ tail-is w (s .result .shape .r) ∙ ap (λ (k : ℕ). drop k w) (s .ensures .r-is))
 
 pub read-word-spec : {M : Type 1} → statement M
 read-word-spec =
