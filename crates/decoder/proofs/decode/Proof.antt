@@ -5,23 +5,41 @@ use mir.Facts.{toZ-ofZ}
 use borrow.Author.Needs.{needs}
 use Rattle.refusal.proofs.Outcomes.{outcome-done, outcome-refused}
 use Rattle.refusal.proofs.Tests.{first-none}
-use Rattle.decoder.specs.Calls.{Decode-says}
+use lib.ListN.{length}
+use Rattle.refusal.specs.Refusal.{first}
+use Rattle.code.specs.Code.{number-refusal, width}
+use Rattle.code.proofs.Promise.{chosen-refusal}
+use Rattle.decoder.specs.Calls.{decode-refusal, Decode-says}
 use Rattle.decoder.proofs.Refusals.{decode-accepted, decoded-as}
 use Rattle.decoder.proofs.decode.Statement.{statement}
 use Rattle.decoder.proofs.decode.Tie as tie
 
+abbrev chosen : tie.After-first → tie.After-by-number
+chosen f = f .before .before .before
+
+abbrev start : tie.After-first → tie.Start
+start f = chosen f .before .before
+
+refusal-is : (f : tie.After-first) → let a = start f .args in
+    f .first .result ≡ first (number-refusal (a .code)) (decode-refusal (width (a .code)) (a .row .now) (length (a .word .now)) (length (a .soft .now)))
+refusal-is f = let a = start f .args in
+    chosen-refusal (λ m r. decode-refusal m (a .row .now) (length (a .word .now)) (length (a .soft .now))) (chosen f .by-number .ensures) (f .first .ensures) (f .before .decode-refusal .ensures)
+
 returns : tie.Need-returns
 unfolding Decode-says
-returns c = outcome-refused _ _ _ _ (cc) (c .if1 .taken) (refl, refl, refl)
+returns c = outcome-refused _ _ _ _ (refusal-is (c .before)) (c .if1 .taken) (refl, refl, refl)
 
 decode-accepted-requires : tie.Need-decode-accepted-requires
 decode-accepted-requires c κs = let e = c .before .before in let f = e .before in
-    decode-accepted (f .before .before .before .by-number .ensures .coded) _ _ _ (sym (f .before .decode-refusal .ensures) ∙ first-none _ _ (sym (f .first .ensures) ∙ e .if1 .left) .1)
+    decode-accepted (chosen f .by-number .ensures .coded) _ _ _ (sym (f .before .decode-refusal .ensures) ∙ first-none _ _ (sym (f .first .ensures) ∙ e .if1 .left) .1)
 
 returns-2 : tie.Need-returns-2
 unfolding Decode-says
-returns-2 c = let d = c .before .before .before in let n = d .before .before .before .before .before .before .before .by-number .ensures in
-    outcome-done _ _ _ _ (cc) refl (decoded-as (n .m-is) (n .r-is) (toZ-ofZ (record { sfits = d .decode-accepted .ok })) (d .decode-accepted .ensures))
+returns-2 c = let d = c .before .before .before in let e = d .before .before .before in let n = chosen (e .before) .by-number .ensures in
+    outcome-done _ _ _ _
+    (sym (refusal-is (e .before)) ∙ e .if1 .left)
+    refl
+    (decoded-as (n .m-is) (n .r-is) (toZ-ofZ (record { sfits = d .decode-accepted .ok })) (d .decode-accepted .ensures))
 
 pub decode-spec : {M : Type 1} → statement M
 decode-spec =

@@ -1,5 +1,8 @@
 -- `marker::mark_refusal` meets its contract.
 -- Assumes nothing.
+use mathlib.Core.Path.{refl, ap}
+use lib.Dec.{eqb}
+use Rattle.refusal.proofs.Tests.{link}
 use borrow.Author.Needs.{needs}
 use Rattle.marker.specs.Calls.{mark-refusal}
 use Rattle.marker.proofs.mark_refusal.Statement.{statement}
@@ -7,7 +10,10 @@ use Rattle.marker.proofs.mark_refusal.Tie as tie
 
 returns : tie.Need-returns
 unfolding mark-refusal
-returns c = cc
+returns c =
+    let d = c .before .before in let b = d .before .before in let a = b .before .before in let z = a .before .before .before .pre in
+    link 2 (c .unless4 .ensures) (ap (eqb _) (z .bits-is)) (link 3 (d .unless3 .ensures) (ap (eqb _) (z .n-is))
+    (link 5 (b .unless2 .ensures) (b .before .is-row .ensures) (link 6 (a .unless .ensures) (a .before .symbols-good .ensures) refl)))
 
 pub mark-refusal-spec : {M : Type 1} → statement M
 mark-refusal-spec =

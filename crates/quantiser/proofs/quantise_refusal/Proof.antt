@@ -1,5 +1,9 @@
 -- `quantiser::quantise_refusal` meets its contract.
 -- Assumes nothing.
+use mathlib.Core.Path.{refl, ap}
+use mathlib.Core.Bool.{not}
+use lib.Dec.{eqb}
+use Rattle.refusal.proofs.Tests.{link}
 use borrow.Author.Needs.{needs}
 use Rattle.quantiser.specs.Calls.{quantise-refusal}
 use Rattle.quantiser.proofs.quantise_refusal.Statement.{statement}
@@ -7,7 +11,8 @@ use Rattle.quantiser.proofs.quantise_refusal.Tie as tie
 
 returns : tie.Need-returns
 unfolding quantise-refusal
-returns c = cc
+returns c = let b = c .before .before in let a = b .before .before in let z = a .before .before .before .pre in
+    link 2 (c .unless3 .ensures) (ap (eqb _) (z .bits-is)) (link 4 (b .unless2 .ensures) (ap (eqb _) (z .bits-is)) (link 7 (a .unless .ensures) (ap not (a .before .any-nan .ensures)) refl))
 
 pub quantise-refusal-spec : {M : Type 1} → statement M
 quantise-refusal-spec =
