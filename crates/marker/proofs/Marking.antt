@@ -15,7 +15,6 @@ use Rattle.code.specs.declared.Shape.{Shape}
 use Rattle.code.specs.Code.{long, is-codeword}
 use Rattle.code.specs.Bits.{row-long}
 use Rattle.code.specs.Within.{Coded, Word-within}
-use Rattle.code.proofs.Accepted.{width-small}
 use Rattle.code.proofs.Words.{Codeword-parts, codeword-parts}
 use Rattle.metric.specs.Metric.{metric, Greatest, Marked}
 use Rattle.metric.specs.Row.{row-bound}
@@ -110,7 +109,7 @@ module _ {s : Shape} {rs : List ℤ} {ws : List ℕ} (z : Coded s) (t : Mark-tak
   pub word-with : Word-with (s .m) rs (length ws)
   unfolding row-long
   word-with = record {
-    width = width-small (s .m) (z .width-is);
+    width = z .width-is;
     count = t .long-row ∙ ap (λ (n : ℕ). n * s .m) (sym (t .long-word));
     few = few-entries;
     good = t .good-row;

@@ -5,11 +5,12 @@ use mathlib.Core.List.{List}
 use Prim.Native.Nat.{ℕ, _*_, _≤_}
 use lib.ListN.{length}
 use lib.IntN.{ℤ, natAbs}
+use Rattle.field.specs.Field.{width-good}
 use Rattle.metric.specs.Row.{row-bound, row-good}
 
 -- a row for words of so many symbols
 pub record Word-with (m : ℕ) (row : List ℤ) (long : ℕ) : Type 0 where
-  pub width : m ≤ 4
+  pub width : width-good m ≡ true
   pub count : length row ≡ long * m
   pub few : length row ≤ 60
   pub good : row-good row-bound row ≡ true

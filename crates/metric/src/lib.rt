@@ -75,8 +75,8 @@ fn with_symbol(m: u32, row: &[i16], c: u8, sum: i32) -> i32
     s
 }
 
-// The metric of a word whose bits are as many as the entries of an accepted row.
-pub fn word_metric(m: u32, row: &[i16], word: &[u8]) -> i32
+// The metric of a word, symbol by symbol from the last.
+fn summed(m: u32, row: &[i16], word: &[u8]) -> i32
     requires { ⌜ Word-with m (now row) (length (now word)) ⌝ }
     ensures { λ x. ⌜ x ≡ metric m (now (row .entry)) (now (word .entry)) ⌝ }
 {
@@ -89,4 +89,16 @@ pub fn word_metric(m: u32, row: &[i16], word: &[u8]) -> i32
         sum = with_symbol(m, &row[at..], word[i], sum);
     }
     sum
+}
+
+// The metric of a word whose bits are as many as the entries of an accepted row; each m is named, so that the compiler knows how often a loop
+// over the bits of a symbol goes round.
+pub fn word_metric(m: u32, row: &[i16], word: &[u8]) -> i32
+    requires { ⌜ Word-with m (now row) (length (now word)) ⌝ }
+    ensures { λ x. ⌜ x ≡ metric m (now (row .entry)) (now (word .entry)) ⌝ }
+{
+    if m == 3 {
+        return summed(3, row, word);
+    }
+    summed(4, row, word)
 }

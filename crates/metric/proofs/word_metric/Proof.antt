@@ -1,76 +1,35 @@
--- `metric::word_metric` meets its contract: from its last symbol on.
+-- `metric::word_metric` meets its contract.
 -- Assumes nothing.
-use mathlib.Core.Path.{_≡_}
-use Prim.Native.Nat.{_+_, _*_, _-_, _≤_}
-use native.Mathlib.Omega.{arith}
-use borrow.Author.Needs.{needs}
-use lib.ListN.{length, drop}
+use mathlib.Core.Path.{_≡_, refl, _∙_}
+use mathlib.Core.Bool.{true}
+use mathlib.Core.List.{List}
+use Prim.Native.Nat.{ℕ}
+use lib.IntN.{ℤ}
 use mir.Facts.{toZ-ofZ}
-use mir.Syntax.{w32}
-use mir.Val.{toZ}
-use Rattle.code.specs.Bits.{all-bits}
-use Rattle.metric.specs.Metric.{metric-of}
-use Rattle.metric.proofs.Counting.{tail-is, place, none, symbol-more, rest-ok, whole}
+use Rattle.field.specs.Field.{width-good}
+use Rattle.field.proofs.Tests.{widths}
+use Rattle.metric.specs.Metric.{metric}
+use Rattle.metric.specs.Within.{Word-with}
 use Rattle.metric.proofs.word_metric.Statement.{statement}
 use Rattle.metric.proofs.word_metric.Tie as tie
 
-abbrev Inv-loop : tie.InvT-loop
-Inv-loop m row word sum₀ at₀ i₀ sum at i =
-    (i ≤ length word) × (at ≤ length row) × (at ≡ i * m) × (toZ w32 sum ≡ metric-of (drop at row) (all-bits m (drop i word)))
+not-three : (m : ℕ) → width-good m ≡ true → (m ≡ 3 → ⊥) → m ≡ 4
+not-three = widths (λ m. (m ≡ 3 → ⊥) → m ≡ 4) (λ f. absurd (f refl)) (λ f. refl)
 
-abbrev μ-loop : tie.MeasureT-loop
-μ-loop m row word sum₀ at₀ i₀ sum at i = i
+with-width : {m k : ℕ} {rs : List ℤ} {n : ℕ} → m ≡ k → Word-with m rs n → Word-with k rs n
+with-width e w = rw (← e) w
 
-loop-holds : tie.Need-loop-holds Inv-loop μ-loop
-loop-holds c = let a = c .before .args in
-    (omega arith, omega arith, c .before .pre .count, none (a .m) (a .row .now) (a .word .now))
+metric-at : {m k : ℕ} (rs : List ℤ) (ws : List ℕ) → m ≡ k → metric k rs ws ≡ metric m rs ws
+metric-at rs ws e = rw e
 
-sub-at : tie.Need-sub-at Inv-loop μ-loop
-sub-at c = omega (arith, c .before .loop .inv .2, place (c .before .loop .i) (c .before .before .before .args .m) (omega arith))
-
-mul-with-symbol : tie.Need-mul-with-symbol Inv-loop μ-loop
-mul-with-symbol c = record { fits = omega (arith, c .before .loop .inv .1, c .before .before .before .pre .few) }
-
-with-symbol-requires : tie.Need-with-symbol-requires Inv-loop μ-loop
-with-symbol-requires c κs = let s = c .before .before .before .before .before in
-    let a = s .args in
-    let t = c .before .before .before .loop in
-    let e : t .at - a .m + a .m ≡ t .at = omega (arith, t .inv .2, place (t .i) (a .m) (omega arith)) in
-    rw (tail-is (t .at - a .m) (a .row .now))
-    (rest-ok (a .m) (t .at - a .m) (a .row .now) (all-bits (a .m) (drop (t .i) (a .word .now))) (toZ w32 (t .sum)) (s .pre .width) (omega (arith, t .inv .1)) (s .pre .few) (s .pre .good) (rw e (t .inv .3)))
-
-loop-again : tie.Need-loop-again Inv-loop μ-loop
-loop-again c = let s = c .before .before .before .before .before .before in
-    let a = s .args in
-    let t = c .before .before .before .before .loop in
-    let x = toZ-ofZ {w = w32} {z = c .with-symbol .result} (record { sfits = c .with-symbol .ok }) in
-    let e : t .at - a .m + a .m ≡ t .at = omega (arith, t .inv .2, place (t .i) (a .m) (omega arith)) in (
-      omega arith,
-      omega (arith, t .inv .1),
-      omega (arith, t .inv .2, place (t .i) (a .m) (omega arith)),
-      rw x (symbol-more (a .m) (t .i - 1) (t .i) (t .at - a .m) (a .row .now) (a .word .now) (toZ w32 (t .sum)) (c .with-symbol .result) (omega arith) (omega arith) (rw e (t .inv .3)) (rw (tail-is (t .at - a .m) (a .row .now)) at (c .with-symbol .ensures))),
-    )
-
-returns : tie.Need-returns Inv-loop μ-loop
-returns c = let a = c .before .before .before .args in
-    let t = c .before .loop in
-    whole (a .m) (t .i) (t .at) (a .row .now) (a .word .now) (toZ w32 (t .sum)) (omega arith) (t .inv .2) (t .inv .3)
+four : (c : tie.Else1) → c .before .before .args .m ≡ 4
+four c = let s = c .before .before in not-three (s .args .m) (s .pre .width) (c .if1 .left)
 
 pub word-metric-spec : {M : Type 1} → statement M
 word-metric-spec =
     tie.close
     (tie.spec
-    Inv-loop
-    μ-loop
-    loop-holds
-    (λ c. search needs)
-    sub-at
-    mul-with-symbol
-    (λ c. omega (arith, c .before .loop .inv .1))
-    (λ c. search needs)
-    (λ c. search needs)
-    (λ c. search needs)
-    with-symbol-requires
-    (λ c. search needs)
-    loop-again
-    returns)
+    (λ c κs. with-width (c .if1 .taken) (c .before .before .pre))
+    (λ c. let t = c .before in toZ-ofZ (record { sfits = c .summed .ok }) ∙ c .summed .ensures ∙ metric-at (t .before .before .args .row .now) (t .before .before .args .word .now) (t .if1 .taken))
+    (λ c κs. with-width (four c) (c .before .before .pre))
+    (λ c. let e = c .before in toZ-ofZ (record { sfits = c .summed2 .ok }) ∙ c .summed2 .ensures ∙ metric-at (e .before .before .args .row .now) (e .before .before .args .word .now) (four e)))
