@@ -1,12 +1,19 @@
 -- `sheet::judged_end` meets its contract.
 -- Assumes nothing.
+use mathlib.Core.Path.{_≡_, refl, sym, ap, _∙_}
+use Prim.Native.Nat.{ℕ}
+use lib.Dec.{eqb}
+use Rattle.refusal.proofs.Tests.{link}
 use Rattle.sheet.proofs.Turns.{end-judged}
 use borrow.Author.Needs.{needs}
 use Rattle.sheet.proofs.judging.judged_end.Statement.{statement}
 use Rattle.sheet.proofs.judging.judged_end.Tie as tie
 
 returns : tie.Need-returns
-returns c = let s = c .before .before .before .before .before .args in cc (end-judged (s .seen) (s .w) (s .after))
+returns c =
+    let h = c .before in let v = h .before in let l = v .before in let u = l .before in let s = u .before .args in
+    link 11 (c .unless3 .ensures) (ap (λ (x : ℕ). eqb x 0) (h .head-code-of .ensures))
+    (link 12 (v .unless2 .ensures) (ap (λ (x : ℕ). eqb x (s .seen)) (l .low-of .ensures)) (u .unless .ensures)) ∙ sym (end-judged (s .seen) (s .w) (s .after))
 
 pub judged-end-spec : {M : Type 1} → statement M
 judged-end-spec =

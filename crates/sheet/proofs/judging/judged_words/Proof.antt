@@ -1,14 +1,15 @@
 -- `sheet::judged_words` meets its contract.
 -- Assumes nothing.
-use mathlib.Core.Path.{_≡_, refl, _∙_, sym}
+use mathlib.Core.Path.{_≡_, refl, sym, ap, _∙_}
 use mathlib.Core.List.{List}
-use Prim.Native.Nat.{ℕ, _+_, _-_, _<_, _≤_}
+use Prim.Native.Nat.{ℕ, _+_, _-_, _/_, _<_, _≤_}
 use lib.Dec.{lit≤}
-use lib.ListN.{getD, drop, drop-of-length-le}
+use lib.ListN.{length, getD, drop, drop-of-length-le}
 use denote.Ref.{now}
 use Rattle.code.specs.Code.{width}
-use Rattle.sheet.specs.Sheet.{as-words, kind, head-code, end-kind, most, question-long}
+use Rattle.sheet.specs.Sheet.{as-words, kind, head-code, end-kind, most, question-long, head-refusal, end-refusal}
 use Rattle.sheet.specs.Within.{judged-from}
+use Rattle.sheet.specs.Calls.{judgement}
 use Rattle.sheet.proofs.Forms.{question-long-le}
 use Rattle.sheet.proofs.Bytes.{as-words-length}
 use Rattle.sheet.proofs.Turns.{judged-none, head-here, turn-end, turn-refused, turn-more}
@@ -29,46 +30,68 @@ st a = a .before .before
 abbrev here : tie.At-loop Inv-loop μ-loop → ℕ
 here a = getD (as-words (now (st a .args .sheet))) (a .loop .at) 0
 
-no-end : (c : tie.Else1 Inv-loop μ-loop) → kind (here (c .before .before .before .before)) ≡ end-kind → ⊥
-unfolding end-kind
-no-end c e = c .if1 .left (cc)
+abbrev known : tie.After-kind-of Inv-loop μ-loop → tie.At-loop Inv-loop μ-loop
+known c = c .before .before .before
 
-refused : (c : tie.After-refused-head Inv-loop μ-loop) → let a = c .before .before .before .before .before in
-    c .refused-head .result ≡ head-here (st a .args .f) (now (st a .args .sheet)) (a .loop .left) (a .loop .at) (c .before .before .before .before .loop-test .taken)
-refused c = cc
+kind-is : (c : tie.After-kind-of Inv-loop μ-loop) → c .kind-of .result ≡ kind (here (known c))
+kind-is c = c .kind-of .ensures ∙ ap (λ (w : ℕ). kind w) (c .before .word-at .ensures)
+
+no-end : (c : tie.Else1 Inv-loop μ-loop) → kind (here (known (c .before))) ≡ end-kind → ⊥
+unfolding end-kind
+no-end c e = c .if1 .left (kind-is (c .before) ∙ e)
+
+refused : (c : tie.After-refused-head Inv-loop μ-loop) → let k = c .before .before in let a = known k in
+    c .refused-head .result ≡ head-here (st a .args .f) (now (st a .args .sheet)) (a .loop .left) (a .loop .at) (k .before .before .loop-test .taken)
+refused c = let k = c .before .before in let a = known k in let s = st a .args in
+    c .refused-head .ensures ∙ ap (λ (w : ℕ). head-refusal (s .f) (a .loop .left) w (drop (a .loop .at + 1) (as-words (now (s .sheet))))) (k .before .word-at .ensures)
 
 -- a question was accepted
-more : (c : tie.Else2 Inv-loop μ-loop) → let a = c .before .before .before .before .before .before in let s = st a .args in
-    (0 < a .loop .left) × (judged-from (s .f) most (as-words (now (s .sheet))) ≡ judged-from (s .f) (a .loop .left - 1) (drop (a .loop .at + (1 + question-long (s .f) (width (head-code (here a))))) (as-words (now (s .sheet)))))
+more : (c : tie.Else2 Inv-loop μ-loop) → let a = known (c .before .before .before) in let s = st a .args in
+    (0 < a .loop .left) × (judged-from (s .f) (a .loop .left) (drop (a .loop .at) (as-words (now (s .sheet))))
+    ≡ judged-from (s .f) (a .loop .left - 1) (drop (a .loop .at + (1 + question-long (s .f) (width (head-code (here a))))) (as-words (now (s .sheet)))))
 unfolding most
 more c =
-    let r = c .before in let a = r .before .before .before .before .before in
-    let t = turn-more (st a .args .f) (now (st a .args .sheet)) (a .loop .left) (a .loop .at) (r .before .before .before .before .loop-test .taken) (no-end (r .before)) (sym (refused r) ∙ c .if2 .left) (a .loop .inv .0) in
-    (t .0, a .loop .inv .1 ∙ t .1)
+    let r = c .before in let k = r .before .before in let a = known k in let s = st a .args in
+    turn-more (s .f) (now (s .sheet)) (a .loop .left) (a .loop .at) (k .before .before .loop-test .taken) (no-end (r .before)) (sym (refused r) ∙ c .if2 .left) (a .loop .inv .0)
+
+long-is : (c : tie.After-question-words-of Inv-loop μ-loop) → let a = known (c .before .before .before .before .before) in
+    c .question-words-of .result ≡ question-long (st a .args .f) (width (head-code (here a)))
+long-is c = let h = c .before in let k = h .before .before .before .before in let f = st (known k) .args .f in
+    c .question-words-of .ensures ∙ ap (λ (w : ℕ). question-long f (width w)) (h .head-code-of .ensures ∙ ap (λ (w : ℕ). head-code w) (k .before .word-at .ensures))
+
+at-most : {a b k : ℕ} → a ≡ b → b ≤ k → a ≤ k
+at-most e h = rw e h
 
 few : (c : tie.After-question-words-of Inv-loop μ-loop) → c .question-words-of .result ≤ 75
-few c =
-    let s = st (c .before .before .before .before .before .before .before .before) in
-    omega (arith, c .question-words-of .ensures, question-long-le (s .args .f) (s .pre .form) (c .before .head-code-of .result))
+few c = let s = st (known (c .before .before .before .before .before)) in at-most (c .question-words-of .ensures) (question-long-le (s .args .f) (s .pre .form) _)
 
 returns : tie.Need-returns Inv-loop μ-loop
 unfolding end-kind most
-returns c = let w = c .before .before .before in let a = w .before .before in
-    c .judged-end .ensures ∙ rw (w .word-at .ensures)
-    (sym (a .loop .inv .1 ∙ turn-end (st a .args .f) (now (st a .args .sheet)) (a .loop .left) (a .loop .at) (w .before .loop-test .taken) (cc)))
+returns c =
+    let t = c .before in let k = t .before in let a = known k in let s = st a .args in let n : ℕ = 200 - a .loop .left in
+    c .judged-end .ensures ∙ ap (λ (w : ℕ). judgement (end-refusal n w (length (now (s .sheet)) / 4 - (a .loop .at + 1))) n) (k .before .word-at .ensures)
+    ∙ sym (a .loop .inv .1 ∙ turn-end (s .f) (now (s .sheet)) (a .loop .left) (a .loop .at) (k .before .before .loop-test .taken) (sym (kind-is k) ∙ t .if1 .taken))
 
 returns-2 : tie.Need-returns-2 Inv-loop μ-loop
-returns-2 c = let r = c .before in let a = r .before .before .before .before .before in
+returns-2 c =
+    let r = c .before in let k = r .before .before in let a = known k in let s = st a .args in
     refused r ∙ sym (a .loop .inv .1
-    ∙ turn-refused (st a .args .f) (now (st a .args .sheet)) (a .loop .left) (a .loop .at) (r .before .before .before .before .loop-test .taken) (no-end (r .before)) (λ e. c .if2 .taken (refused r ∙ e)))
+    ∙ turn-refused (s .f) (now (s .sheet)) (a .loop .left) (a .loop .at) (k .before .before .loop-test .taken) (no-end (r .before)) (λ e. c .if2 .taken (refused r ∙ e)))
+
+less : {n k : ℕ} → n ≤ k → n - 1 ≤ k
+less h = omega arith
 
 loop-again : tie.Need-loop-again Inv-loop μ-loop
-loop-again c = let w = c .before .before .before .before .before .before in
-    (omega (arith, w .before .before .loop .inv .0), more (c .before .before) .1 ∙ rw (c .question-words-of .ensures, c .before .head-code-of .ensures, w .word-at .ensures))
+loop-again c =
+    let e = c .before .before in let a = known (e .before .before .before) in let s = st a .args in (
+      less (a .loop .inv .0),
+      a .loop .inv .1 ∙ more e .1 ∙ ap (λ (n : ℕ). judged-from (s .f) (a .loop .left - 1) (drop (a .loop .at + (1 + n)) (as-words (now (s .sheet))))) (sym (long-is c)),
+    )
 
 returns-3 : tie.Need-returns-3 Inv-loop μ-loop
 returns-3 c = let a = c .before in let bs : List ℕ = now (st a .args .sheet) in
-    sym (a .loop .inv .1 ∙ rw (drop-of-length-le (as-words bs) {i = a .loop .at} (omega (arith, as-words-length bs, c .loop-test .left))) (judged-none (st a .args .f) (a .loop .left)))
+    sym (a .loop .inv .1 ∙ rw (drop-of-length-le (as-words bs) {i = a .loop .at} (omega (arith, as-words-length bs, c .loop-test .left)))
+    (judged-none (st a .args .f) (a .loop .left)))
 
 loop-holds : tie.Need-loop-holds Inv-loop μ-loop
 unfolding most

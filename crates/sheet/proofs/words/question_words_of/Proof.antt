@@ -1,6 +1,11 @@
 -- `sheet::question_words_of` meets its contract.
 -- Assumes nothing.
-use Rattle.sheet.specs.Sheet.{row-words, symbol-words, question-long}
+use mathlib.Core.Path.{_≡_, ap, ap₂, _∙_}
+use Prim.Native.Nat.{ℕ, _+_}
+use Rattle.code.specs.declared.Shape.{Shape}
+use Rattle.code.specs.Within.{Coded}
+use Rattle.sheet.specs.declared.Form.{Form}
+use Rattle.sheet.specs.Sheet.{symbols, count, row-words, symbol-words, question-long}
 use Rattle.sheet.proofs.Forms.{symbols-fine, count-le, bits-le, n-le}
 use native.Mathlib.Omega.{arith}
 use borrow.Author.Needs.{needs}
@@ -15,12 +20,16 @@ count-of-requires-2 c κs = (symbols-fine, omega (arith, n-le (c .before .before
 
 add-result : tie.Need-add-result
 add-result c =
-    let b = c .before .before .before in let z = b .by-number .ensures .coded in
-    omega (arith, c .before .count-of .ensures, c .count-of2 .ensures, count-le (b .before .args .f) (b .before .pre) (b .by-number .result .shape .bits), count-le _ symbols-fine (b .by-number .result .shape .n), bits-le z, n-le z)
+    let b = c .before .before .before in let s = b .by-number .result .shape in let z = b .by-number .ensures .coded in
+    omega (arith, c .before .count-of .ensures, c .count-of2 .ensures, count-le (b .before .args .f) (b .before .pre) (s .bits), count-le _ symbols-fine (s .n), bits-le z, n-le z)
+
+long-is : (f : Form) {s : Shape} {m a b : ℕ} → Coded s → s .m ≡ m → a ≡ count f (s .bits) → b ≡ count symbols (s .n) → a + b ≡ question-long f m
+unfolding question-long row-words symbol-words
+long-is f z e p q = ap₂ _+_ (p ∙ rw (z .bits-is, e)) (q ∙ rw (z .n-is, e))
 
 returns : tie.Need-returns
-unfolding question-long row-words symbol-words
-returns c = cc
+returns c = let a = c .before in let s = a .before .before .by-number .ensures in
+    long-is (a .before .before .before .args .f) (s .coded) (s .m-is) (a .count-of .ensures) (c .count-of2 .ensures)
 
 pub question-words-of-spec : {M : Type 1} → statement M
 question-words-of-spec =
