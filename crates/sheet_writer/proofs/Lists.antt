@@ -4,7 +4,8 @@ use mathlib.Core.Path.{_≡_, refl, sym, _∙_}
 use mathlib.Core.Logic.{_⊎_, inl, inr}
 use mathlib.Core.Bool.{Bool, true}
 use mathlib.Core.List.{List, [], _∷_}
-use Prim.Native.Nat.{ℕ, zero, suc, _+_, _*_, _-_, _<_, _≤_, min}
+use Prim.Native.Nat.{ℕ, zero, suc, _+_, _*_, _-_, _^_, _<_, _≤_, min}
+use native.Mathlib.Nat.{mul-suc}
 use native.Mathlib.Numerals.{add-one}
 use native.Mathlib.Omega.{arith}
 use borrow.Author.Tests.{eqb-true, leb-true}
@@ -12,6 +13,8 @@ use lib.Dec.{leb, eqb}
 use lib.ListN.{length, getD, take, drop, length-drop, drop-of-length-le}
 use lib.Seq.{drop-cons, take-all}
 use lib.IntN.{ℤ}
+use mir.Syntax.{w64}
+use mir.Val.{Fits}
 use Rattle.refusal.specs.Refusal.{unless, first}
 use Rattle.code.specs.Code.{width, long, symbols-good}
 use Rattle.code.specs.Bits.{row-long}
@@ -49,6 +52,33 @@ take-least l {k} {n} {m} e h = by (le-or-lt n (length l))
 -- what is left from a place on, as a part of a slice
 pub rest-is : {A : Type 0} (l : List A) (n : ℕ) → take (length l - n) (drop n l) ≡ drop n l
 rest-is l n = take-all (length l - n) (drop n l) (omega (arith, length-drop n l))
+
+-- places in the lent slices, and what is asked of them
+pub next-in : {i n : ℕ} → i < n → i + 1 ≤ n
+next-in h = omega arith
+
+pub next-less : {i n : ℕ} → i < n → n - (i + 1) < n - i
+next-less h = omega arith
+
+pub other-in : {i n m : ℕ} → i < n → n ≡ m → i < m
+other-in h e = rw e at h
+
+pub further-in : {A : Type 0} (l : List A) (n : ℕ) {k b : ℕ} → n ≤ length l → k ≡ b → b ≤ length (drop n l) → n + k ≤ length l
+further-in l n h e r = omega (arith, length-drop n l)
+
+pub sum-in : (a : ℕ) {b k n : ℕ} → b ≡ k → a + k ≤ n → a + b ≤ n
+sum-in a e h = rw e h
+
+pub row-fits : {i n : ℕ} → i ≤ n → n * 2 < 2 ^ 63 → Fits w64 (i * 2)
+row-fits h l = record { fits = omega arith }
+
+-- a slice of n elements of k + 1 bytes
+module _ (n k : ℕ) (h : n * suc k < 2 ^ 63) where
+  pub length-fits : Fits w64 n
+  length-fits = record { fits = omega (arith, mul-suc n k) }
+
+  pub further-fits : {a b : ℕ} → a ≤ n → b ≤ 60 → Fits w64 (a + b)
+  further-fits p q = record { fits = omega (arith, mul-suc n k) }
 
 -- four tests in a row
 pub parts-is : (f : Form) (m k : ℕ) (rs : List ℤ) (ws : List ℕ) {u v w x : ℕ} {a b d e : Bool} →

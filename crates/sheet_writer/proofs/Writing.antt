@@ -4,10 +4,11 @@ use mathlib.Core.Path.{_≡_, refl, sym, ap, _∙_}
 use mathlib.Core.Bool.{true}
 use mathlib.Core.List.{List, [], _∷_, _++_, append-assoc, append-nil}
 use Prim.Native.Nat.{ℕ, suc, _+_, _*_, _-_, _<_, _≤_}
+use native.Mathlib.Nat.{add-sub-cancel-left}
 use native.Mathlib.Numerals.{add-one}
 use native.Mathlib.Omega.{arith}
 use borrow.Author.Tests.{ltb-true, leb-true, eqb-true}
-use lib.ListN.{length, getD, take, drop, length-take, length-drop, length-append, take-append-drop}
+use lib.ListN.{length, getD, take, drop, length-take, length-drop, length-append, take-append-drop, drop-of-length-le}
 use lib.Seq.{drop-cons, take-add, drop-drop, take-all, length-take-le}
 use lib.IntN.{ℤ}
 use Rattle.refusal.proofs.Tests.{passed, first-none}
@@ -22,7 +23,7 @@ use Rattle.sheet.proofs.Longest.{question-length, written-length}
 use Rattle.sheet.proofs.Trips.{Good, parts-good}
 use Rattle.sheet_writer.specs.Calls.{listed, parts-refusal, asked-refusal, list-refusal, write-refusal}
 use Rattle.sheet_writer.specs.Within.{words-needed, begun, List-within}
-use Rattle.sheet_writer.proofs.Lists.{enough, list-step}
+use Rattle.sheet_writer.proofs.Lists.{enough, rest-is, list-step}
 use Rattle.sheet_writer.proofs.Packing.{begun-none, begun-length, begun-join, begun-word, begun-all}
 
 all-words-append : (f : Form) (a b : List Question) → all-words f (a ++ b) ≡ all-words f a ++ all-words f b
@@ -33,6 +34,19 @@ all-words-append f (q ∷ qs) b = rw (append-assoc, all-words-append f qs b)
 -- the question that stands first in what is left
 abbrev pub first-of : (c n : ℕ) → List ℤ → List ℕ → Question
 first-of c n rs ws = question c n (take (row-long (width c)) rs) (take (long (width c)) ws)
+
+-- as it is lent
+pub lent-is : (c n : ℕ) (rs : List ℤ) (ws : List ℕ) (row word : ℕ) {a b : ℕ} → a ≡ row-long (width c) → b ≡ long (width c) →
+    question c n (take (row + a - row) (drop row rs)) (take (word + b - word) (drop word ws)) ≡ first-of c n (drop row rs) (drop word ws)
+lent-is c n rs ws row word {a} {b} e h = rw (add-sub-cancel-left row a, add-sub-cancel-left word b, e, h)
+
+-- an output from a place on has room for it, and is written so far
+pub part-room : (f : Form) (l : List ℕ) (n : ℕ) {p q : Question} → p ≡ q → n + 4 * length (question-words f q) ≤ length l →
+    4 * length (question-words f p) ≤ length (take (length l - n) (drop n l))
+part-room f l n e h = rw (e, rest-is l n, length-drop n l) (omega arith)
+
+pub part-is : (l : List ℕ) (n : ℕ) {x y : List ℕ} → x ≡ y → take n l ++ (x ++ drop (length l - n) (drop n l)) ≡ take n l ++ y
+part-is l n e = rw (drop-of-length-le (drop n l) {i = length l - n} (omega (arith, length-drop n l)), append-nil, e)
 
 -- an accepted question can be written
 pub asked-good : (f : Form) (c n k : ℕ) (rs : List ℤ) (ws : List ℕ) → asked-refusal f c n k rs ws ≡ 0 → Good f (first-of c n rs ws)

@@ -1,19 +1,23 @@
 -- `sheet_writer::write_list` meets its contract.
 -- Assumes nothing.
 use mathlib.Core.Path.{_≡_, refl, ap, ap₂, _∙_}
-use mathlib.Core.List.{List, _++_, append-nil}
-use Prim.Native.Nat.{ℕ, _+_, _*_, _-_, _/_, _≤_}
-use lib.ListN.{length, getD, take, drop, length-drop, drop-of-length-le}
+use mathlib.Core.List.{_++_}
+use Prim.Native.Nat.{ℕ, suc, _+_, _*_, _-_, _/_, _^_, _<_, _≤_}
+use native.Mathlib.Nat.{le-refl, le-trans, le-add-right}
+use lib.ListN.{length, getD, take, drop}
+use mir.Syntax.{w32, w64}
+use mir.Val.{Fits}
+use mir.Facts.{fits-le, fits-below}
 use denote.Ref.{now}
 use Rattle.code.specs.Code.{width, long}
 use Rattle.code.specs.Bits.{row-long}
-use Rattle.sheet.specs.Sheet.{Question, question, digits, worded, end-kind, question-words, question-good}
+use Rattle.sheet.specs.Sheet.{question, digits, worded, end-kind, question-long, question-words, question-good}
 use Rattle.sheet.proofs.Forms.{question-long-le}
 use Rattle.sheet.proofs.Longest.{question-length}
 use Rattle.sheet_writer.specs.Within.{begun}
-use Rattle.sheet_writer.proofs.Lists.{rest-is}
-use Rattle.sheet_writer.proofs.Writing.{Begun, begin, size, next-code, next, next-good, rows-left, words-left, fits-in, more, end-fits, done}
-use borrow.Author.Needs.{needs}
+use Rattle.sheet_writer.proofs.Lists.{rest-is, next-in, next-less, other-in, sum-in, row-fits, length-fits}
+use Rattle.sheet_writer.proofs.Writing.{lent-is, part-room, part-is, Begun, begin, size, next-code, next, next-good, rows-left, words-left, fits-in, more, end-fits, done}
+use borrow.Author.Needs.{needs, scaled-fits}
 use native.Mathlib.Omega.{arith}
 use Rattle.sheet_writer.proofs.write_list.Statement.{statement}
 use Rattle.sheet_writer.proofs.write_list.Tie as tie
@@ -36,6 +40,24 @@ at b = in-loop b .before
 abbrev by : tie.After-write-question-arg3 Inv-loop μ-loop → tie.After-by-number Inv-loop μ-loop
 by c = c .before .before .before .before .before .before .before
 
+at-most : {a b k : ℕ} → a ≡ b → b ≤ k → a ≤ k
+at-most e h = rw e h
+
+one-more : {a b k : ℕ} → a ≡ b → k ≡ suc b → 1 + a ≡ k
+one-more e h = omega arith
+
+less-than : {a b : ℕ} → a ≡ b → b * 1 < 2 ^ 63 → a * 1 < 2 ^ 63
+less-than e h = rw e h
+
+end-in : {a b n : ℕ} → a + 4 ≤ n → b ≡ a → b + 4 ≤ n
+end-in h e = rw e h
+
+end-fits-32 : {n : ℕ} → n ≤ 200 → Fits w32 (4026531840 + n)
+end-fits-32 h = record { fits = omega arith }
+
+few-fits : {n : ℕ} → n ≤ 75 → Fits w64 (1 + n) × Fits w64 (4 * (1 + n))
+few-fits h = (record { fits = omega arith }, record { fits = omega arith })
+
 row-is : (b : tie.After-by-number Inv-loop μ-loop) → b .by-number .result .shape .bits ≡ row-long (width (next-code (at b .loop .inv)))
 row-is b = let z = b .by-number .ensures in z .coded .bits-is ∙ ap row-long (z .m-is)
 
@@ -43,10 +65,10 @@ word-is : (b : tie.After-by-number Inv-loop μ-loop) → b .by-number .result .s
 word-is b = let z = b .by-number .ensures in z .coded .n-is ∙ ap long (z .m-is)
 
 rows-in : (b : tie.After-by-number Inv-loop μ-loop) → at b .loop .row + b .by-number .result .shape .bits ≤ length (now (st (at b) .args .rows))
-rows-in b = omega (arith, row-is b, rows-left (at b .loop .inv) (in-loop b .loop-test .taken))
+rows-in b = sum-in _ (row-is b) (rows-left (at b .loop .inv) (in-loop b .loop-test .taken))
 
 words-in : (b : tie.After-by-number Inv-loop μ-loop) → at b .loop .word + b .by-number .result .shape .n ≤ length (now (st (at b) .args .words))
-words-in b = omega (arith, word-is b, words-left (at b .loop .inv) (in-loop b .loop-test .taken))
+words-in b = sum-in _ (word-is b) (words-left (at b .loop .inv) (in-loop b .loop-test .taken))
 
 output-in : (b : tie.After-by-number Inv-loop μ-loop) → at b .loop .at + 4 * length (question-words (st (at b) .args .f) (next (at b .loop .inv))) ≤ length (at b .loop .output)
 output-in b = fits-in (at b .loop .inv) (in-loop b .loop-test .taken)
@@ -57,42 +79,47 @@ same-question : (b : tie.After-by-number Inv-loop μ-loop) → let a = at b in l
     (take (a .loop .row + b .by-number .result .shape .bits - a .loop .row) (drop (a .loop .row) (now (s .rows))))
     (take (a .loop .word + b .by-number .result .shape .n - a .loop .word) (drop (a .loop .word) (now (s .words))))
     ≡ next (a .loop .inv)
-same-question b =
-    let a = at b in
-    let n : a .loop .row + b .by-number .result .shape .bits - a .loop .row ≡ row-long (width (next-code (a .loop .inv))) = omega (arith, row-is b) in
-    let m : a .loop .word + b .by-number .result .shape .n - a .loop .word ≡ long (width (next-code (a .loop .inv))) = omega (arith, word-is b) in
-    rw (n, m)
+same-question b = let a = at b in let s = st a .args in
+    lent-is _ (getD (now (s .numbers)) (a .loop .i) 0) (now (s .rows)) (now (s .words)) (a .loop .row) (a .loop .word) (row-is b) (word-is b)
 
-words-here : (c : tie.After-question-words-of Inv-loop μ-loop) → let a = at (by (c .before .before .before .before)) in 1 + c .question-words-of .result ≡ length (question-words (st a .args .f) (next (a .loop .inv)))
-words-here c = rw question-length (omega (arith, c .question-words-of .ensures))
+abbrev asked-by : tie.After-question-words-of Inv-loop μ-loop → tie.After-by-number Inv-loop μ-loop
+asked-by c = by (c .before .before .before .before)
+
+long-is : (c : tie.After-question-words-of Inv-loop μ-loop) → let a = at (asked-by c) in
+    c .question-words-of .result ≡ question-long (st a .args .f) (width (next-code (a .loop .inv)))
+long-is c = c .question-words-of .ensures
+
+words-here : (c : tie.After-question-words-of Inv-loop μ-loop) → let a = at (asked-by c) in
+    1 + c .question-words-of .result ≡ length (question-words (st a .args .f) (next (a .loop .inv)))
+words-here c = let a = at (asked-by c) in one-more (long-is c) (question-length (st a .args .f) (next (a .loop .inv)))
 
 few : (c : tie.After-question-words-of Inv-loop μ-loop) → c .question-words-of .result ≤ 75
-few c = let a = at (by (c .before .before .before .before)) in let k : ℕ = next-code (a .loop .inv) in
-    omega (arith, c .question-words-of .ensures, question-long-le (st a .args .f) (st a .pre .form .form) k)
+few c = let s = st (at (asked-by c)) in at-most (long-is c) (question-long-le (s .args .f) (s .pre .form .form) _)
 
 write-question-requires : tie.Need-write-question-requires Inv-loop μ-loop
 write-question-requires c κs = let b = by c in let a = at b in let e = same-question b in (
   st a .pre .form,
   (
     ap (question-good (st a .args .f)) e ∙ next-good (a .loop .inv) (in-loop b .loop-test .taken),
-    omega (arith, ap (λ (q : Question). length (question-words (st a .args .f) q)) e, output-in b, ap length (rest-is (a .loop .output) (a .loop .at)), length-drop (a .loop .at) (a .loop .output)),
+    part-room (st a .args .f) (a .loop .output) (a .loop .at) e (output-in b),
   ),
 )
 
 add-at-2 : tie.Need-add-at-2 Inv-loop μ-loop
-add-at-2 c = let b = by (c .before .before .before .before) in let a = at b in
-    omega (arith, few c, output-in b, size (a .loop .inv), st a .good .1 .1 .1 .1 .1 .0 .1)
+add-at-2 c = let b = asked-by c in let a = at b in
+    fits-le (sum-in _ (ap (_*_ 4) (words-here c)) (output-in b)) (length-fits _ 0 (less-than (size (a .loop .inv)) (st a .good .1 .1 .1 .1 .1 .0 .1)))
 
 loop-again : tie.Need-loop-again Inv-loop μ-loop
-loop-again c = let b = by (c .before .before .before .before) in let a = at b in
+loop-again c = let b = asked-by c in let a = at b in
     more (a .loop .inv) (in-loop b .loop-test .taken) (ap (_+_ (a .loop .row)) (row-is b)) (ap (_+_ (a .loop .word)) (word-is b)) (ap (λ (x : ℕ). a .loop .at + 4 * x) (words-here c))
-    (ap₂ (λ (x y : List ℕ). take (a .loop .at) (a .loop .output) ++ (x ++ y))
-    (c .before .before .before .write-question .ensures ∙ ap₂ begun (ap (question-words (st a .args .f)) (same-question b)) (rest-is (a .loop .output) (a .loop .at)))
-    (drop-of-length-le (drop (a .loop .at) (a .loop .output)) {i = length (a .loop .output) - a .loop .at} (omega (arith, length-drop (a .loop .at) (a .loop .output))))
-    ∙ rw append-nil)
+    (part-is (a .loop .output) (a .loop .at)
+    (c .before .before .before .write-question .ensures ∙ ap₂ begun (ap (question-words (st a .args .f)) (same-question b)) (rest-is (a .loop .output) (a .loop .at))))
+
+fourth : {n : ℕ} (k : ℕ) → n ≡ 4 * k → 4 * (n / 4) ≡ n
+fourth k e = omega arith
 
 put-word-requires : tie.Need-put-word-requires Inv-loop μ-loop
-put-word-requires c κs = let l = c .before in omega (arith, end-fits (l .before .loop .inv) (l .loop-test .left), l .before .loop .inv .place)
+put-word-requires c κs = let l = c .before in end-in (end-fits (l .before .loop .inv) (l .loop-test .left)) (fourth _ (l .before .loop .inv .place))
 
 end-is : (n : ℕ) → 15 * 268435456 + n ≡ worded end-kind n
 unfolding worded end-kind
@@ -101,9 +128,8 @@ end-is n = refl
 returns : tie.Need-returns Inv-loop μ-loop
 returns c =
     let p = c .before .before in let l = p .before .before in let a = l .before in
-    let e : 4 * (a .loop .at / 4) ≡ a .loop .at = omega (arith, a .loop .inv .place) in
     p .put-word .ensures
-    ∙ ap₂ (λ (n w : ℕ). take n (a .loop .output) ++ (digits 256 4 w ++ drop (n + 4) (a .loop .output))) e (end-is (length (now (st a .args .codes))))
+    ∙ ap₂ (λ (n w : ℕ). take n (a .loop .output) ++ (digits 256 4 w ++ drop (n + 4) (a .loop .output))) (fourth _ (a .loop .inv .place)) (end-is (length (now (st a .args .codes))))
     ∙ done (a .loop .inv) (l .loop-test .left)
 
 pub write-list-spec : {M : Type 1} → statement M
@@ -113,34 +139,34 @@ write-list-spec =
     Inv-loop
     μ-loop
     (λ c. begin (c .before .before .before .before .pre))
-    (λ c. search needs)
-    (λ c. search needs)
+    (λ c. scaled-fits _ _ 4 (c .loop-test .taken) (st (c .before) .good .1 .0 .1))
+    (λ c. c .before .loop-test .taken)
     (λ c κs. search needs)
-    (λ c. omega (arith, rows-in (c .before .before)))
-    (λ c. omega (arith, words-in (c .before .before .before)))
-    (λ c. let i = in-loop (c .before .before .before) in omega (arith, i .loop-test .taken, st (i .before) .pre .few))
-    (λ c. let i = in-loop (c .before .before .before .before) in omega (arith, i .loop-test .taken, st (i .before) .pre .same))
-    (λ c. omega (arith, at (c .before .before .before .before) .loop .inv .row-in))
-    (λ c. search needs)
-    (λ c. search needs)
+    (λ c. let b = c .before .before in fits-le (rows-in b) (length-fits _ 1 (st (at b) .good .1 .1 .1 .0 .1)))
+    (λ c. let b = c .before .before .before in fits-le (words-in b) (length-fits _ 0 (st (at b) .good .1 .1 .1 .1 .0 .1)))
+    (λ c. let i = in-loop (c .before .before .before) in scaled-fits _ _ 4 (i .loop-test .taken) (st (i .before) .good .1 .0 .1))
+    (λ c. let i = in-loop (c .before .before .before .before) in other-in (i .loop-test .taken) (st (i .before) .pre .same))
+    (λ c. let a = at (c .before .before .before .before) in row-fits (a .loop .inv .row-in) (st a .good .1 .1 .1 .0 .1))
+    (λ c. le-add-right _ _)
+    (λ c. le-add-right _ _)
     (λ c. rows-in (c .before .before .before .before))
-    (λ c. search needs)
-    (λ c. search needs)
+    (λ c. le-add-right _ _)
+    (λ c. le-add-right _ _)
     (λ c. words-in (c .before .before .before .before .before))
-    (λ c. omega (arith, output-in (c .before .before .before .before .before .before)))
-    (λ c. omega (arith, output-in (c .before .before .before .before .before .before)))
-    (λ c. search needs)
+    (λ c. le-trans (le-add-right _ _) (output-in (c .before .before .before .before .before .before)))
+    (λ c. le-trans (le-add-right _ _) (output-in (c .before .before .before .before .before .before)))
+    (λ c. le-refl _)
     write-question-requires
-    (λ c κs. search needs)
-    (λ c. omega (arith, few c))
-    (λ c. omega (arith, few c))
+    (λ c κs. st (at (by (c .before .before .before))) .pre .form .form)
+    (λ c. few-fits (few c) .0)
+    (λ c. few-fits (few c) .1)
     add-at-2
-    (λ c. search needs)
-    (λ c. search needs)
+    (λ c. let i = in-loop (asked-by c) in fits-le (next-in (i .loop-test .taken)) (length-fits _ 3 (st (i .before) .good .1 .0 .1)))
+    (λ c. next-less (in-loop (asked-by c) .loop-test .taken))
     loop-again
-    (λ c. omega (arith, st (c .before) .pre .few))
     (λ c. search needs)
-    (λ c. omega (arith, st (c .before) .pre .few))
+    (λ c. fits-below tt (st (c .before) .pre .few))
+    (λ c. end-fits-32 (st (c .before) .pre .few))
     put-word-requires
     (λ c. let p = c .before .before in p .put-word .kept .0 ∙ size (p .before .before .before .loop .inv))
     returns)

@@ -1,20 +1,22 @@
 -- `sheet_writer::refused_list` meets its contract.
 -- Assumes nothing.
 use mathlib.Core.Path.{_≡_, refl, sym, ap, ap₂, _∙_}
-use Prim.Native.Nat.{ℕ, _+_, _-_, _^_, _<_, _≤_}
+use Prim.Native.Nat.{ℕ, _+_, _-_, _<_, _≤_}
+use native.Mathlib.Nat.{le-refl, le-trans}
+use lib.Dec.{eqb, lit≤}
 use lib.ListN.{length, getD, drop, length-drop}
 use lib.Seq.{drop-drop}
 use denote.Ref.{now}
 use Rattle.refusal.specs.Refusal.{first}
-use Rattle.refusal.proofs.Tests.{first-refuses, first-passes}
+use Rattle.refusal.proofs.Tests.{link, first-refuses, first-passes}
 use Rattle.code.specs.Code.{width, long}
 use Rattle.code.specs.Bits.{row-long}
 use Rattle.sheet.proofs.Forms.{bits-le, n-le}
 use Rattle.sheet_writer.specs.Calls.{asked-refusal, list-refusal}
-use Rattle.sheet_writer.proofs.Lists.{rest-is, list-step, list-end}
+use Rattle.sheet_writer.proofs.Lists.{rest-is, next-in, next-less, other-in, further-in, row-fits, length-fits, further-fits, list-step, list-end}
 use Rattle.sheet_writer.proofs.Writing.{room}
-use borrow.Author.Needs.{needs}
-use native.Mathlib.Omega.{arith}
+use mir.Facts.{fits-le}
+use borrow.Author.Needs.{needs, scaled-fits}
 use Rattle.sheet_writer.proofs.list.refused_list.Statement.{statement}
 use Rattle.sheet_writer.proofs.list.refused_list.Tie as tie
 
@@ -38,8 +40,8 @@ whole a = let s = st a .args in list-refusal (s .f) (now (s .codes)) (now (s .nu
 abbrev asked-at : tie.After-struct-known2 Inv-loop μ-loop → tie.After-refused-question Inv-loop μ-loop
 asked-at c = c .before .before .before .before .before
 
-inside : (c : tie.After-refused-question Inv-loop μ-loop) → (at c .loop .i < length (now (st (at c) .args .codes))) × (length (now (st (at c) .args .codes)) < 2 ^ 64)
-inside c = (c .before .before .before .before .before .loop-test .taken, omega (arith, st (at c) .good .1 .0 .1))
+abbrev taken : (c : tie.After-refused-question Inv-loop μ-loop) → at c .loop .i < length (now (st (at c) .args .codes))
+taken c = c .before .before .before .before .before .loop-test .taken
 
 asked : (c : tie.After-refused-question Inv-loop μ-loop) → let a = at c in let s = st a .args in
     c .refused-question .result
@@ -56,8 +58,11 @@ turn : (c : tie.After-refused-question Inv-loop μ-loop) → let a = at c in let
     ≡ first (c .refused-question .result)
     (list-refusal (s .f) (drop (a .loop .i + 1) (now (s .codes))) (drop (a .loop .i + 1) (now (s .numbers)))
     (drop (row-long m) (drop (a .loop .row) (now (s .rows)))) (drop (long m) (drop (a .loop .word) (now (s .words)))))
-turn c = let a = at c in let t = c .before .before .before .before .before .loop-test .taken in
-    a .loop .inv .2 ∙ list-step _ _ _ _ _ _ t (omega (arith, t, st a .pre .1)) ∙ ap₂ first (sym (asked c)) refl
+turn c = let a = at c in a .loop .inv .2 ∙ list-step _ _ _ _ _ _ (taken c) (other-in (taken c) (st a .pre .1)) ∙ ap₂ first (sym (asked c)) refl
+
+add-word : tie.Need-add-word Inv-loop μ-loop
+add-word c = let a = at (asked-at c) in
+    further-fits _ 0 (st a .good .1 .1 .1 .1 .0 .1) (a .loop .inv .1) (le-trans (n-le (c .before .before .before .by-number .ensures .coded)) (lit≤ tt))
 
 loop-again : tie.Need-loop-again Inv-loop μ-loop
 loop-again c = let b = c .before .before .before in let r = b .before .before in let a = at r in let s = st a .args in
@@ -65,8 +70,8 @@ loop-again c = let b = c .before .before .before in let r = b .before .before in
     let n : b .by-number .result .shape .bits ≡ row-long (width k) = z .coded .bits-is ∙ ap row-long (z .m-is) in
     let m : b .by-number .result .shape .n ≡ long (width k) = z .coded .n-is ∙ ap long (z .m-is) in
     let f = room (s .f) k _ _ _ _ (sym (asked r) ∙ b .before .if1 .left) in (
-      omega (arith, a .loop .inv .0, n, f .0, length-drop (a .loop .row) (now (s .rows))),
-      omega (arith, a .loop .inv .1, m, f .1, length-drop (a .loop .word) (now (s .words))),
+      further-in (now (s .rows)) (a .loop .row) (a .loop .inv .0) n (f .0),
+      further-in (now (s .words)) (a .loop .word) (a .loop .inv .1) m (f .1),
       turn r ∙ sym (first-passes _ _ (b .before .if1 .left))
           ∙ ap₂ (list-refusal _ _ _)
           (drop-drop (row-long (width k)) (a .loop .row) (now (s .rows)) ∙ ap (λ (x : ℕ). drop (a .loop .row + x) (now (s .rows))) (sym n))
@@ -76,7 +81,8 @@ loop-again c = let b = c .before .before .before in let r = b .before .before in
 returns-2 : tie.Need-returns-2 Inv-loop μ-loop
 returns-2 c = let e = c .before .before in let a = e .before in let s = st a .args in
     let over = a .loop .inv .2 ∙ list-end _ _ _ _ (drop (a .loop .row) (now (s .rows))) (drop (a .loop .word) (now (s .words))) (e .loop-test .left) in
-    cc (over, length-drop (a .loop .row) (now (s .rows)), length-drop (a .loop .word) (now (s .words)))
+    link 2 (c .unless2 .ensures) (ap (λ (n : ℕ). eqb n 0) (sym (length-drop (a .loop .row) (now (s .rows)))))
+    (link 3 (c .before .unless .ensures) (ap (λ (n : ℕ). eqb n 0) (sym (length-drop (a .loop .word) (now (s .words))))) refl) ∙ sym over
 
 pub refused-list-spec : {M : Type 1} → statement M
 refused-list-spec =
@@ -85,29 +91,29 @@ refused-list-spec =
     Inv-loop
     μ-loop
     (λ c. (search needs, search needs, refl))
-    (λ c. search needs)
-    (λ c. search needs)
-    (λ c. search needs)
-    (λ c. search needs)
-    (λ c. search needs)
-    (λ c. search needs)
-    (λ c. search needs)
-    (λ c. search needs)
-    (λ c. search needs)
-    (λ c. search needs)
-    (λ c. search needs)
-    (λ c. search needs)
-    (λ c. search needs)
-    (λ c κs. search needs)
+    (λ c. scaled-fits _ _ 4 (c .loop-test .taken) (st (c .before) .good .1 .0 .1))
+    (λ c. c .before .loop-test .taken)
+    (λ c. scaled-fits _ _ 4 (c .before .loop-test .taken) (st (c .before .before) .good .1 .0 .1))
+    (λ c. let i = c .before .before in other-in (i .loop-test .taken) (st (i .before) .pre .1))
+    (λ c. let i = c .before .before in fits-le (next-in (i .loop-test .taken)) (length-fits _ 3 (st (i .before) .good .1 .0 .1)))
+    (λ c. next-in (c .before .before .loop-test .taken))
+    (λ c. let a = c .before .before .before in row-fits (a .loop .inv .0) (st a .good .1 .1 .1 .0 .1))
+    (λ c. c .before .before .before .loop .inv .0)
+    (λ c. c .before .before .before .loop .inv .0)
+    (λ c. le-refl _)
+    (λ c. c .before .before .before .before .loop .inv .1)
+    (λ c. c .before .before .before .before .loop .inv .1)
+    (λ c. le-refl _)
+    (λ c κs. st (c .before .before .before .before .before) .pre .0)
     (λ c. first-refuses _ _ (c .if1 .taken) ∙ sym (turn (c .before)))
     (λ c κs. search needs)
-    (λ c. omega (arith, bits-le (c .before .before .by-number .ensures .coded), at (c .before .before .before .before) .loop .inv .0))
-    (λ c. let r = asked-at c in omega (arith, n-le (c .before .before .before .by-number .ensures .coded), at r .loop .inv .1, st (at r) .good .1 .1 .1 .1 .0 .1))
-    (λ c. omega (arith, inside (asked-at c)))
-    (λ c. omega (arith, inside (asked-at c)))
+    (λ c. let b = c .before .before in let a = at (b .before .before) in further-fits _ 1 (st a .good .1 .1 .1 .0 .1) (a .loop .inv .0) (bits-le (b .by-number .ensures .coded)))
+    add-word
+    (λ c. let r = asked-at c in fits-le (next-in (taken r)) (length-fits _ 3 (st (at r) .good .1 .0 .1)))
+    (λ c. next-less (taken (asked-at c)))
     loop-again
-    (λ c. search needs)
+    (λ c. c .before .loop .inv .1)
     (λ c κs. search needs)
-    (λ c. search needs)
+    (λ c. c .before .before .loop .inv .0)
     (λ c κs. search needs)
     returns-2)

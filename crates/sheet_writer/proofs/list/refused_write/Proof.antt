@@ -1,16 +1,22 @@
 -- `sheet_writer::refused_write` meets its contract.
 -- Assumes nothing.
-use mathlib.Core.Path.{_≡_, sym, _∙_}
-use mathlib.Core.Bool.{true, _&&_}
-use Prim.Native.Nat.{_≤_}
+use mathlib.Core.Path.{_≡_, refl, sym, ap, ap₂, _∙_}
+use mathlib.Core.Bool.{true, false, _&&_}
+use mathlib.Core.List.{List}
+use Prim.Native.Nat.{ℕ, _+_, _*_, _≤_}
 use borrow.Author.Tests.{not-true, not-false, leb-true, eqb-true}
 use lib.Dec.{leb, eqb}
 use lib.ListN.{length}
+use lib.IntN.{ℤ}
 use denote.Ref.{now}
-use Rattle.refusal.specs.Refusal.{unless}
+use Rattle.refusal.specs.Refusal.{unless, first}
+use Rattle.refusal.proofs.Tests.{link}
+use Rattle.sheet.specs.declared.Form.{Form}
 use Rattle.sheet.specs.Sheet.{most}
+use Rattle.sheet.specs.Within.{Fine}
 use Rattle.sheet.proofs.Items.{both}
-use Rattle.sheet_writer.specs.Calls.{write-refusal}
+use Rattle.sheet_writer.specs.Calls.{list-refusal, write-refusal}
+use Rattle.sheet_writer.specs.Within.{words-needed}
 use Rattle.sheet_writer.proofs.Lists.{needed-le}
 use Rattle.sheet_writer.proofs.Writing.{sheet-long}
 use native.Mathlib.Omega.{arith}
@@ -30,17 +36,32 @@ few c = let s = st (c .before) .args in leb-true (length (now (s .codes))) 200 (
 same : (c : tie.Else1) → let s = st (c .before) .args in length (now (s .codes)) ≡ length (now (s .numbers))
 same c = let s = st (c .before) .args in eqb-true (length (now (s .codes))) (length (now (s .numbers))) (both (leb (length (now (s .codes))) 200) _ (tested c) .1)
 
+needed-small : (f : Form) → Fine f → (cs : List ℕ) {n : ℕ} → n ≡ words-needed f cs → length cs ≤ 200 → n ≤ 15200
+needed-small f z cs e h = omega (arith, needed-le f z cs)
+
 small : (c : tie.After-needed) → c .needed .result ≤ 15200
-small c = let e = c .before in let s = st (e .before) in omega (arith, c .needed .ensures, needed-le (s .args .f) (s .pre .form) (now (s .args .codes)), few e)
+small c = let e = c .before in let s = st (e .before) in needed-small (s .args .f) (s .pre .form) (now (s .args .codes)) (c .needed .ensures) (few e)
+
+module _ (f : Form) (cs ns : List ℕ) (rs : List ℤ) (ws : List ℕ) (o : ℕ) where
+  write-refused : (leb (length cs) 200 && eqb (length cs) (length ns)) ≡ false → 12 ≡ write-refusal f cs ns rs ws o
+  unfolding write-refusal most unless
+  write-refused h = rw h
+
+  write-is : {r e t k : ℕ} → (leb (length cs) 200 && eqb (length cs) (length ns)) ≡ true → length cs ≡ length ns → r ≡ first e t → e ≡ list-refusal f cs ns rs ws →
+      t ≡ unless (eqb o (4 * (k + 1))) 4 0 → k ≡ words-needed f cs → r ≡ write-refusal f cs ns rs ws o
+  unfolding write-refusal most unless
+  write-is h l p q s n =
+      rw h (p ∙ ap₂ first q (link 4 s (ap (λ (k : ℕ). eqb o (4 * (k + 1))) n ∙ ap (eqb o) (sym (sheet-long f cs ns rs ws l))) refl))
 
 returns : tie.Need-returns
-unfolding write-refusal most unless
-returns c = let e = sym (c .before .both .ensures) ∙ not-true (c .before .both .result) (c .if1 .taken) in rw e
+returns c = let b = c .before .both in let s = st (c .before) .args in
+    write-refused (s .f) (now (s .codes)) (now (s .numbers)) (now (s .rows)) (now (s .words)) (s .output) (sym (b .ensures) ∙ not-true (b .result) (c .if1 .taken))
 
 returns-2 : tie.Need-returns-2
-unfolding write-refusal most unless
-returns-2 c = let e = c .before .before .before .before in let s = st (e .before) .args in
-    rw (tested e) (cc (sheet-long (s .f) (now (s .codes)) (now (s .numbers)) (now (s .rows)) (now (s .words)) (same e)))
+returns-2 c =
+    let l = c .before in let u = l .before in let n = u .before in let e = n .before in let s = st (e .before) .args in
+    write-is (s .f) (now (s .codes)) (now (s .numbers)) (now (s .rows)) (now (s .words)) (s .output) (tested e) (same e)
+    (c .first .ensures) (l .refused-list .ensures) (u .unless .ensures) (n .needed .ensures)
 
 pub refused-write-spec : {M : Type 1} → statement M
 refused-write-spec =
