@@ -65,13 +65,6 @@ fn visit(f: &[u16], size: usize, t: [u16; 4], g: &mut [u16]) -> u16
     x
 }
 
-// The less of two costs.
-fn less(a: u16, b: u16) -> u16
-    ensures { λ r. ⌜ r ≡ min a b ⌝ }
-{
-    if a <= b { a } else { b }
-}
-
 // k where x is less than the least so far, else where the least was found.
 fn where_less(x: u16, least: u16, k: usize, at: usize) -> usize
     ensures { λ r. ⌜ r ≡ cond (ltb x least) k at ⌝ }
@@ -99,7 +92,7 @@ pub fn walk(f: &[u16], size: usize, configs: &[u16], n: usize, g: &mut [u16], ca
     while k < n {
         let x = visit(f, size, tuple_at(configs, k), g);
         at = where_less(x, least, k, at);
-        least = less(least, x);
+        least = lanes::less_of(least, x);
         k += 1;
     }
     let best = tuple_at(configs, at);
@@ -128,11 +121,11 @@ pub fn least_of(f: &[u16], size: usize, configs: &[u16], n: usize, cap: u16) -> 
     while k + 1 < n {
         let a = total_at(f, size, configs, k);
         let b = total_at(f, size, configs, k + 1);
-        least = less(less(least, a), b);
+        least = lanes::less_of(lanes::less_of(least, a), b);
         k += 2;
     }
     if k < n {
-        least = less(least, total_at(f, size, configs, k));
+        least = lanes::less_of(least, total_at(f, size, configs, k));
     }
     least
 }

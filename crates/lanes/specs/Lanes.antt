@@ -18,9 +18,13 @@ lanes f = f 0 ∷ f 1 ∷ f 2 ∷ f 3 ∷ []
 unfoldable pub row : List ℕ → ℕ → List ℕ
 row t s = lanes (entry t s)
 
+-- four places written from `at` on
+abbrev pub put-four : {A : Type 0} → List A → (at : ℕ) → (ℕ → A) → List A
+put-four w at f = set (set (set (set w (at + 0) (f 0)) (at + 1) (f 1)) (at + 2) (f 2)) (at + 3) (f 3)
+
 -- row s of a list of rows written anew
 unfoldable pub put : List ℕ → ℕ → List ℕ → List ℕ
-put t s r = set (set (set (set t (s * 4 + 0) (lane r 0)) (s * 4 + 1) (lane r 1)) (s * 4 + 2) (lane r 2)) (s * 4 + 3) (lane r 3)
+put t s r = put-four t (s * 4) (lane r)
 
 -- TWO ROWS SIDE BY SIDE, given by their entries: eight lanes, 0 to 3 of the first row and 4 to 7 of the second
 abbrev pub beside : (a b : ℕ → ℕ) → List ℕ

@@ -5,12 +5,19 @@ ghost use Prim.Native.Nat.{_+_, _*_, _<_, _≤_, min};
 ghost use lib.ListN.{length};
 ghost use Rattle.lanes.specs.Lanes.{row, rows, twofold, sum, less, put, put-two, limit, Small, Sums};
 
-// The less of two costs. They are compared as signed numbers, for which the vector instructions have a minimum.
+// The less of two costs that are compared as signed numbers, for which the vector instructions have a minimum.
 fn min_of(a: u16, b: u16) -> u16
     requires { ⌜ (a < limit) × (b < limit) ⌝ }
     ensures { λ r. ⌜ r ≡ min a b ⌝ }
 {
     if (a as i16) <= (b as i16) { a } else { b }
+}
+
+// The less of any two costs.
+pub fn less_of(a: u16, b: u16) -> u16
+    ensures { λ r. ⌜ r ≡ min a b ⌝ }
+{
+    if a <= b { a } else { b }
 }
 
 // Row s of a slice of rows.

@@ -24,7 +24,8 @@ use Rattle.code.specs.Within.{Coded}
 use Rattle.split.specs.Split.{column}
 use Rattle.metric.specs.Cost.{costZero, costOne}
 use Rattle.lanes.proofs.Rows.{four}
-use Rattle.search.specs.Within.{reliability, Headed, put-four, Spread, Costs-to, Costed}
+use Rattle.lanes.specs.Lanes.{put-four}
+use Rattle.search.specs.Within.{reliability, Headed, Spread, Costs-to, Costed}
 
 -- ---- a reliability's costs, by its sign
 clash : {X : Type 0} → false ≡ true → X
@@ -107,11 +108,9 @@ module _ (w : List ℤ) (at : ℕ) (f : ℕ → ℤ) where
   w3 = set w2 (at + 2) (f 2)
 
   pub length-four : length (put-four w at f) ≡ length w
-  unfolding put-four
   length-four = simp length-set
 
   four-other : (k : ℕ) → k < at → getD (put-four w at f) k (pos 0) ≡ getD w k (pos 0)
-  unfolding put-four
   four-other k l =
       getD-set-other w3 (at + 3) k (f 3) (pos 0) (λ e. omega arith)
       ∙ getD-set-other w2 (at + 2) k (f 2) (pos 0) (λ e. omega arith)
@@ -119,7 +118,6 @@ module _ (w : List ℤ) (at : ℕ) (f : ℕ → ℤ) where
       ∙ getD-set-other w (at + 0) k (f 0) (pos 0) (λ e. omega arith)
 
   four-at : at + 4 ≤ length w → (j : ℕ) → j < 4 → getD (put-four w at f) (at + j) (pos 0) ≡ f j
-  unfolding put-four
   four-at l =
       four (λ j. getD (put-four w at f) (at + j) (pos 0) ≡ f j)
       (getD-set-other w3 (at + 3) (at + 0) (f 3) (pos 0) (λ e. omega arith)
@@ -134,7 +132,6 @@ module _ (w : List ℤ) (at : ℕ) (f : ℕ → ℤ) where
       (getD-set-same w3 (at + 3) (f 3) (pos 0) (simp length-set (omega arith)))
 
 pub four-is : (w : List ℤ) (at : ℕ) (f : ℕ → ℤ) (a b c d : ℤ) → a ≡ f 0 → b ≡ f 1 → c ≡ f 2 → d ≡ f 3 → set (set (set (set w (at + 0) a) (at + 1) b) (at + 2) c) (at + 3) d ≡ put-four w at f
-unfolding put-four
 four-is w at f a b c d ea eb ec ed = rw (ea, eb, ec, ed) refl
 
 pub spread-more : (m i : ℕ) (row wide wide' : List ℤ) → i * 4 + 4 ≤ length wide → Spread m i row wide → wide' ≡ put-four wide (i * 4) (reliability m row i) → Spread m (i + 1) row wide'

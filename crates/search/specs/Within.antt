@@ -5,7 +5,7 @@ use mathlib.Core.Bool.{true, cond}
 use mathlib.Core.List.{List, [], _∷_}
 use Prim.Native.Nat.{ℕ, suc, _+_, _*_, _/_, _%_, _^_, _≤_, _<_}
 use lib.Dec.{ltb}
-use lib.ListN.{length, getD, set}
+use lib.ListN.{length, getD}
 use lib.IntN.{ℤ, pos}
 use Rattle.field.specs.Field.{width-good}
 use Rattle.code.specs.declared.Shape.{Shape}
@@ -39,10 +39,6 @@ reliability m rs i j = cond (ltb j m) (getD rs (i * m + j) (pos 0)) (pos 0)
 pub record Headed (m r : ℕ) (hs : List ℕ) : Type 0 where
   pub count : length hs ≡ long m
   pub heads : (i : ℕ) → i < long m → getD hs i 0 ≡ column m r i
-
--- four places written from `at` on
-unfoldable pub put-four : List ℤ → (at : ℕ) → (ℕ → ℤ) → List ℤ
-put-four w at f = set (set (set (set w (at + 0) (f 0)) (at + 1) (f 1)) (at + 2) (f 2)) (at + 3) (f 3)
 
 -- the first n positions of a row, four places each
 abbrev pub Spread : (m n : ℕ) → (row wide : List ℤ) → Type 0

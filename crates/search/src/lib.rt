@@ -12,8 +12,8 @@ ghost use Rattle.field.specs.Field.{width-good};
 ghost use Rattle.code.specs.Within.{Coded};
 ghost use Rattle.metric.specs.Row.{row-bound, reliability-good, row-good};
 ghost use Rattle.metric.specs.Cost.{costZero, costOne, weight-of};
-ghost use Rattle.lanes.specs.Lanes.{lane};
-ghost use Rattle.search.specs.Within.{cap, reliability, Headed, put-four, Spread, Costs-to, Costs-within, Costed, Input, Buffers, Tabled, tuples-of, count-of, symbol-cost, word-cost, Own, Symbol};
+ghost use Rattle.lanes.specs.Lanes.{lane, put-four};
+ghost use Rattle.search.specs.Within.{cap, reliability, Headed, Spread, Costs-to, Costs-within, Costed, Input, Buffers, Tabled, tuples-of, count-of, symbol-cost, word-cost, Own, Symbol};
 ghost use Rattle.trellis.specs.Trellis.{pick};
 ghost use Rattle.glue.specs.Walk.{sum4, least-total, Tuples, Walked, Marginals};
 

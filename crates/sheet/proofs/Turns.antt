@@ -18,8 +18,9 @@ use Rattle.code.specs.Code.{width, long}
 use Rattle.code.specs.Bits.{row-long}
 use Rattle.code.proofs.Words.{Below}
 use Rattle.sheet.specs.declared.Form.{Form}
+use Rattle.sheet.specs.declared.judging.Scan.{Scan}
 use Rattle.sheet.specs.Sheet.{reliabilities, symbols, digits, kind, body, head-code, low, head-kind, end-kind, most, used, items, count, row-words, symbol-words, question-long, word-refusal, items-refusal, row-refusal, symbol-refusal, question-refusal, head-refusal, end-refusal, next-refusal, rest-refusal, after-row, after, questions-from, questions, sheet-refusal, as-words}
-use Rattle.sheet.specs.Within.{Row-form, outside, judged-from}
+use Rattle.sheet.specs.Within.{Row-form, outside, Scan-says, judged-from}
 use Rattle.sheet.specs.Calls.{judgement, judged}
 use Rattle.sheet.proofs.Digits.{digits-below}
 use Rattle.sheet.proofs.Items.{le-or-lt}
@@ -31,6 +32,10 @@ use Rattle.sheet.proofs.Bytes.{as-words-length}
 pub record Scanned (v b n lo hi rest : ℕ) (good : Bool) (left : ℕ) : Type 0 where
   pub above : v / b ^ n ≡ rest / b ^ left
   pub tested : outside lo hi (digits b n v) ≡ (good && outside lo hi (digits b left rest))
+
+-- what a pass found, by other names of the body and of the count
+pub scan-is : {v w b n k lo hi : ℕ} {s : Scan} → v ≡ w → n ≡ k → Scan-says v b n lo hi s → Scan-says w b k lo hi s
+scan-is e g s = rw (← e, ← g) s
 
 module _ {v b n lo hi rest : ℕ} {good : Bool} where
   pub digit : (left : ℕ) → 0 < left → Scanned v b n lo hi rest good left → Scanned v b n lo hi (rest / b) (good && (ltb (rest % b) lo || leb hi (rest % b))) (left - 1)

@@ -3,7 +3,7 @@ use crate::Form;
 use crate::words;
 ghost use mathlib.Core.Path.{_≡_};
 ghost use mathlib.Core.Bool.{_||_};
-ghost use Prim.Native.Nat.{_/_, _<_, _≤_};
+ghost use Prim.Native.Nat.{_/_, _<_, _≤_, min};
 ghost use lib.Dec.{ltb, leb};
 ghost use lib.ListN.{length, drop};
 ghost use Rattle.sheet.specs.Sheet.{as-words, count, word-refusal, items-refusal, question-refusal, head-refusal, end-refusal, most};
@@ -41,18 +41,24 @@ fn scanned(v: u32, base: u32, n: usize, low: u32, high: u32) -> Scan
     Scan { rest, good }
 }
 
+// The items of a body of which n are left. Where they fill it, the compiler knows how often the pass goes round.
+fn scanned_body(v: u32, f: Form, n: usize, low: u32, high: u32) -> Scan
+    requires { ⌜ Fine f ⌝ }
+    ensures { λ r. ⌜ Scan-says v (f .base) (min (f .each) n) low high r ⌝ }
+{
+    let each = f.each;
+    if each <= n {
+        return scanned(v, f.base, each, low, high);
+    }
+    scanned(v, f.base, n, low, high)
+}
+
 // A word of which n items are left.
 fn refused_word(w: u32, f: Form, low: u32, high: u32, bad: u32, n: usize) -> u32
     requires { ⌜ Fine f ⌝ }
     ensures { λ r. ⌜ r ≡ word-refusal f bad (outside low high) n w ⌝ }
 {
-    let scan = scanned(
-        words::body_of(w),
-        f.base,
-        words::least(f.each, n),
-        low,
-        high,
-    );
+    let scan = scanned_body(words::body_of(w), f, n, low, high);
     let items = refusal::unless(scan.good, bad, 0);
     let unused = refusal::unless(scan.rest == 0, 11, items);
     refusal::unless(words::kind_of(w) == f.kind, 10, unused)

@@ -1,13 +1,14 @@
 -- The items one after another, as they are taken from the words, and one turn of the loops that fill the outputs.
 -- Assumes nothing.
-use mathlib.Core.Path.{_≡_, refl, sym, ap, ap₂, _∙_}
-use mathlib.Core.List.{List, _∷_, _++_, append-assoc, append-nil}
+use mathlib.Core.Path.{_≡_, refl, sym, ap, _∙_}
+use mathlib.Core.List.{List, _∷_, _++_}
 use Prim.Native.Nat.{ℕ, zero, suc, _+_, _-_, _/_, _%_, _<_, _≤_, min}
 use native.Mathlib.Nat.{mod-lt, add-zero, sub-zero, zero-lt-suc}
 use native.Mathlib.Numerals.{add-one}
 use native.Mathlib.Omega.{arith}
-use lib.ListN.{length, getD, take, drop, set, length-set, drop-of-length-le, List·getD-map}
-use lib.Seq.{getD-drop, drop-drop, drop-cons, take-suc, take-all, set-at, length-take-le}
+use lib.ListN.{length, getD, take, drop, set, length-set, List·getD-map}
+use lib.Seq.{getD-drop, drop-drop, take-suc, take-suc-set, take-all}
+use lib.IntN.{ℤ}
 use Rattle.sheet.specs.declared.Form.{Form}
 use Rattle.sheet.specs.Sheet.{body, digits, used, items, count, items-in, row-of, signed-of}
 use Rattle.sheet.specs.Within.{Fine}
@@ -81,24 +82,45 @@ unfolding row-of
 row-at f ds i = List·getD-map (signed-of (f .base)) ds i 0
 
 -- an output is filled up to a place
-pub record Filled {A : Type 0} (r l now : List A) (i : ℕ) : Type 0 where
-  pub inside : i ≤ length l
-  pub same : length now ≡ length l
-  pub holds : now ≡ take i r ++ drop i l
+pub record Filled {A : Type 0} (r now : List A) (i : ℕ) : Type 0 where
+  pub inside : i ≤ length r
+  pub same : length now ≡ length r
+  pub holds : take i now ≡ take i r
 
-module _ {A : Type 0} {r l : List A} where
-  pub filled-none : Filled r l l 0
-  filled-none = record { inside = omega arith; same = refl; holds = refl }
+module _ {A : Type 0} {r now : List A} where
+  pub filled-none : length now ≡ length r → Filled r now 0
+  filled-none e = record { inside = omega arith; same = e; holds = refl }
 
-  pub filled-more : {now : List A} {i : ℕ} (d x : A) → length r ≡ length l → i < length l → x ≡ getD r i d → Filled r l now i → Filled r l (set now i x) (i + 1)
-  filled-more {now} {i} d x e h q g = record {
+  pub filled-more : {i : ℕ} (d x : A) → i < length r → x ≡ getD r i d → Filled r now i → Filled r (set now i x) (i + 1)
+  filled-more {i} d x h q g = record {
     inside = omega arith;
     same = simp length-set (g .same);
-    holds =
-        ap₂ (λ (y : A) (t : List A). set t i y) q (g .holds)
-        ∙ rw (add-one, take-suc r i d (omega arith), drop-cons l i d h, append-assoc)
-        (set-at (take i r) (getD l i d) (drop (suc i) l) (getD r i d) i (length-take-le i r (omega arith)));
+    holds = rw (add-one, take-suc-set now i x (omega (arith, g .same)), take-suc r i d h, g .holds, q);
   }
 
-  pub filled-all : {now : List A} {i : ℕ} → length r ≡ length l → length l ≤ i → Filled r l now i → now ≡ r
-  filled-all {now} {i} e h g = g .holds ∙ rw (drop-of-length-le l h, append-nil) (take-all i r (omega arith))
+  pub filled-all : {i : ℕ} → length r ≤ i → Filled r now i → now ≡ r
+  filled-all {i} h g = sym (take-all i now (omega (arith, g .same))) ∙ g .holds ∙ take-all i r h
+
+-- a row of n places, of which so many reliabilities are read
+pub record Rowed (f : Form) (ws : List ℕ) (at n : ℕ) (now : List ℤ) (i : ℕ) (s : Spot) : Type 0 where
+  pub row : Filled (row-of f (items-from f n (drop at ws))) now i
+  pub items : Reading f ws at n i s
+
+module _ {f : Form} {ws : List ℕ} {at n : ℕ} (z : Fine f) where
+  pub row-none : {now : List ℤ} → length now ≡ n → Rowed f ws at n now 0 (record { item = 0; rest = 0; left = 0; next = at })
+  row-none e = record { row = filled-none (e ∙ sym (row-length f z n _)); items = reading-first }
+
+  pub row-long : {now : List ℤ} {i : ℕ} {s : Spot} → Rowed f ws at n now i s → length now ≡ n
+  row-long w = w .row .same ∙ row-length f z n _
+
+  pub row-more : {now next : List ℤ} {i : ℕ} {s r : Spot} → i < n →
+      Taken-says f ws s r → next ≡ set now i (signed-of (f .base) (r .item)) → Rowed f ws at n now i s → Rowed f ws at n next (i + 1) r
+  row-more {i = i} h t e w =
+      record {
+        row = rw e (filled-more (signed-of (f .base) 0) _ (omega (arith, row-length f z n (drop at ws))) (ap (signed-of (f .base)) (item-is h t (w .items)) ∙ sym (row-at f _ i)) (w .row));
+        items = reading-more h t (w .items);
+      }
+
+  -- the same row, by its own length
+  pub row-again : {now : List ℤ} {i : ℕ} {s : Spot} → Rowed f ws at n now i s → Rowed f ws at (length now) now i s
+  row-again w = rw (row-long w) w

@@ -2,7 +2,7 @@
 use sheet::Form;
 ghost use mathlib.Core.Path.{_≡_};
 ghost use Prim.Native.Nat.{_+_, _^_, _<_};
-ghost use lib.ListN.{length, drop};
+ghost use lib.ListN.{length, drop, set};
 ghost use Rattle.sheet.specs.Sheet.{as-words, symbols, row-of, signed-of};
 ghost use Rattle.sheet.specs.Within.{Fine};
 ghost use Rattle.sheet_reader.specs.Within.{items-from, Taken-says};
@@ -52,13 +52,26 @@ fn signed(d: u32, base: u32) -> i16
     (d as i16) - (base as i16)
 }
 
-// Fills a row with the reliabilities that begin at a word.
+// The next item, as a reliability at a place of a row.
+fn read_item(sheet: &[u8], f: Form, s: Spot, row: &mut [i16], i: usize) -> Spot
+    requires { ⌜ Fine f ⌝ }
+    requires { ⌜ s .next + 1 < 2 ^ 64 ⌝ }
+    requires { ⌜ i < length (now row) ⌝ }
+    ensures { λ r. ⌜ Taken-says f (as-words (now (sheet .entry))) s r ⌝ }
+    ensures { λ r. ⌜ now (row .exit) ≡ set (now (row .entry)) i (signed-of (f .base) (r .item)) ⌝ }
+{
+    let t = taken(sheet, f, s);
+    row[i] = signed(t.item, f.base);
+    t
+}
+
+// Fills a row with the reliabilities that begin at a word, three at a time as long as there are three: so the compiler knows which of them begins a
+// word of three.
 pub fn read_row(sheet: &[u8], at: usize, f: Form, row: &mut [i16])
     requires { ⌜ Fine f ⌝ }
     requires { ⌜ at + length (now row) < 2 ^ 64 ⌝ }
     ensures { λ _. ⌜ now (row .exit) ≡ row-of f (items-from f (length (now (row .entry))) (drop at (as-words (now (sheet .entry))))) ⌝ }
 {
-    let base = f.base;
     let mut s = Spot {
         item: 0,
         rest: 0,
@@ -66,9 +79,14 @@ pub fn read_row(sheet: &[u8], at: usize, f: Form, row: &mut [i16])
         next: at,
     };
     let mut i = 0;
+    while 2 < row.len() - i {
+        s = read_item(sheet, f, s, row, i);
+        s = read_item(sheet, f, s, row, i + 1);
+        s = read_item(sheet, f, s, row, i + 2);
+        i += 3;
+    }
     while i < row.len() {
-        s = taken(sheet, f, s);
-        row[i] = signed(s.item, base);
+        s = read_item(sheet, f, s, row, i);
         i += 1;
     }
 }

@@ -144,13 +144,6 @@ pub fn pass(
     }
 }
 
-// The less of two numbers.
-fn less_of(a: u16, b: u16) -> u16
-    ensures { λ r. ⌜ r ≡ min a b ⌝ }
-{
-    if a <= b { a } else { b }
-}
-
 // A column's costs in each layer, from what the soft pass wrote for it.
 pub fn fold(t: &[u16], i: usize) -> [u16; 4]
     requires { ⌜ i * 2 * 4 + 8 ≤ length (now t) ⌝ }
@@ -158,9 +151,9 @@ pub fn fold(t: &[u16], i: usize) -> [u16; 4]
 {
     let r = lanes::load_two(t, i * 2, i * 2 + 1);
     [
-        less_of(r[0], r[4]),
-        less_of(r[1], r[5]),
-        less_of(r[2], r[6]),
-        less_of(r[3], r[7]),
+        lanes::less_of(r[0], r[4]),
+        lanes::less_of(r[1], r[5]),
+        lanes::less_of(r[2], r[6]),
+        lanes::less_of(r[3], r[7]),
     ]
 }

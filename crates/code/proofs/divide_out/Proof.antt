@@ -17,9 +17,6 @@ Inv-loop m x part₀ v₀ i₀ part v i = Divided m x part₀ part v i
 abbrev μ-loop : tie.MeasureT-loop
 μ-loop m x part₀ v₀ i₀ part v i = i
 
-loop-holds : tie.Need-loop-holds Inv-loop μ-loop
-loop-holds c = divide-start (c .before .args .m) (c .before .args .x) (c .before .args .part .now)
-
 multiply-requires : tie.Need-multiply-requires Inv-loop μ-loop
 multiply-requires c κs = let s = c .before .before in let b = s .before .before in
     record {
@@ -43,7 +40,7 @@ divide-out-spec =
     (tie.spec
     Inv-loop
     μ-loop
-    loop-holds
+    (λ c. divide-start (c .before .args .m) (c .before .args .x) (c .before .args .part .now))
     (λ c. search needs)
     (λ c. search needs)
     multiply-requires

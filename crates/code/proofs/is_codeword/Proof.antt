@@ -18,12 +18,6 @@ four c = not-three (c .before .before .args .m) (c .before .before .pre .width) 
 word-4 : (c : tie.Else1) → let a = c .before .before .args in Word-within 4 (a .r) (a .word .now)
 word-4 c = rw (four c) at (c .before .before .pre)
 
-returns : tie.Need-returns
-returns c = let t = c .before .before .before in rw (t .if1 .taken) (c .vanishes .ensures ∙ roots-decide (word-3 t))
-
-returns-2 : tie.Need-returns-2
-returns-2 c = let e = c .before .before .before in rw (four e) (c .vanishes2 .ensures ∙ roots-decide (word-4 e))
-
 pub is-codeword-spec : {M : Type 1} → statement M
 is-codeword-spec =
     tie.close
@@ -31,8 +25,8 @@ is-codeword-spec =
     (λ c. search needs)
     (λ c. search needs)
     (λ c κs. (tables-3, word-3 (c .before .before)))
-    returns
+    (λ c. let t = c .before .before .before in rw (t .if1 .taken) (c .vanishes .ensures ∙ roots-decide (word-3 t)))
     (λ c. search needs)
     (λ c. search needs)
     (λ c κs. (tables-4, word-4 (c .before .before)))
-    returns-2)
+    (λ c. let e = c .before .before .before in rw (four e) (c .vanishes2 .ensures ∙ roots-decide (word-4 e))))

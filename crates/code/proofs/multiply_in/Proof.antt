@@ -17,9 +17,6 @@ Inv-loop m x part₀ next₀ i₀ part next i = Spread m x part₀ part next i
 abbrev μ-loop : tie.MeasureT-loop
 μ-loop m x part₀ next₀ i₀ part next i = i
 
-loop-holds : tie.Need-loop-holds Inv-loop μ-loop
-loop-holds c = spread-start (c .before .args .m) (c .before .args .x) (c .before .args .part .now)
-
 multiply-requires : tie.Need-multiply-requires Inv-loop μ-loop
 multiply-requires c κs = let s = c .before .before in let b = s .before .before in
     record {
@@ -44,7 +41,7 @@ multiply-in-spec =
     (tie.spec
     Inv-loop
     μ-loop
-    loop-holds
+    (λ c. spread-start (c .before .args .m) (c .before .args .x) (c .before .args .part .now))
     (λ c. search needs)
     (λ c. search needs)
     multiply-requires

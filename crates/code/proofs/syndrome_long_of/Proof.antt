@@ -14,9 +14,6 @@ small c = width-small (c .args .m) (c .pre)
 returns : tie.Need-returns
 returns c = let r = c .before .args .r in let h : r < 5 = omega arith in rw (lt-leb 3 r (c .if1 .taken), lt-leb 5 r h) (omega arith)
 
-returns-2 : tie.Need-returns-2
-returns-2 c = rw (le-leb 3 _ (c .before .if1 .left), lt-leb 5 _ (c .if2 .taken)) (omega arith)
-
 returns-3 : tie.Need-returns-3
 returns-3 c = let e = c .before in rw (le-leb 3 _ (e .before .if1 .left), le-leb 5 _ (e .if2 .left), eq-eqb _ 4 (c .if3 .taken)) (omega arith)
 
@@ -29,7 +26,7 @@ syndrome-long-of-spec =
     (tie.spec
     returns
     (λ c. omega (arith, small (c .before .before)))
-    returns-2
+    (λ c. rw (le-leb 3 _ (c .before .if1 .left), lt-leb 5 _ (c .if2 .taken)) (omega arith))
     (λ c. omega (arith, small (c .before .before .before)))
     (λ c. omega (arith, small (c .before .before .before)))
     (λ c. omega (arith, small (c .before .before .before)))

@@ -14,9 +14,6 @@ Inv-loop m logs antilogs t word v₀ i₀ v i = Valued m t word v i
 abbrev μ-loop : tie.MeasureT-loop
 μ-loop m logs antilogs t word v₀ i₀ v i = i
 
-loop-holds : tie.Need-loop-holds Inv-loop μ-loop
-loop-holds c = let a = c .before .before .before .args in value-start (a .m) (a .t) (a .word .now)
-
 times-power-requires : tie.Need-times-power-requires Inv-loop μ-loop
 unfolding long
 times-power-requires c κs = let s = c .before .before in let b = s .before .before .before .before in
@@ -35,7 +32,7 @@ value-spec =
     (tie.spec
     Inv-loop
     μ-loop
-    loop-holds
+    (λ c. let a = c .before .before .before .args in value-start (a .m) (a .t) (a .word .now))
     (λ c. search needs)
     (λ c. search needs)
     times-power-requires

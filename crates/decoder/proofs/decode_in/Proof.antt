@@ -20,11 +20,21 @@ halves s = omega (arith, short (s .pre .0 .input))
 states : (s : tie.Start) → s .args .shape .size * 4 ≤ 256
 states s = omega (arith, size-small (s .pre .0 .input .coded))
 
+-- where the rooms are made, and where their parts are cut
+abbrev made : tie.After-one-room → tie.After-columns
+made c = c .before .before .before .before .before .before
+
+abbrev cut : tie.After-decode-with-arg → tie.After-columns
+cut c = made (c .before .before)
+
+abbrev start : tie.After-columns → tie.Start
+start c = c .before .before .before
+
 decode-with-requires : tie.Need-decode-with-requires
-decode-with-requires c κs = let s = c .before .before .before .before .before .before .before .before .before .before .before .before .before .before .before .before .before .before .before in let p = s .pre in (
+decode-with-requires c κs = let d = cut (c .before .before .before .before .before .before .before .before) in let s = start d in let p = s .pre in (
   p .0 .input,
   (
-    c .before .before .before .before .before .before .before .before .before .before .before .before .before .before .before .before .columns .ensures,
+    d .columns .ensures,
     (
       record { length-zs = length-take-le _ _ (places s); length-os = length-take-le _ _ (places s); length-t = p .1 },
       (
@@ -46,16 +56,16 @@ decode-in-spec =
     (λ c. search needs)
     (λ c. search needs)
     (λ c. search needs)
-    (λ c. record { fits = omega (arith, places (c .before .before .before .before .before .before .before .before .before)) })
+    (λ c. record { fits = omega (arith, places (start (made c))) })
     (λ c. search needs)
-    (λ c. record { fits = omega (arith, halves (c .before .before .before .before .before .before .before .before .before)) })
+    (λ c. record { fits = omega (arith, halves (start (made c))) })
     (λ c. search needs)
     (λ c. search needs)
-    (λ c. sym (length-take-le _ _ (places (c .before .before .before .before .before .before .before .before .before .before .before .before))))
-    (λ c. sym (length-take-le _ _ (places (c .before .before .before .before .before .before .before .before .before .before .before .before .before))))
-    (λ c. sym (length-take-le _ _ (states (c .before .before .before .before .before .before .before .before .before .before .before .before .before .before .before))))
-    (λ c. sym (length-take-le _ _ (halves (c .before .before .before .before .before .before .before .before .before .before .before .before .before .before .before .before))))
-    (λ c. sym (length-take-le _ _ (halves (c .before .before .before .before .before .before .before .before .before .before .before .before .before .before .before .before .before))))
+    (λ c. sym (length-take-le _ _ (places (start (cut (c .before))))))
+    (λ c. sym (length-take-le _ _ (places (start (cut (c .before .before))))))
+    (λ c. sym (length-take-le _ _ (states (start (cut (c .before .before .before .before))))))
+    (λ c. sym (length-take-le _ _ (halves (start (cut (c .before .before .before .before .before))))))
+    (λ c. sym (length-take-le _ _ (halves (start (cut (c .before .before .before .before .before .before))))))
     decode-with-requires
     (λ c. search needs)
     (λ c. search needs)

@@ -14,9 +14,6 @@ Inv-loop m n zero one soft₀ w i₀ at₀ soft i at = (i ≤ n) × (at ≡ i * 
 abbrev μ-loop : tie.MeasureT-loop
 μ-loop m n zero one soft₀ w i₀ at₀ soft i at = n - i
 
-loop-holds : tie.Need-loop-holds Inv-loop μ-loop
-loop-holds c = (omega arith, omega arith, record { long = refl; done = λ i j h k. absurd (omega arith) })
-
 fold-requires : tie.Need-fold-requires Inv-loop μ-loop
 fold-requires c κs = let s = c .before .before .before .before in
     let a = s .args in
@@ -69,7 +66,7 @@ soft-rows-spec =
     (tie.spec
     Inv-loop
     μ-loop
-    loop-holds
+    (λ c. (omega arith, omega arith, record { long = refl; done = λ i j h k. absurd (omega arith) }))
     fold-requires
     fold-requires-2
     soft-row-requires

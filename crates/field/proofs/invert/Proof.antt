@@ -7,9 +7,6 @@ use Rattle.field.proofs.Tables.{inverse-log}
 use Rattle.field.proofs.invert.Statement.{statement}
 use Rattle.field.proofs.invert.Tie as tie
 
-returns : tie.Need-returns
-returns c = let s = c .before in rw (c .if1 .taken) (sym (F.inverse-zero (s .args .m) (s .pre .width)))
-
 returns-2 : tie.Need-returns-2
 returns-2 c = let b = c .before .before .before .before in let s = c .before .before .size .ensures in
     c .power .ensures
@@ -19,7 +16,7 @@ pub invert-spec : {M : Type 1} → statement M
 invert-spec =
     tie.close
     (tie.spec
-    returns
+    (λ c. let s = c .before in rw (c .if1 .taken) (sym (F.inverse-zero (s .args .m) (s .pre .width))))
     (λ c κs. search needs)
     (λ c. search needs)
     (λ c. search needs)

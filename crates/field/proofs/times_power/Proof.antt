@@ -14,9 +14,6 @@ returns c = let s = c .before in
     let w = s .pre .0 .width in
     rw (c .if1 .taken) (sym (F.times-zero-l (s .args .m) w (alpha (s .args .m) (s .args .t)) (F.alpha-lt (s .args .m) w (s .args .t))))
 
-cast-e : tie.Need-cast-e
-cast-e c = omega (arith, c .shared-slice-known .given (c .before .before .args .a))
-
 add-e : tie.Need-add-e
 add-e c = omega (arith, c .shared-slice-known .given (c .before .before .args .a), size (c .before .before .args .m) (c .before .before .pre .0 .width))
 
@@ -38,7 +35,7 @@ times-power-spec =
     (tie.spec
     returns
     (λ c. search needs)
-    cast-e
+    (λ c. omega (arith, c .shared-slice-known .given (c .before .before .args .a)))
     add-e
     (λ c. search needs)
     returns-2

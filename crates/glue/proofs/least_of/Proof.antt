@@ -48,7 +48,7 @@ loop-again c = let st = c .before .before .before .before .before .before .befor
     let t = c .before .before .before .before .before .loop in
     let e = one-more (a .cap) (a .f .now) (a .configs .now) in
     let x = e (t .k) (t .least) _ (t .inv .1) (c .before .before .before .total-at .ensures) in
-    (omega arith, c .less2 .ensures ∙ e (t .k + 1) _ _ (c .before .less .ensures ∙ x) (c .before .before .total-at2 .ensures) ∙ ap (least-total (a .cap) (a .f .now) (a .configs .now)) (omega arith))
+    (omega arith, c .less-of2 .ensures ∙ e (t .k + 1) _ _ (c .before .less-of .ensures ∙ x) (c .before .before .total-at2 .ensures) ∙ ap (least-total (a .cap) (a .f .now) (a .configs .now)) (omega arith))
 
 total-at-requires-3 : tie.Need-total-at-requires-3 Inv-loop μ-loop
 total-at-requires-3 c κs = let st = c .before .before .before .before .before in
@@ -62,7 +62,7 @@ returns : tie.Need-returns Inv-loop μ-loop
 returns c = let a = c .before .before .before .before .before .before .before .args in
     let t = c .before .before .before .before .loop in
     let e : t .k + 1 ≡ a .n = omega arith in
-    rw e at (c .less3 .ensures ∙ one-more (a .cap) (a .f .now) (a .configs .now) (t .k) (t .least) _ (t .inv .1) (c .before .total-at3 .ensures))
+    rw e at (c .less-of3 .ensures ∙ one-more (a .cap) (a .f .now) (a .configs .now) (t .k) (t .least) _ (t .inv .1) (c .before .total-at3 .ensures))
 
 returns-2 : tie.Need-returns-2 Inv-loop μ-loop
 returns-2 c = let a = c .before .before .before .before .before .args in

@@ -15,9 +15,6 @@ Inv-loop g t₀ i₀ t i = (i ≤ length g) × Taken g t₀ i t
 abbrev μ-loop : tie.MeasureT-loop
 μ-loop g t₀ i₀ t i = length g - i
 
-loop-holds : tie.Need-loop-holds Inv-loop μ-loop
-loop-holds c = (omega arith, record { long = refl; done = λ k h. absurd (omega arith); rest = λ k h. refl })
-
 mul-t : tie.Need-mul-t Inv-loop μ-loop
 mul-t c = let st = c .before .before in
     let a = st .args in
@@ -84,7 +81,7 @@ subtract-spec =
     (tie.spec
     Inv-loop
     μ-loop
-    loop-holds
+    (λ c. (omega arith, record { long = refl; done = λ k h. absurd (omega arith); rest = λ k h. refl }))
     mul-t
     (λ c. omega arith)
     mul-t-2

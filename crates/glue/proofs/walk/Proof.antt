@@ -49,8 +49,8 @@ loop-again c = let st = c .before .before .before .before .before .before .befor
     let e = rw (c .before .before .before .before .before .before .tuple-at .ensures) at (c .before .before .before .before .visit .ensures) in
     let x = total (a .f .now) (tuple (a .configs .now) (t .k)) in (
       omega arith,
-      walk-more (a .size) (a .n) (a .cap) (a .f .now) (a .configs .now) w (t .k) (t .g) (t .least) (t .at) (t .inv .1) l (c .before .before .before .before .visit .last .1 .1 .1 .0) (c .less .result) (c .before .where-less .result)
-          (e .1) (c .less .ensures ∙ ap (min (t .least)) (e .0)) (c .before .where-less .ensures ∙ ap (λ (y : ℕ). cond (ltb y (t .least)) (t .k) (t .at)) (e .0)),
+      walk-more (a .size) (a .n) (a .cap) (a .f .now) (a .configs .now) w (t .k) (t .g) (t .least) (t .at) (t .inv .1) l (c .before .before .before .before .visit .last .1 .1 .1 .0) (c .less-of .result) (c .before .where-less .result)
+          (e .1) (c .less-of .ensures ∙ ap (min (t .least)) (e .0)) (c .before .where-less .ensures ∙ ap (λ (y : ℕ). cond (ltb y (t .least)) (t .k) (t .at)) (e .0)),
     )
 
 tuple-at-requires-2 : tie.Need-tuple-at-requires-2 Inv-loop μ-loop

@@ -12,12 +12,6 @@ start t = t .before .before .before .before .before .before .before .before .bef
 abbrev tables : tie.After-least-of-arg → tie.After-of-row
 tables c = c .before .before .before .before .before .before .before
 
-least-of-requires : tie.Need-least-of-requires
-least-of-requires c κs = let t = tables c in tuples-ok (start t .pre .0 .input) (t .of-row .ensures)
-
-word-cost-requires : tie.Need-word-cost-requires
-word-cost-requires c κs = let t = tables (c .before .before .before) in own-ok (start t .pre .0) (t .of-row .ensures)
-
 sub-result : tie.Need-sub-result
 sub-result c = let l = c .before .before .before in let t = tables (l .before) in
     excess-fits (start t .pre .0) (t .of-row .ensures) (l .least-of .ensures) (c .word-cost .ensures)
@@ -31,8 +25,8 @@ excess-with-spec =
     tie.close
     (tie.spec
     (λ c κs. search needs)
-    least-of-requires
-    word-cost-requires
+    (λ c κs. let t = tables c in tuples-ok (start t .pre .0 .input) (t .of-row .ensures))
+    (λ c κs. let t = tables (c .before .before .before) in own-ok (start t .pre .0) (t .of-row .ensures))
     (λ c. search needs)
     sub-result
     (λ c. search needs)

@@ -29,9 +29,6 @@ loop-holds c = let a = c .before .args in
 sub-at : tie.Need-sub-at Inv-loop μ-loop
 sub-at c = omega (arith, c .before .loop .inv .2, place (c .before .loop .i) (c .before .before .before .args .m) (omega arith))
 
-mul-with-symbol : tie.Need-mul-with-symbol Inv-loop μ-loop
-mul-with-symbol c = record { fits = omega (arith, c .before .loop .inv .1, c .before .before .before .pre .few) }
-
 with-symbol-requires : tie.Need-with-symbol-requires Inv-loop μ-loop
 with-symbol-requires c κs = let s = c .before .before .before .before .before in
     let a = s .args in
@@ -66,7 +63,7 @@ summed-spec =
     loop-holds
     (λ c. search needs)
     sub-at
-    mul-with-symbol
+    (λ c. record { fits = omega (arith, c .before .loop .inv .1, c .before .before .before .pre .few) })
     (λ c. omega (arith, c .before .loop .inv .1))
     (λ c. search needs)
     (λ c. search needs)

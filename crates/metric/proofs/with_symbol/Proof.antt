@@ -32,18 +32,6 @@ loop-holds c = let a = c .args in
     let z : a .m - a .m ≡ 0 = omega arith in
     (omega arith, rw (toZ-ofZ (c .fits .sum)) (omega (arith, c .pre .small)), λ bs e. rw z e)
 
-mul-r : tie.Need-mul-r Inv-loop μ-loop
-mul-r c = record { fits = omega (arith, c .before .before .pre .width, c .before .loop .inv .0) }
-
-shared-slice-copy-out-r : tie.Need-shared-slice-copy-out-r Inv-loop μ-loop
-shared-slice-copy-out-r c = omega (arith, c .before .before .pre .count, c .before .loop .inv .0)
-
-cast-counted : tie.Need-cast-counted Inv-loop μ-loop
-cast-counted c = record { fits = omega (arith, c .before .before .before .pre .width, c .before .before .loop .inv .0) }
-
-shr-counted : tie.Need-shr-counted Inv-loop μ-loop
-shr-counted c = omega (arith, c .before .before .before .pre .width, c .before .before .loop .inv .0)
-
 counted-requires : tie.Need-counted-requires Inv-loop μ-loop
 counted-requires c κs = let s = c .before .before .before in
     let t = c .before .before .loop in
@@ -80,10 +68,10 @@ with-symbol-spec =
     loop-holds
     (λ c. search needs)
     (λ c. search needs)
-    mul-r
-    shared-slice-copy-out-r
-    cast-counted
-    shr-counted
+    (λ c. record { fits = omega (arith, c .before .before .pre .width, c .before .loop .inv .0) })
+    (λ c. omega (arith, c .before .before .pre .count, c .before .loop .inv .0))
+    (λ c. record { fits = omega (arith, c .before .before .before .pre .width, c .before .before .loop .inv .0) })
+    (λ c. omega (arith, c .before .before .before .pre .width, c .before .before .loop .inv .0))
     counted-requires
     (λ c. search needs)
     loop-again

@@ -24,9 +24,6 @@ returns-2 : tie.Need-returns-2
 returns-2 c = let s = c .before .before .before .before .before .before .before .before .before in let j = c .before .before .before .before .before .judge-sheet in
     refused (now (s .args .sheet)) (now (s .args .out)) _ (j .result) _ (c .before .before .before .before .before .before .if1 .left) (j .ensures) (c .before .before .before .before .if2 .taken) (c .before .before .put-refused .ensures)
 
-put-lines-requires : tie.Need-put-lines-requires
-put-lines-requires c κs = let h = c .before .before .before in (taken h, lines-room (taken h) (whole h) (h .put-header .ensures))
-
 put-count-requires : tie.Need-put-count-requires
 put-count-requires c κs = let l = c .before .before .before in let h = l .before .before .before .before in count-room (taken h) (whole h) (h .put-header .ensures) (l .put-lines .ensures)
 
@@ -45,7 +42,7 @@ list-spec =
     returns-2
     (λ c κs. header-room (c .before .before .before .if1 .left))
     (λ c. search needs)
-    put-lines-requires
+    (λ c κs. let h = c .before .before .before in (taken h, lines-room (taken h) (whole h) (h .put-header .ensures)))
     put-count-requires
     (λ c. search needs)
     returns-3)

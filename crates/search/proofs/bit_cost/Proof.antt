@@ -4,12 +4,9 @@ use Rattle.search.proofs.Sums.{pick-one}
 use Rattle.search.proofs.bit_cost.Statement.{statement}
 use Rattle.search.proofs.bit_cost.Tie as tie
 
-returns-2 : tie.Need-returns-2
-returns-2 c = let a = c .before .args in pick-one (a .b) (a .z) (a .o) (c .if1 .left)
-
 pub bit-cost-spec : {M : Type 1} → statement M
 bit-cost-spec =
     tie.close
     (tie.spec
     (λ c. rw (c .if1 .taken))
-    returns-2)
+    (λ c. let a = c .before .args in pick-one (a .b) (a .z) (a .o) (c .if1 .left)))

@@ -48,9 +48,6 @@ load-two-requires c κs = let n = c .before in
     let r = advance-in (a .q) (a .size) (a .h) (a .cap) (a .p .now) (a .z) (a .o) w (t .loop .p) (t .loop .zero) (t .loop .one) (t .loop .s) (inv .2) l in
     (omega (arith, r, straight-next (t .loop .s) (a .h) (inv .1) (st .pre .1)), omega (arith, r, straight-next (t .loop .s) (a .h) (inv .1) (st .pre .1)))
 
-twice-requires : tie.Need-twice-requires Inv-loop μ-loop
-twice-requires c κs = search needs
-
 plus-requires : tie.Need-plus-requires Inv-loop μ-loop
 unfolding xor
 plus-requires c κs = let n = c .before .before .before in
@@ -110,9 +107,6 @@ loop-again c = let n = c .before .before .before .before .before .before .before
     let x = c .before .before .before .before .advance-two in
     (omega arith, omega arith, advance-more (a .q) (a .size) (a .h) (a .cap) (a .p .now) (a .z) (a .o) w (t .loop .p) (t .loop .zero) (t .loop .one) (t .loop .s) (inv .2) l (x .last .0) (x .result .zero) (x .result .one) (rw eb at (x .ensures)))
 
-same-length : tie.Need-same-length Inv-loop μ-loop
-same-length c = omega arith
-
 returns : tie.Need-returns Inv-loop μ-loop
 returns c = let e : c .before .loop .s ≡ c .before .before .before .args .size = omega arith in
     rw e at (c .before .loop .inv .2)
@@ -126,11 +120,11 @@ advance-straight-spec =
     loop-holds
     add-load-two
     load-two-requires
-    twice-requires
+    (λ c κs. search needs)
     plus-requires
     advance-two-requires
     add-s
     loop-less
     loop-again
-    same-length
+    (λ c. omega arith)
     returns)

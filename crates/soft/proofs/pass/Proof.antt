@@ -60,12 +60,6 @@ mul-h c = let st = c .before .before .before .before .before .before .before .be
     let l : suc (t .i) ≤ length (a .hs .now) = c .loop-test .taken in
     record { fits = omega (arith, st .good .1 .1 .1 .0) }
 
-shared-slice-read-h : tie.Need-shared-slice-read-h Inv-loop μ-loop
-shared-slice-read-h c = omega arith
-
-cast-h : tie.Need-cast-h Inv-loop μ-loop
-cast-h c = omega (arith, c .shared-slice-known4 .given (c .before .before .loop .i))
-
 load-requires : tie.Need-load-requires Inv-loop μ-loop
 load-requires c κs = let st = c .before .before .before .before .before .before .before .before .before in
     let a = st .args in
@@ -159,9 +153,6 @@ add-i c = let st = c .before .before .before .before .before .before .before .be
     let l : suc (t .i) ≤ length (a .hs .now) = c .before .before .before .before .before .before .before .before .before .before .before .before .before .before .before .before .before .loop-test .taken in
     record { fits = omega (arith, st .good .1 .1 .1 .0) }
 
-loop-less : tie.Need-loop-less Inv-loop μ-loop
-loop-less c = omega arith
-
 loop-again : tie.Need-loop-again Inv-loop μ-loop
 loop-again c = let st = c .before .before .before .before .before .before .before .before .before .before .before .before .before .before .before .before .before .before .before .before .before .before .before .before .before in
     let a = st .args in
@@ -197,8 +188,8 @@ pass-spec =
     add-end
     add-end-2
     mul-h
-    shared-slice-read-h
-    cast-h
+    (λ c. omega arith)
+    (λ c. omega (arith, c .shared-slice-known4 .given (c .before .before .loop .i)))
     load-requires
     load-requires-2
     mul-advance
@@ -211,7 +202,7 @@ pass-spec =
     mul-store-two-2
     store-two-requires-2
     add-i
-    loop-less
+    (λ c. omega arith)
     loop-again
     same-length
     same-length-2

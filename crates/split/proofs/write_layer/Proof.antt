@@ -40,9 +40,6 @@ loop-again c = let l = c .before .before .before .before .loop in
       n .more,
     )
 
-same-length : tie.Need-same-length Inv-loop μ-loop
-same-length c = let s = c .before .before .before .before in c .before .loop .inv .1 ∙ sym (s .pre .1)
-
 returns : tie.Need-returns Inv-loop μ-loop
 unfolding with-leader
 returns c = let l = c .before .loop in
@@ -65,5 +62,5 @@ write-layer-spec =
     (λ c. search needs)
     (λ c. search needs)
     loop-again
-    same-length
+    (λ c. let s = c .before .before .before .before in c .before .loop .inv .1 ∙ sym (s .pre .1))
     returns)

@@ -12,12 +12,6 @@ use borrow.Author.Needs.{needs}
 use Rattle.trellis.proofs.bit_of.Statement.{statement}
 use Rattle.trellis.proofs.bit_of.Tie as tie
 
-mul-a : tie.Need-mul-a
-mul-a c = search needs
-
-add-a : tie.Need-add-a
-add-a c = search needs
-
 cast-b : tie.Need-cast-b
 unfolding xor
 cast-b c = let s = c in record { fits = omega (arith, s .pre .there, s .good .0) }
@@ -29,15 +23,6 @@ mul-b c = let s = c in record { fits = omega (arith, s .pre .there, s .good .0) 
 add-b : tie.Need-add-b
 unfolding xor
 add-b c = let s = c in record { fits = omega (arith, s .pre .there, s .good .0) }
-
-mul-if1 : tie.Need-mul-if1
-mul-if1 c = search needs
-
-shared-slice-read-if1 : tie.Need-shared-slice-read-if1
-shared-slice-read-if1 c = search needs
-
-add-if1 : tie.Need-add-if1
-add-if1 c = search needs
 
 mul-if1-2 : tie.Need-mul-if1-2
 unfolding xor
@@ -63,14 +48,14 @@ pub bit-of-spec : {M : Type 1} → statement M
 bit-of-spec =
     tie.close
     (tie.spec
-    mul-a
-    add-a
+    (λ c. search needs)
+    (λ c. search needs)
     cast-b
     mul-b
     add-b
-    mul-if1
-    shared-slice-read-if1
-    add-if1
+    (λ c. search needs)
+    (λ c. search needs)
+    (λ c. search needs)
     mul-if1-2
     shared-slice-read-if1-2
     add-if1-2

@@ -15,27 +15,9 @@ Inv-loop p₀ size big s₀ p s = (s ≤ size) × Ended size big s p
 abbrev μ-loop : tie.MeasureT-loop
 μ-loop p₀ size big s₀ p s = size - s
 
-loop-holds : tie.Need-loop-holds Inv-loop μ-loop
-loop-holds c = (omega arith, record { long = c .before .pre; rows = λ s j a b. absurd (omega arith) })
-
-end-cost-requires : tie.Need-end-cost-requires Inv-loop μ-loop
-end-cost-requires c κs = tt
-
-store-requires : tie.Need-store-requires Inv-loop μ-loop
-store-requires c κs = let i = c .before .before .before .loop .inv .1 .long in omega arith
-
-add-s : tie.Need-add-s Inv-loop μ-loop
-add-s c = omega arith
-
-loop-less : tie.Need-loop-less Inv-loop μ-loop
-loop-less c = omega arith
-
 loop-again : tie.Need-loop-again Inv-loop μ-loop
 loop-again c = let t = c .before .before .before .before .before .before in
     (omega arith, end-more (c .before .before .before .before .before .before .before .before .args .size) (c .before .before .before .before .before .before .before .before .args .big) (t .loop .p) (t .loop .s) (t .loop .inv .1) (c .before .before .before .before .before .loop-test .taken) (c .before .before .before .before .end-cost .result) (c .before .before .before .before .end-cost .ensures) (c .before .before .store .last .0) (c .before .before .store .ensures))
-
-same-length : tie.Need-same-length Inv-loop μ-loop
-same-length c = let i = c .before .loop .inv .1 .long in let p = c .before .before .before .pre in omega arith
 
 returns : tie.Need-returns Inv-loop μ-loop
 returns c = let e : c .before .loop .s ≡ c .before .before .before .args .size = omega arith in
@@ -47,11 +29,11 @@ end-table-spec =
     (tie.spec
     Inv-loop
     μ-loop
-    loop-holds
-    end-cost-requires
-    store-requires
-    add-s
-    loop-less
+    (λ c. (omega arith, record { long = c .before .pre; rows = λ s j a b. absurd (omega arith) }))
+    (λ c κs. tt)
+    (λ c κs. let i = c .before .before .before .loop .inv .1 .long in omega arith)
+    (λ c. omega arith)
+    (λ c. omega arith)
     loop-again
-    same-length
+    (λ c. let i = c .before .loop .inv .1 .long in let p = c .before .before .before .pre in omega arith)
     returns)

@@ -67,9 +67,6 @@ loop-holds c = let st = c .before .before .before .before .before .before .befor
     let w = st .pre in
     (omega arith, tables-start (a .q) (a .size) (a .top) (a .big) (a .t .now) (a .hs .now) (a .zs .now) (a .os .now) w (c .before .before .end-table .last .0) (c .before .before .end-table .ensures))
 
-sub-i : tie.Need-sub-i Inv-loop μ-loop
-sub-i c = omega arith
-
 mul-at : tie.Need-mul-at Inv-loop μ-loop
 mul-at c = let st = c .before .before .before .before .before .before .before .before .before .before in
     let a = st .args in
@@ -129,9 +126,6 @@ shared-slice-read-h c = let st = c .before .before .before .before .before .befo
     let l : suc i ≤ length (a .hs .now) = omega (arith, t .inv .0) in
     let m : Made (a .size) (a .big) (a .hs .now) (a .zs .now) (a .os .now) (suc i) (t .t) = subst (λ (x : ℕ). Made (a .size) (a .big) (a .hs .now) (a .zs .now) (a .os .now) x (t .t)) e (t .inv .1) in
     omega arith
-
-cast-h : tie.Need-cast-h Inv-loop μ-loop
-cast-h c = omega (arith, c .shared-slice-known4 .given (c .before .before .loop .i - 1))
 
 load-requires : tie.Need-load-requires Inv-loop μ-loop
 load-requires c κs = let st = c .before .before .before .before .before .before .before .before .before .before .before in
@@ -218,9 +212,6 @@ relax-requires c κs = let st = c .before .before .before .before .before .befor
     let k : i * (a .size * 4) + a .size * 4 + a .size * 4 - i * (a .size * 4) ≡ a .size * 4 + a .size * 4 = omega arith in
     rw (k, c .before .before .load .ensures, c .before .load2 .ensures) (relax-ok (a .q) (a .size) (a .top) (a .big) (a .t .now) (a .hs .now) (a .zs .now) (a .os .now) w (t .t) i m l)
 
-loop-less : tie.Need-loop-less Inv-loop μ-loop
-loop-less c = omega arith
-
 loop-again : tie.Need-loop-again Inv-loop μ-loop
 loop-again c = let st = c .before .before .before .before .before .before .before .before .before .before .before .before .before .before .before .before .before in
     let a = st .args in
@@ -255,13 +246,13 @@ make-tables-spec =
     part-end-table-end
     end-table-requires
     loop-holds
-    sub-i
+    (λ c. omega arith)
     mul-at
     add-end
     add-end-2
     mul-h
     shared-slice-read-h
-    cast-h
+    (λ c. omega (arith, c .shared-slice-known4 .given (c .before .before .loop .i - 1)))
     load-requires
     load-requires-2
     mul-relax
@@ -269,7 +260,7 @@ make-tables-spec =
     part-relax-start
     part-relax-end
     relax-requires
-    loop-less
+    (λ c. omega arith)
     loop-again
     same-length
     returns)

@@ -107,9 +107,6 @@ mul-trace-row-2 c = let st = c .before .before .before .before .before .before .
     let l : suc (t .i) ≤ length (a .hs .now) = c .before .before .before .loop-test .taken in
     record { fits = omega (arith, st .good .1 .1 .1 .0) }
 
-shared-slice-read-trace-row : tie.Need-shared-slice-read-trace-row Inv-loop μ-loop
-shared-slice-read-trace-row c = omega arith
-
 trace-row-requires : tie.Need-trace-row-requires Inv-loop μ-loop
 trace-row-requires c κs = let st = c .before .before .before .before .before .before .before .before .before .before .before in
     let a = st .args in
@@ -134,9 +131,6 @@ add-i c = let st = c .before .before .before .before .before .before .before .be
     let t = c .before .before .before .before .before .before .before .loop in
     let l : suc (t .i) ≤ length (a .hs .now) = c .before .before .before .before .before .before .loop-test .taken in
     record { fits = omega (arith, st .good .1 .1 .1 .0) }
-
-loop-less : tie.Need-loop-less Inv-loop μ-loop
-loop-less c = omega arith
 
 loop-again : tie.Need-loop-again Inv-loop μ-loop
 loop-again c = let st = c .before .before .before .before .before .before .before .before .before .before .before .before .before in
@@ -176,11 +170,11 @@ trace-word-spec =
     part-trace-row-start
     part-trace-row-end
     mul-trace-row-2
-    shared-slice-read-trace-row
+    (λ c. omega arith)
     trace-row-requires
     slice-write-word
     add-i
-    loop-less
+    (λ c. omega arith)
     loop-again
     same-length
     returns)

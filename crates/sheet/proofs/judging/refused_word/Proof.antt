@@ -1,24 +1,20 @@
 -- `sheet::refused_word` meets its contract.
 -- Assumes nothing.
-use mathlib.Core.Path.{_≡_, refl, ap}
+use mathlib.Core.Path.{refl, ap}
 use Prim.Native.Nat.{ℕ}
 use lib.Dec.{eqb}
 use borrow.Author.Needs.{needs}
 use Rattle.refusal.proofs.Tests.{link}
-use Rattle.sheet.specs.declared.judging.Scan.{Scan}
 use Rattle.sheet.specs.Sheet.{used, items, unused, word-refusal}
-use Rattle.sheet.specs.Within.{Scan-says}
+use Rattle.sheet.proofs.Turns.{scan-is}
 use Rattle.sheet.proofs.judging.refused_word.Statement.{statement}
 use Rattle.sheet.proofs.judging.refused_word.Tie as tie
-
-scan-is : {v w b n k lo hi : ℕ} {s : Scan} → v ≡ w → n ≡ k → Scan-says v b n lo hi s → Scan-says w b k lo hi s
-scan-is e g s = rw (← e, ← g) s
 
 returns : tie.Need-returns
 unfolding word-refusal items unused used
 returns c =
-    let k = c .before .before in let u = k .before in let v = u .before .before in let s = v .before in let l = s .before in let a = l .before .before .args in
-    let z = scan-is (l .before .body-of .ensures) (l .least .ensures) (s .scanned .ensures) in
+    let k = c .before .before in let u = k .before in let v = u .before .before in let s = v .before in let l = s .before in let a = l .before .args in
+    let z = scan-is (l .body-of .ensures) refl (s .scanned-body .ensures) in
     link 10 (c .unless3 .ensures) (ap (λ (x : ℕ). eqb x (a .f .kind)) (k .kind-of .ensures))
     (link 11 (u .unless2 .ensures) (ap (λ (x : ℕ). eqb x 0) (z .rest-is)) (link (a .bad) (v .unless .ensures) (z .good-is) refl))
 
@@ -26,7 +22,6 @@ pub refused-word-spec : {M : Type 1} → statement M
 refused-word-spec =
     tie.close
     (tie.spec
-    (λ c κs. search needs)
     (λ c κs. search needs)
     (λ c κs. search needs)
     (λ c κs. search needs)

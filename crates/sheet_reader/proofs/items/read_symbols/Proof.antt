@@ -1,5 +1,6 @@
 -- `sheet_reader::read_symbols` meets its contract.
 -- Assumes nothing.
+use mathlib.Core.Path.{_≡_, sym, _∙_}
 use Prim.Native.Nat.{ℕ, _-_, _<_}
 use native.Mathlib.Omega.{arith}
 use lib.ListN.{length, drop}
@@ -14,20 +15,26 @@ use Rattle.sheet_reader.proofs.items.read_symbols.Tie as tie
 
 abbrev Inv-loop : tie.InvT-loop
 Inv-loop sheet at word₀ s₀ i₀ word s i =
-    Filled (items-from symbols (length word₀) (drop at (as-words sheet))) word₀ word i × Reading symbols (as-words sheet) at (length word₀) i s
+    Filled (items-from symbols (length word₀) (drop at (as-words sheet))) word i × Reading symbols (as-words sheet) at (length word₀) i s
 
 abbrev μ-loop : tie.MeasureT-loop
 μ-loop sheet at word₀ s₀ i₀ word s i = length word₀ - i
 
+abbrev Place : Type 0
+Place = tie.At-loop Inv-loop μ-loop
+
+long : (a : Place) → length (a .loop .word) ≡ length (now (a .before .before .before .args .word))
+long a = a .loop .inv .0 .same ∙ items-from-length symbols symbols-fine _ _
+
 loop-again : tie.Need-loop-again Inv-loop μ-loop
 loop-again c =
     let b = c .before in let a = b .before .before in let n : ℕ = length (now (a .before .before .before .args .word)) in
-    let h : a .loop .i < n = omega (arith, b .before .loop-test .taken, a .loop .inv .0 .same) in
+    let h : a .loop .i < n = omega (arith, b .before .loop-test .taken, long a) in
     let d = a .loop .inv .1 in
-    (filled-more 0 _ (items-from-length symbols symbols-fine n _) h (item-is h (b .taken .ensures) d) (a .loop .inv .0), reading-more h (b .taken .ensures) d)
+    (filled-more 0 _ (omega (arith, a .loop .inv .0 .same, long a)) (item-is h (b .taken .ensures) d) (a .loop .inv .0), reading-more h (b .taken .ensures) d)
 
 returns : tie.Need-returns Inv-loop μ-loop
-returns c = let i = c .before .loop .inv .0 in filled-all (items-from-length symbols symbols-fine _ _) (omega (arith, i .same)) i
+returns c = let i = c .before .loop .inv .0 in filled-all (omega (arith, i .same, c .loop-test .left)) i
 
 pub read-symbols-spec : {M : Type 1} → statement M
 read-symbols-spec =
@@ -35,12 +42,12 @@ read-symbols-spec =
     (tie.spec
     Inv-loop
     μ-loop
-    (λ c. (filled-none, reading-first))
-    (λ c κs. let a = c .before in (symbols-fine, omega (arith, a .loop .inv .1 .near, a .loop .inv .0 .same)))
+    (λ c. (filled-none (sym (items-from-length symbols symbols-fine _ _)), reading-first))
+    (λ c κs. let a = c .before in (symbols-fine, omega (arith, a .loop .inv .1 .near, long a)))
     (λ c. omega (arith, c .before .taken .ensures .small))
     (λ c. search needs)
-    (λ c. search needs)
-    (λ c. search needs)
+    (λ c. let a = c .before .before .before in record { fits = omega (arith, c .before .before .loop-test .taken, long a, a .before .before .before .pre) })
+    (λ c. omega (arith, c .before .before .loop-test .taken, long (c .before .before .before)))
     loop-again
-    (λ c. c .before .loop .inv .0 .same)
+    (λ c. long (c .before))
     returns)
