@@ -1,13 +1,14 @@
 -- `sheet_reader::place_of` meets its contract.
 -- Assumes nothing.
-use mathlib.Core.Path.{_≡_, refl, sym, _∙_}
-use Prim.Native.Nat.{_≤_}
+use mathlib.Core.Path.{_≡_, refl, sym, ap, _∙_}
+use Prim.Native.Nat.{ℕ, _+_, _-_, _<_, _≤_}
 use lib.ListN.{getD}
 use denote.Ref.{now}
-use Rattle.sheet.specs.Sheet.{as-words, kind, head-kind}
+use Rattle.code.specs.Code.{width}
+use Rattle.sheet.specs.Sheet.{as-words, kind, head-kind, head-code, question-long}
 use Rattle.sheet.proofs.Forms.{question-long-le}
 use Rattle.sheet_reader.specs.Within.{behind, skipped}
-use Rattle.sheet_reader.proofs.Says.{inside}
+use Rattle.sheet_reader.proofs.Says.{inside, at-most, few-fits, past-fits}
 use Rattle.sheet_reader.proofs.Choice.{skip-none, skip-end, skip-more}
 use borrow.Author.Needs.{needs}
 use native.Mathlib.Omega.{arith}
@@ -23,27 +24,45 @@ abbrev μ-loop : tie.MeasureT-loop
 abbrev st : tie.At-loop Inv-loop μ-loop → tie.Start Inv-loop μ-loop
 st a = a .before .before
 
-head : (c : tie.Else1 Inv-loop μ-loop) → let a = c .before .before .before .before in kind (getD (as-words (now (st a .args .sheet))) (a .loop .at) 0) ≡ head-kind
+abbrev word-here : tie.At-loop Inv-loop μ-loop → ℕ
+word-here a = getD (as-words (now (st a .args .sheet))) (a .loop .at) 0
+
+abbrev known : tie.After-kind-of Inv-loop μ-loop → tie.At-loop Inv-loop μ-loop
+known c = c .before .before .before
+
+kind-is : (c : tie.After-kind-of Inv-loop μ-loop) → c .kind-of .result ≡ kind (word-here (known c))
+kind-is c = c .kind-of .ensures ∙ ap (λ (w : ℕ). kind w) (c .before .word-at .ensures)
+
+head : (c : tie.Else1 Inv-loop μ-loop) → kind (word-here (known (c .before))) ≡ head-kind
 unfolding head-kind
-head c = let e = c .if1 .left in cc
+head c = sym (kind-is (c .before)) ∙ c .if1 .left
+
+abbrev asked : tie.After-question-words-of Inv-loop μ-loop → tie.After-kind-of Inv-loop μ-loop
+asked c = c .before .before .before
+
+long-is : (c : tie.After-question-words-of Inv-loop μ-loop) → let a = known (asked c) in
+    c .question-words-of .result ≡ question-long (st a .args .f) (width (head-code (word-here a)))
+long-is c = let h = c .before in let k = asked c in let f = st (known k) .args .f in
+    c .question-words-of .ensures ∙ ap (λ (w : ℕ). question-long f (width w)) (h .head-code-of .ensures ∙ ap (λ (w : ℕ). head-code w) (k .before .word-at .ensures))
 
 few : (c : tie.After-question-words-of Inv-loop μ-loop) → c .question-words-of .result ≤ 75
-few c =
-    let k = c .before in let s = st (k .before .before .before .before .before) in
-    omega (arith, c .question-words-of .ensures, question-long-le (s .args .f) (s .pre) (k .head-code-of .result))
+few c = let s = st (known (asked c)) in at-most (c .question-words-of .ensures) (question-long-le (s .args .f) (s .pre) _)
 
 returns : tie.Need-returns Inv-loop μ-loop
 unfolding head-kind
-returns c = let a = c .before .before .before .before in sym (a .loop .inv ∙ skip-end _ _ (a .loop .at) (a .loop .left) (λ e. c .if1 .taken (cc)))
+returns c = let k = c .before in let a = known k in sym (a .loop .inv ∙ skip-end _ _ (a .loop .at) (a .loop .left) (λ e. c .if1 .taken (kind-is k ∙ e)))
 
 add-at-2 : tie.Need-add-at-2 Inv-loop μ-loop
-add-at-2 c = let e = c .before .before in let a = e .before .before .before .before in
-    omega (arith, few c, inside (now (st a .args .sheet)) (a .loop .at) (head e))
+add-at-2 c = let a = known (asked c) in past-fits _ _ (inside (now (st a .args .sheet)) (a .loop .at) (head (c .before .before))) (few c) (st a .good .0 .1)
+
+less : {n : ℕ} → 0 < n → n - 1 < n
+less h = omega arith
 
 loop-again : tie.Need-loop-again Inv-loop μ-loop
 unfolding behind
-loop-again c = let e = c .before .before in let w = e .before .before in let a = w .before .before in
-    a .loop .inv ∙ skip-more _ _ (a .loop .at) (a .loop .left) (w .before .loop-test .taken) (head e) ∙ rw (c .question-words-of .ensures, c .before .head-code-of .ensures, w .word-at .ensures)
+loop-again c = let k = asked c in let a = known k in let s = st a .args in
+    a .loop .inv ∙ skip-more (s .f) (as-words (now (s .sheet))) (a .loop .at) (a .loop .left) (k .before .before .loop-test .taken) (head (c .before .before))
+    ∙ ap (λ (n : ℕ). skipped (s .f) (a .loop .left - 1) (as-words (now (s .sheet))) (a .loop .at + (1 + n))) (sym (long-is c))
 
 returns-2 : tie.Need-returns-2 Inv-loop μ-loop
 returns-2 c = let a = c .before in sym (a .loop .inv ∙ skip-none _ _ (a .loop .at) (a .loop .left) (c .loop-test .left))
@@ -60,9 +79,9 @@ place-of-spec =
     returns
     (λ c κs. search needs)
     (λ c κs. search needs)
-    (λ c. omega (arith, few c))
+    (λ c. few-fits (few c))
     add-at-2
-    (λ c. search needs)
-    (λ c. search needs)
+    (λ c. asked c .before .before .loop-test .taken)
+    (λ c. less (asked c .before .before .loop-test .taken))
     loop-again
     returns-2)

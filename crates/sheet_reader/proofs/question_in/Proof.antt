@@ -1,7 +1,8 @@
 -- `sheet_reader::question_in` meets its contract.
 -- Assumes nothing.
-use mathlib.Core.Path.{sym, _∙_}
-use Prim.Native.Nat.{_/_, _≤_, _<_}
+use mathlib.Core.Path.{sym, ap, _∙_}
+use Prim.Native.Nat.{ℕ, _+_, _/_, _≤_, _<_}
+use lib.Dec.{lit≤}
 use lib.ListN.{length, getD}
 use denote.Ref.{now}
 use Rattle.code.specs.Code.{width}
@@ -9,8 +10,7 @@ use Rattle.code.proofs.Accepted.{width-fine}
 use Rattle.sheet.specs.Sheet.{as-words, head-code}
 use Rattle.sheet.proofs.Forms.{row-long-le, long-le, question-long-le}
 use Rattle.sheet_reader.specs.Within.{behind}
-use Rattle.sheet_reader.proofs.Says.{Standing, standing, inside, says-found, says-none, says-refused}
-use native.Mathlib.Omega.{arith}
+use Rattle.sheet_reader.proofs.Says.{Standing, standing, inside, at-most, next-in, few-fits, past-fits, says-found, says-none, says-refused}
 use borrow.Author.Needs.{needs}
 use Rattle.sheet_reader.proofs.question_in.Statement.{statement}
 use Rattle.sheet_reader.proofs.question_in.Tie as tie
@@ -26,20 +26,22 @@ found a = standing _ _ _ _ _ (sym (a .before .before .answer-at .ensures) ∙ a 
 within : (a : tie.After-answer) → st a .args .at < length (now (st a .args .sheet)) / 4
 within a = inside (now (st a .args .sheet)) (st a .args .at) (found a .head)
 
+abbrev answer-of : tie.After-question-words-of → tie.After-answer
+answer-of c = c .before .before .before .before .before .before .before .before
+
 few : (c : tie.After-question-words-of) → c .question-words-of .result ≤ 75
-few c =
-    let a = c .before .before .before .before .before .before .before .before in let k = a .answer .given .0 .0 in
-    omega (arith, c .question-words-of .ensures, question-long-le (st a .args .f) (st a .pre .form) k)
+few c = let s = st (answer-of c) in at-most (c .question-words-of .ensures) (question-long-le (s .args .f) (s .pre .form) _)
 
 read-parts-requires : tie.Need-read-parts-requires
 read-parts-requires c κs =
     let a = c .before .before .before in let t = found a in let k = head-code (getD (as-words (now (st a .args .sheet))) (st a .args .at) 0) in
-    (st a .pre .form, (omega (arith, within a), (omega (arith, t .row-long-is, row-long-le (width k) (width-fine k)), omega (arith, t .long-is, long-le (width k) (width-fine k)))))
+    (st a .pre .form, (next-in (within a), (at-most (t .row-long-is) (row-long-le (width k) (width-fine k)), at-most (t .long-is) (long-le (width k) (width-fine k)))))
 
 returns : tie.Need-returns
 unfolding behind
-returns c = let q = c .before .before .before .before in let a = q .before .before .before .before in
-    says-found _ _ _ _ _ _ _ _ _ _ (sym (a .before .before .answer-at .ensures) ∙ a .answer .given .1) (rw (c .question-words-of .ensures)) (q .read-parts .ensures)
+returns c = let a = answer-of c in
+    says-found _ _ _ _ _ _ _ _ _ _ (sym (a .before .before .answer-at .ensures) ∙ a .answer .given .1)
+    (ap (λ (n : ℕ). st a .args .at + (1 + n)) (c .question-words-of .ensures)) (c .before .before .before .before .read-parts .ensures)
 
 pub question-in-spec : {M : Type 1} → statement M
 question-in-spec =
@@ -47,11 +49,11 @@ question-in-spec =
     (tie.spec
     (λ c κs. search needs)
     (λ c. search needs)
-    (λ c. omega (arith, within (c .before)))
+    (λ c. past-fits _ _ {n = 0} (within (c .before)) (lit≤ tt) (st (c .before) .good .0 .1))
     read-parts-requires
     (λ c κs. search needs)
-    (λ c. omega (arith, few c))
-    (λ c. omega (arith, few c, within (c .before .before .before .before .before .before .before .before)))
+    (λ c. few-fits (few c))
+    (λ c. let a = answer-of c in past-fits _ _ (within a) (few c) (st a .good .0 .1))
     (λ c. search needs)
     (λ c. search needs)
     (λ c. search needs)
