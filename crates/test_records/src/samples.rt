@@ -1,6 +1,6 @@
 // The quantiser: the samples on record, the edges beside them, and the refusals in their order with the row kept.
-use crate::parts;
-use crate::tally::Tally;
+use test_tally::parts;
+use test_tally::tally::Tally;
 
 // Samples by their bits: the four on record (1.0, 1/64, -1/64, 3.984375), both zeros, both infinities, the least subnormal, the floats
 // next to 1/64 and to -1/64, 2.5/32, 126.5/32 with the floats next to it, the negatives of two of these, and the largest of both signs.

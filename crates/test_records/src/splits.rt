@@ -1,11 +1,11 @@
 // The split: coset leaders, configurations and BCH words, with source document 000's lists (5), (6) and (12), and the refusals.
 // Of its generator (10) holds what the roots decide: it lists the values at α^2, and at α the multiples of (1, α^4, α^2) take its place.
 // Of its matrix (4), which has 22 columns for 21 bits, the sum of the glue vectors is taken as (7) writes it, layer by layer.
-use crate::parts;
-use crate::tally::Tally;
-use crate::words;
 use field::Answer;
 use field::Element;
+use test_tally::parts;
+use test_tally::tally::Tally;
+use test_tally::words;
 
 // (7), layer by layer, and the layers of the other word on record.
 const SUM_7: [u8; 21] = [

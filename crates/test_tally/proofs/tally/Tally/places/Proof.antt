@@ -1,10 +1,10 @@
--- `test_records::tally::Tally::places` is safe and ends.
+-- `test_tally::tally::Tally::places` is safe and ends.
 -- Assumes nothing.
 use borrow.Author.Needs.{needs}
 use Prim.Native.Nat.{_≤_, _-_}
 use lib.ListN.{length}
-use Rattle.test_records.proofs.tally.Tally.places.Statement.{statement}
-use Rattle.test_records.proofs.tally.Tally.places.Tie as tie
+use Rattle.test_tally.proofs.tally.Tally.places.Statement.{statement}
+use Rattle.test_tally.proofs.tally.Tally.places.Tie as tie
 
 abbrev Inv-loop : tie.InvT-loop
 Inv-loop found expected layered t₀ i₀ t i = i ≤ length found

@@ -1,7 +1,7 @@
 // The decoder: metrics, best words and soft outputs on record, and the refusals in their order with the outputs kept.
-use crate::parts;
-use crate::tally::Tally;
-use crate::words;
+use test_tally::parts;
+use test_tally::tally::Tally;
+use test_tally::words;
 
 // In place of a symbol: any codeword.
 const ANY: u8 = 255;

@@ -1,7 +1,7 @@
 // The marker: the sheet's three questions, the verdicts of other words on record, and the refusals in their order.
-use crate::parts;
-use crate::tally::Tally;
-use crate::words;
+use test_tally::parts;
+use test_tally::tally::Tally;
+use test_tally::words;
 
 pub fn agree() -> Tally {
     // The three questions of the sheet on record: all 10, and the words of 0x30000000, 0x30000163 and 0x30000001.

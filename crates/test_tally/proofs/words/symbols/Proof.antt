@@ -1,9 +1,9 @@
--- `test_records::words::symbols` is safe and ends.
+-- `test_tally::words::symbols` is safe and ends.
 -- Assumes nothing.
 use borrow.Author.Needs.{needs}
 use Prim.Native.Nat.{_≤_}
-use Rattle.test_records.proofs.words.symbols.Statement.{statement}
-use Rattle.test_records.proofs.words.symbols.Tie as tie
+use Rattle.test_tally.proofs.words.symbols.Statement.{statement}
+use Rattle.test_tally.proofs.words.symbols.Tie as tie
 
 abbrev Inv-loop : tie.InvT-loop
 Inv-loop n digits word₀ rest₀ i₀ word rest i = i ≤ 16

@@ -1,10 +1,10 @@
 // Sheets: a row value of 127 taken and -128 refused by 5, 200 questions taken and 201 refused by 12, and an empty sheet file. Sheets are read
 // by a reader over them; a reader that nobody handed out gets no other answer; and document 01's sheet is read and written.
 use crate::paper;
-use crate::parts;
-use crate::tally::Tally;
-use crate::words;
 use sheet_reader::Yield;
+use test_tally::parts;
+use test_tally::tally::Tally;
+use test_tally::words;
 
 // Where the last reliability of the sheet's first question stands, where that is of code 1.
 const LAST: usize = 30;

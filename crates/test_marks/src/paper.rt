@@ -1,6 +1,6 @@
 // Document 01's sheet of 31 words: its questions are read one after another by a reader over it, and written again are the same bytes.
 use crate::sheets;
-use crate::tally::Tally;
+use test_tally::tally::Tally;
 
 // The words of its questions, which are of code 1 and have 10 throughout their rows.
 const WORDS: [u8; 21] = [
