@@ -12,6 +12,8 @@ use lib.Dec.{ltb, leb, lit≤, lit<}
 use lib.Pow.{pow-mono}
 use lib.ListN.{length, length-map}
 use lib.IntN.{ℤ, pos, negsuc, natAbs}
+use mir.Syntax.{w64}
+use mir.Val.{Fits}
 use Rattle.field.specs.Field.{width-good}
 use Rattle.field.proofs.Tests.{to-T, widths}
 use Rattle.code.specs.declared.Shape.{Shape}
@@ -176,3 +178,16 @@ unfolding question-long row-words symbol-words
 question-long-le f z c =
     let m : ℕ = width c in
     omega (arith, count-le f z (row-long m), count-le symbols symbols-fine (long m), row-long-le m (width-fine c), long-le m (width-fine c))
+
+-- so that a place past one fits
+pub at-most : {a b k : ℕ} → a ≡ b → b ≤ k → a ≤ k
+at-most e h = rw e h
+
+pub next-in : {i n : ℕ} → i < n → i + 1 ≤ n
+next-in h = omega arith
+
+pub few-fits : {n : ℕ} → n ≤ 75 → Fits w64 (1 + n)
+few-fits h = record { fits = omega arith }
+
+pub past-fits : (at l : ℕ) {n : ℕ} → at < l / 4 → n ≤ 75 → l * 1 < 2 ^ 63 → Fits w64 (at + (1 + n))
+past-fits at l h n s = record { fits = omega arith }

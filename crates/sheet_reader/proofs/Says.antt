@@ -4,14 +4,12 @@ use mathlib.Core.Path.{_≡_, refl, sym, _∙_}
 use mathlib.Core.Logic.{_⊎_, inl, inr}
 use mathlib.Core.Bool.{Bool, true, false, _&&_}
 use mathlib.Core.List.{List}
-use Prim.Native.Nat.{ℕ, _+_, _*_, _/_, _^_, _<_, _≤_}
+use Prim.Native.Nat.{ℕ, _+_, _/_, _<_, _≤_}
 use native.Mathlib.Omega.{arith}
 use borrow.Author.Tests.{eqb-true}
 use lib.Dec.{eqb}
 use lib.ListN.{length, getD, drop}
 use lib.IntN.{ℤ}
-use mir.Syntax.{w64}
-use mir.Val.{Fits}
 use Rattle.code.specs.Code.{width, long}
 use Rattle.code.specs.Bits.{row-long}
 use Rattle.sheet.specs.declared.Form.{Form}
@@ -52,19 +50,6 @@ inside bs at h = by (le-or-lt (length bs / 4) at)
     by : (length bs / 4 ≤ at) ⊎ (at < length bs / 4) → at < length bs / 4
     by (inl l) = absurd (omega (arith, h, no-word bs at l))
     by (inr l) = l
-
--- its question has few words, so that the place past them fits
-pub at-most : {a b k : ℕ} → a ≡ b → b ≤ k → a ≤ k
-at-most e h = rw e h
-
-pub next-in : {i n : ℕ} → i < n → i + 1 ≤ n
-next-in h = omega arith
-
-pub few-fits : {n : ℕ} → n ≤ 75 → Fits w64 (1 + n)
-few-fits h = record { fits = omega arith }
-
-pub past-fits : (at l : ℕ) {n : ℕ} → at < l / 4 → n ≤ 75 → l * 1 < 2 ^ 63 → Fits w64 (at + (1 + n))
-past-fits at l h n s = record { fits = omega arith }
 
 module _ (f : Form) (bs : List ℕ) (at : ℕ) (row : List ℤ) (word : List ℕ) where
   abbrev answer : Yield

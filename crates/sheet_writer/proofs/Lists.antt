@@ -54,9 +54,6 @@ pub rest-is : {A : Type 0} (l : List A) (n : ℕ) → take (length l - n) (drop 
 rest-is l n = take-all (length l - n) (drop n l) (omega (arith, length-drop n l))
 
 -- places in the lent slices, and what is asked of them
-pub next-in : {i n : ℕ} → i < n → i + 1 ≤ n
-next-in h = omega arith
-
 pub next-less : {i n : ℕ} → i < n → n - (i + 1) < n - i
 next-less h = omega arith
 

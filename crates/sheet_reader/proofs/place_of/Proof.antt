@@ -6,9 +6,9 @@ use lib.ListN.{getD}
 use denote.Ref.{now}
 use Rattle.code.specs.Code.{width}
 use Rattle.sheet.specs.Sheet.{as-words, kind, head-kind, head-code, question-long}
-use Rattle.sheet.proofs.Forms.{question-long-le}
+use Rattle.sheet.proofs.Forms.{question-long-le, at-most, few-fits, past-fits}
 use Rattle.sheet_reader.specs.Within.{behind, skipped}
-use Rattle.sheet_reader.proofs.Says.{inside, at-most, few-fits, past-fits}
+use Rattle.sheet_reader.proofs.Says.{inside}
 use Rattle.sheet_reader.proofs.Choice.{skip-none, skip-end, skip-more}
 use borrow.Author.Needs.{needs}
 use native.Mathlib.Omega.{arith}

@@ -12,10 +12,10 @@ use denote.Ref.{now}
 use Rattle.code.specs.Code.{width, long}
 use Rattle.code.specs.Bits.{row-long}
 use Rattle.sheet.specs.Sheet.{question, digits, worded, end-kind, question-long, question-words, question-good}
-use Rattle.sheet.proofs.Forms.{question-long-le}
+use Rattle.sheet.proofs.Forms.{question-long-le, at-most, next-in}
 use Rattle.sheet.proofs.Longest.{question-length}
 use Rattle.sheet_writer.specs.Within.{begun}
-use Rattle.sheet_writer.proofs.Lists.{rest-is, next-in, next-less, other-in, sum-in, row-fits, length-fits}
+use Rattle.sheet_writer.proofs.Lists.{rest-is, next-less, other-in, sum-in, row-fits, length-fits}
 use Rattle.sheet_writer.proofs.Writing.{lent-is, part-room, part-is, Begun, begin, size, next-code, next, next-good, rows-left, words-left, fits-in, more, end-fits, done}
 use borrow.Author.Needs.{needs, scaled-fits}
 use native.Mathlib.Omega.{arith}
@@ -39,9 +39,6 @@ at b = in-loop b .before
 
 abbrev by : tie.After-write-question-arg3 Inv-loop μ-loop → tie.After-by-number Inv-loop μ-loop
 by c = c .before .before .before .before .before .before .before
-
-at-most : {a b k : ℕ} → a ≡ b → b ≤ k → a ≤ k
-at-most e h = rw e h
 
 one-more : {a b k : ℕ} → a ≡ b → k ≡ suc b → 1 + a ≡ k
 one-more e h = omega arith

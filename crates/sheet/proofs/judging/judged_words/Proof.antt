@@ -5,12 +5,15 @@ use mathlib.Core.List.{List}
 use Prim.Native.Nat.{ℕ, _+_, _-_, _/_, _<_, _≤_}
 use lib.Dec.{lit≤}
 use lib.ListN.{length, getD, drop, drop-of-length-le}
+use native.Mathlib.Nat.{sub-le}
 use denote.Ref.{now}
+use mir.Syntax.{w64}
+use mir.Val.{Fits}
 use Rattle.code.specs.Code.{width}
 use Rattle.sheet.specs.Sheet.{as-words, kind, head-code, end-kind, most, question-long, head-refusal, end-refusal}
 use Rattle.sheet.specs.Within.{judged-from}
 use Rattle.sheet.specs.Calls.{judgement}
-use Rattle.sheet.proofs.Forms.{question-long-le}
+use Rattle.sheet.proofs.Forms.{question-long-le, at-most, next-in, few-fits, past-fits}
 use Rattle.sheet.proofs.Bytes.{as-words-length}
 use Rattle.sheet.proofs.Turns.{judged-none, head-here, turn-end, turn-refused, turn-more}
 use borrow.Author.Needs.{needs}
@@ -59,9 +62,6 @@ long-is : (c : tie.After-question-words-of Inv-loop μ-loop) → let a = known (
 long-is c = let h = c .before in let k = h .before .before .before .before in let f = st (known k) .args .f in
     c .question-words-of .ensures ∙ ap (λ (w : ℕ). question-long f (width w)) (h .head-code-of .ensures ∙ ap (λ (w : ℕ). head-code w) (k .before .word-at .ensures))
 
-at-most : {a b k : ℕ} → a ≡ b → b ≤ k → a ≤ k
-at-most e h = rw e h
-
 few : (c : tie.After-question-words-of Inv-loop μ-loop) → c .question-words-of .result ≤ 75
 few c = let s = st (known (c .before .before .before .before .before)) in at-most (c .question-words-of .ensures) (question-long-le (s .args .f) (s .pre .form) _)
 
@@ -80,6 +80,12 @@ returns-2 c =
 
 less : {n k : ℕ} → n ≤ k → n - 1 ≤ k
 less h = omega arith
+
+smaller : {n : ℕ} → 0 < n → n - 1 < n
+smaller h = omega arith
+
+next-fits : (c : tie.After-kind-of Inv-loop μ-loop) → Fits w64 (known c .loop .at + 1)
+next-fits c = past-fits _ _ {n = 0} (c .before .before .loop-test .taken) (lit≤ tt) (st (known c) .good .0 .1)
 
 loop-again : tie.Need-loop-again Inv-loop μ-loop
 loop-again c =
@@ -106,19 +112,19 @@ judged-words-spec =
     loop-holds
     (λ c κs. search needs)
     (λ c κs. search needs)
-    (λ c. search needs)
-    (λ c. search needs)
-    (λ c. search needs)
-    (λ c κs. search needs)
+    (λ c. known (c .before) .loop .inv .0)
+    (λ c. next-fits (c .before))
+    (λ c. next-in (c .before .before .before .loop-test .taken))
+    (λ c κs. sub-le 200 _)
     returns
-    (λ c. search needs)
-    (λ c κs. search needs)
+    (λ c. next-fits (c .before))
+    (λ c κs. (st (known (c .before)) .pre, next-in (c .before .before .before .loop-test .taken)))
     returns-2
     (λ c κs. search needs)
-    (λ c κs. search needs)
-    (λ c. omega (arith, few c))
-    (λ c. omega (arith, few c))
+    (λ c κs. st (known (c .before .before .before .before)) .pre .form)
+    (λ c. few-fits (few c))
+    (λ c. let k = c .before .before .before .before .before in past-fits _ _ (k .before .before .loop-test .taken) (few c) (st (known k) .good .0 .1))
     (λ c. more (c .before .before) .0)
-    (λ c. omega (arith, more (c .before .before) .0))
+    (λ c. smaller (more (c .before .before) .0))
     loop-again
     returns-3)

@@ -11,9 +11,9 @@ use Rattle.refusal.specs.Refusal.{first}
 use Rattle.refusal.proofs.Tests.{link, first-refuses, first-passes}
 use Rattle.code.specs.Code.{width, long}
 use Rattle.code.specs.Bits.{row-long}
-use Rattle.sheet.proofs.Forms.{bits-le, n-le}
+use Rattle.sheet.proofs.Forms.{bits-le, n-le, next-in}
 use Rattle.sheet_writer.specs.Calls.{asked-refusal, list-refusal}
-use Rattle.sheet_writer.proofs.Lists.{rest-is, next-in, next-less, other-in, further-in, row-fits, length-fits, further-fits, list-step, list-end}
+use Rattle.sheet_writer.proofs.Lists.{rest-is, next-less, other-in, further-in, row-fits, length-fits, further-fits, list-step, list-end}
 use Rattle.sheet_writer.proofs.Writing.{room}
 use mir.Facts.{fits-le}
 use borrow.Author.Needs.{needs, scaled-fits}
