@@ -1,6 +1,6 @@
 -- `sheet::judge_sheet` meets its contract.
 -- Assumes nothing.
-use mathlib.Core.Path.{_≡_, refl, sym, _∙_}
+use mathlib.Core.Path.{refl, sym, _∙_}
 use denote.Ref.{now}
 use Rattle.refusal.proofs.Tests.{link}
 use Rattle.sheet.proofs.Forms.{row-form}

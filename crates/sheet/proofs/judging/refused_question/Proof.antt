@@ -8,10 +8,8 @@ use lib.Seq.{drop-drop}
 use denote.Ref.{now}
 use native.Mathlib.Omega.{arith}
 use Rattle.refusal.specs.Refusal.{first}
-use Rattle.code.specs.declared.Shape.{Shape}
 use Rattle.code.specs.Code.{long}
 use Rattle.code.specs.Bits.{row-long}
-use Rattle.code.specs.Within.{Coded}
 use Rattle.code.proofs.Promise.{chosen-refusal}
 use Rattle.sheet.specs.declared.Form.{Form}
 use Rattle.sheet.specs.Sheet.{symbols, as-words, count, after-row, row-words, items-refusal, row-refusal, symbol-refusal, question-refusal}
