@@ -40,16 +40,14 @@ fn taken(sheet: &[u8], f: Form, s: Spot) -> Spot
     }
 }
 
-// Two's complement.
+// Two's complement: the upper half wraps to the numbers below 0.
 fn signed(d: u32, base: u32) -> i16
     requires { ⌜ d < base ⌝ }
     requires { ⌜ base < 2 ^ 15 ⌝ }
     ensures { λ r. ⌜ r ≡ signed-of base d ⌝ }
 {
-    if d < base / 2 {
-        return d as i16;
-    }
-    (d as i16) - (base as i16)
+    let up = base - base / 2;
+    ((d + up) % base) as i16 - (up as i16)
 }
 
 // The next item, as a reliability at a place of a row.
