@@ -1,5 +1,5 @@
 // The decoder with its soft outputs. `decode` is offered to callers: it takes any input and promises what specs/Calls.antt says, in the words of
-// the crate metric; how the search goes is no part of the promise.
+// the crate metric; how the search goes is no part of the promise. `decode_accepted` is for the crates above, which know that nothing is refused.
 use code::Shape;
 ghost use mathlib.Core.Path.{_≡_};
 ghost use Prim.Native.Nat.{_+_, _*_, _^_, _<_};
@@ -197,7 +197,7 @@ fn decode_in(shape: Shape, row: &[i16], t: &mut [u16], word: &mut [u8], soft: &m
 
 // A decoding of an accepted call, with tables of the size that its code needs: zeroing the largest would cost the smallest code a tenth of its
 // instructions. The largest are filled with BIG, which takes a tenth of what zeroing takes; nothing reads them before they are written.
-fn decode_accepted(shape: Shape, row: &[i16], word: &mut [u8], soft: &mut [i16]) -> i32
+pub fn decode_accepted(shape: Shape, row: &[i16], word: &mut [u8], soft: &mut [i16]) -> i32
     requires { ⌜ Accepted shape (now row) (length (now word)) (length (now soft)) ⌝ }
     ensures { λ x. ⌜ Decoded (shape .m) (is-codeword (shape .m) (shape .r)) (now (row .entry)) (now (word .exit)) x (now (soft .exit)) ⌝ }
 {

@@ -1,23 +1,22 @@
 -- A question that a sheet can hold is refused by neither decoder nor marker, so what they say makes its line.
 -- Assumes nothing.
-use mathlib.Core.Path.{_≡_, refl}
+use mathlib.Core.Path.{_≡_, refl, sym, ap, ap₂, _∙_}
 use mathlib.Core.List.{List}
-use Prim.Native.Nat.{ℕ, _+_, _≤_}
+use Prim.Native.Nat.{ℕ, _+_, _*_, _≤_}
 use native.Mathlib.Omega.{arith}
 use borrow.Author.Tests.{eq-eqb}
 use lib.ListN.{length}
 use lib.IntN.{ℤ}
-use Rattle.refusal.specs.Refusal.{unless, first}
-use Rattle.refusal.proofs.Outcomes.{outcome-taken}
+use Rattle.refusal.specs.Refusal.{unless}
 use Rattle.code.specs.declared.Chosen.{Chosen}
-use Rattle.code.specs.Code.{width, roots, is-codeword}
+use Rattle.code.specs.Code.{width, roots, long, is-codeword}
+use Rattle.code.specs.Bits.{row-long}
 use Rattle.code.specs.Within.{Chosen-says}
-use Rattle.code.proofs.Accepted.{number-free}
 use Rattle.code.proofs.Promise.{of-shape, of-number}
 use Rattle.metric.specs.Metric.{Greatest, Decoded, Marked}
 use Rattle.metric.proofs.Promise.{decoded-greatest}
-use Rattle.decoder.specs.declared.Decoding.{Decoding}
-use Rattle.decoder.specs.Calls.{decode-refusal, Decode-says}
+use Rattle.decoder.specs.Within.{Accepted}
+use Rattle.decoder.proofs.Refusals.{decoded-as}
 use Rattle.marker.specs.declared.Mark.{Mark}
 use Rattle.marker.specs.Calls.{mark-refusal}
 use Rattle.marker.specs.Within.{Verdict}
@@ -36,18 +35,21 @@ pub record Decoded-question (q : Question) (best : ℤ) (soft : List ℤ) : Type
   pub word : List ℕ
   pub decoded : Decoded (width (q .code)) (is-codeword (width (q .code)) (roots (q .code))) (q .row) word best soft
 
-pub answered :
-    {q : Question} {g : ℤ} (d : Decoding) (b us : List ℕ) (s so : List ℤ) → Holds q (length b) (length s) → Decode-says (q .code) (q .row) d b us s so →
-    g ≡ d .metric → Decoded-question q g so
-unfolding Decode-says decode-refusal unless first
-answered {q} d b us s so h x e =
-    let g = good-parts reliabilities q (h .good) in
-    record {
-      good = g;
-      word = us;
-      decoded =
-          rw e (outcome-taken _ (d .number) _ _ (rw (number-free (q .code) (g .known), eq-eqb _ _ (g .row-length), eq-eqb _ _ (h .best-is), eq-eqb _ _ (h .soft-is), g .row-fine)) x .1);
-    }
+module _ {q : Question} {lb ls : ℕ} (h : Holds q lb ls) {a : Chosen} (c : Chosen-says (q .code) a) where
+  -- nothing is refused
+  pub accepted : Accepted (a .shape) (q .row) lb ls
+  unfolding row-long
+  accepted =
+      let g = good-parts reliabilities q (h .good) in let z = c .coded in
+      let n : long (width (q .code)) ≡ a .shape .n = ap long (sym (c .m-is)) ∙ sym (z .n-is) in
+      record {
+        input = record { coded = z; length-row = g .row-length ∙ ap row-long (sym (c .m-is)); good-row = g .row-fine };
+        long-word = h .best-is ∙ n;
+        long-soft = h .soft-is ∙ ap₂ _*_ n (sym (c .m-is));
+      }
+
+  pub answered : {w : List ℕ} {d g : ℤ} {so : List ℤ} → g ≡ d → Decoded (a .shape .m) (is-codeword (a .shape .m) (a .shape .r)) (q .row) w d so → Decoded-question q g so
+  answered {w} e x = record { good = good-parts reliabilities q (h .good); word = w; decoded = decoded-as (c .m-is) (c .r-is) e x }
 
 module _ {q : Question} {g : ℤ} {so : List ℤ} (x : Decoded-question q g so) where
   module _ {a : Chosen} (c : Chosen-says (q .code) a) where

@@ -38,10 +38,9 @@ fn put_answer(
     requires { ⌜ at + line-most ≤ length (now out) ⌝ }
     ensures { λ r. ⌜ Put-line (question code number (now (row .entry)) (now (word .entry))) at (now (out .entry)) (now (out .exit)) r ⌝ }
 {
-    let decoding = decoder::decode(code, row, best, soft);
-    let metric = decoding.metric;
     let chosen = code::by_number(code);
     let shape = chosen.shape;
+    let metric = decoder::decode_accepted(shape, row, best, soft);
     let mark = marker::verdict_on_word(shape, row, word, metric);
     let verdict = mark.verdict;
     let shortfall = mark.shortfall;

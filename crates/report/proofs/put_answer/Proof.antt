@@ -1,46 +1,50 @@
 -- `report::put_answer` meets its contract: the decoder takes the row, the marker the best metric that it found, and their answers make the line.
 -- Assumes nothing.
 use mathlib.Core.Path.{_≡_}
+use denote.Ref.{now}
 use mir.Syntax.{w32}
 use mir.Val.{toZ, ofZ}
 use mir.Facts.{toZ-ofZ}
-use Rattle.report.proofs.Answering.{answered, taken, line, room, put-line}
+use Rattle.sheet.specs.Sheet.{question}
+use Rattle.report.proofs.Answering.{Decoded-question, accepted, answered, taken, line, room, put-line}
 use borrow.Author.Needs.{needs}
 use Rattle.report.proofs.put_answer.Statement.{statement}
 use Rattle.report.proofs.put_answer.Tie as tie
 
-abbrev dec : tie.After-shape → tie.After-decode
-dec h = h .before .before .before .before .before .before
+abbrev chosen : tie.After-decode-accepted → tie.After-by-number
+chosen d = d .before .before .before .before
 
-abbrev st : tie.After-shape → tie.Start
-st h = dec h .before .before .before .before .before .before
+abbrev st : tie.After-by-number → tie.Start
+st b = b .before .before .before .before
 
--- the metric and the shortfall, as locals hold them
-metric : (h : tie.After-shape) → toZ w32 (ofZ w32 (dec h .decode .result .metric)) ≡ dec h .decode .result .metric
-metric h = toZ-ofZ (record { sfits = h .before .before .struct-told .given .1 .0 .1 })
+abbrev dec : tie.After-soft → tie.After-decode-accepted
+dec c = c .before .before .before
 
-shortfall : (t : tie.After-struct-told2) → toZ w32 (ofZ w32 (t .before .verdict-on-word .result .shortfall)) ≡ t .before .verdict-on-word .result .shortfall
-shortfall t = toZ-ofZ (record { sfits = t .struct-told2 .given .1 .1 .0 .1 })
+decoded : (d : tie.After-decode-accepted) → let s = st (chosen d) .args in
+    Decoded-question (question (s .code) (s .number) (now (s .row)) (now (s .word))) (toZ w32 (ofZ w32 (d .decode-accepted .result))) (d .decode-accepted .last .1 .1 .1 .0)
+decoded d = answered (st (chosen d) .pre .0) (chosen d .by-number .ensures) (toZ-ofZ (record { sfits = d .decode-accepted .ok })) (d .decode-accepted .ensures)
+
+-- the shortfall, as a local holds it
+shortfall : (t : tie.After-struct-told) → toZ w32 (ofZ w32 (t .before .verdict-on-word .result .shortfall)) ≡ t .before .verdict-on-word .result .shortfall
+shortfall t = toZ-ofZ (record { sfits = t .struct-told .given .1 .1 .0 .1 })
 
 verdict-on-word-requires : tie.Need-verdict-on-word-requires
-verdict-on-word-requires c κs = let n = c .before .by-number .ensures in (n .coded, taken (answered _ _ _ _ _ (st c .pre .0) (dec c .decode .ensures) (metric c)) n)
+verdict-on-word-requires c κs = let d = dec c in let n = chosen d .by-number .ensures in (n .coded, taken (decoded d) n)
 
 put-question-requires : tie.Need-put-question-requires
-put-question-requires c κs = let t = c .before .before in let v = t .before in let h = v .before in
-    let x = answered _ _ _ _ _ (st h .pre .0) (dec h .decode .ensures) (metric h) in
-    room x _ _ (line x (h .before .by-number .ensures) (v .verdict-on-word .result) (v .verdict-on-word .ensures) (shortfall t)) (st h .pre .1)
+put-question-requires c κs = let t = c .before .before in let v = t .before in let d = dec (v .before) in
+    room (decoded d) _ _ (line (decoded d) (chosen d .by-number .ensures) (v .verdict-on-word .result) (v .verdict-on-word .ensures) (shortfall t)) (st (chosen d) .pre .1)
 
 returns : tie.Need-returns
-returns c = let t = c .before .before .before .before .before in let v = t .before in let h = v .before in
-    let x = answered _ _ _ _ _ (st h .pre .0) (dec h .decode .ensures) (metric h) in
-    put-line x (line x (h .before .by-number .ensures) (v .verdict-on-word .result) (v .verdict-on-word .ensures) (shortfall t)) (c .before .before .put-question .ensures)
+returns c = let p = c .before .before in let t = p .before .before .before in let v = t .before in let d = dec (v .before) in
+    put-line (decoded d) (line (decoded d) (chosen d .by-number .ensures) (v .verdict-on-word .result) (v .verdict-on-word .ensures) (shortfall t)) (p .put-question .ensures)
 
 pub put-answer-spec : {M : Type 1} → statement M
 put-answer-spec =
     tie.close
     (tie.spec
     (λ c κs. search needs)
-    (λ c κs. search needs)
+    (λ c κs. let b = c .before .before .before in accepted (st b .pre .0) (b .by-number .ensures))
     verdict-on-word-requires
     put-question-requires
     (λ c. search needs)
