@@ -249,15 +249,31 @@ fn vanishes(m: u32, logs: &[u8], antilogs: &[u8], r: usize, word: &[u8]) -> bool
     true
 }
 
-// Whether a word of n symbols has the roots α to α^r.
+// Whether a word of 7 symbols has the roots α to α^r of GF(8).
+fn is_codeword_of_7(r: u32, word: &[u8]) -> bool
+    requires { ⌜ Word-within 3 r (now word) ⌝ }
+    ensures { λ x. ⌜ x ≡ is-codeword 3 r (now (word .entry)) ⌝ }
+{
+    vanishes(3, &field::LOG_3, &field::ANTILOG_3, r as usize, word)
+}
+
+// Whether a word of 15 symbols has the roots α to α^r of GF(16).
+fn is_codeword_of_15(r: u32, word: &[u8]) -> bool
+    requires { ⌜ Word-within 4 r (now word) ⌝ }
+    ensures { λ x. ⌜ x ≡ is-codeword 4 r (now (word .entry)) ⌝ }
+{
+    vanishes(4, &field::LOG_4, &field::ANTILOG_4, r as usize, word)
+}
+
+// Whether a word of n symbols has the roots α to α^r. A function for each field, so that a call stores the tables of one field alone.
 pub fn is_codeword(m: u32, r: u32, word: &[u8]) -> bool
     requires { ⌜ Word-within m r (now word) ⌝ }
     ensures { λ x. ⌜ x ≡ is-codeword m r (now (word .entry)) ⌝ }
 {
     if m == 3 {
-        return vanishes(3, &field::LOG_3, &field::ANTILOG_3, r as usize, word);
+        return is_codeword_of_7(r, word);
     }
-    vanishes(4, &field::LOG_4, &field::ANTILOG_4, r as usize, word)
+    is_codeword_of_15(r, word)
 }
 
 // A copy.

@@ -3,7 +3,7 @@
 use mathlib.Core.Path.{_≡_, refl, sym, ap, _∙_}
 use mathlib.Core.Bool.{true, false, cond, false≢true}
 use mathlib.Core.List.{List, [], _∷_, _++_, append-assoc}
-use Prim.Native.Nat.{ℕ, zero, suc, _+_, _≤_, _<_, min}
+use Prim.Native.Nat.{ℕ, zero, suc, _+_, _^_, _≤_, _<_, min}
 use native.Mathlib.Nat.{zero-add}
 use native.Mathlib.Numerals.{add-one}
 use native.Mathlib.Omega.{arith}
@@ -50,6 +50,11 @@ signed-parts p q = rw (← p, q) (simp append-assoc)
 -- ---- magnitudes
 pub wider : (r : ℤ) → SFits w16 r → SFits w32 r
 wider r f = record { sfits = omega (arith, f .sfits) }
+
+-- the size of a 16-bit number takes 16 bits
+pub size-small : (r : ℤ) → SFits w16 r → natAbs r < 2 ^ 16
+size-small (pos n) f = omega (arith, f .sfits)
+size-small (negsuc n) f = omega (arith, f .sfits)
 
 pub widest : (r : ℤ) → SFits w32 r → SFits w64 r
 widest r f = record { sfits = omega (arith, f .sfits) }

@@ -3,7 +3,7 @@
 // rest of the buffer is kept, and which place follows the text.
 ghost use mathlib.Core.Path.{_≡_};
 ghost use mathlib.Core.List.{_∷_, [], _++_};
-ghost use Prim.Native.Nat.{_+_, _<_, _≤_, min};
+ghost use Prim.Native.Nat.{_+_, _<_, _≤_};
 ghost use lib.ListN.{length};
 ghost use lib.IntN.{natAbs};
 ghost use Rattle.text.specs.Text.{space, digit, decimal, sign, signed, bits-field, least-magnitude, header, question-line, count-line, refused-line};
@@ -134,19 +134,14 @@ fn put_bits(soft: &[i16], out: &mut [u8], at: usize) -> usize
     at + i
 }
 
-fn smaller(a: u32, b: u32) -> u32
-    ensures { λ r. ⌜ r ≡ min a b ⌝ }
-{
-    if a <= b { a } else { b }
-}
-
-fn size_of(s: i16) -> u32
+// In 16 bits, so that several are compared at a time.
+fn size_of(s: i16) -> u16
     ensures { λ r. ⌜ r ≡ natAbs s ⌝ }
 {
-    magnitude(s as i32)
+    magnitude(s as i32) as u16
 }
 
-fn least_of(soft: &[i16]) -> u32
+fn least_of(soft: &[i16]) -> u16
     ensures { λ r. ⌜ r ≡ least-magnitude (now (soft .entry)) ⌝ }
 {
     if soft.len() == 0 {
@@ -155,7 +150,7 @@ fn least_of(soft: &[i16]) -> u32
     let mut least = size_of(soft[0]);
     let mut i = 1;
     while i < soft.len() {
-        least = smaller(least, size_of(soft[i]));
+        least = lanes::less_of(least, size_of(soft[i]));
         i += 1;
     }
     least
@@ -180,7 +175,7 @@ pub fn put_question(
     let d = put_mark(verdict, shortfall, out, c);
     let e = put_bits(soft, out, d);
     let f = put_byte(SPACE, out, e);
-    put_number(least_of(soft), FEED, out, f)
+    put_number(least_of(soft) as u32, FEED, out, f)
 }
 
 pub fn put_header(out: &mut [u8], at: usize) -> usize

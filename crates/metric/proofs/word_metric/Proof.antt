@@ -1,20 +1,15 @@
 -- `metric::word_metric` meets its contract.
 -- Assumes nothing.
-use mathlib.Core.Path.{_≡_, refl, _∙_}
-use mathlib.Core.Bool.{true}
+use mathlib.Core.Path.{_≡_, _∙_}
 use mathlib.Core.List.{List}
 use Prim.Native.Nat.{ℕ}
 use lib.IntN.{ℤ}
 use mir.Facts.{toZ-ofZ}
-use Rattle.field.specs.Field.{width-good}
-use Rattle.field.proofs.Tests.{widths}
+use Rattle.field.proofs.Tests.{not-three}
 use Rattle.metric.specs.Metric.{metric}
 use Rattle.metric.specs.Within.{Word-with}
 use Rattle.metric.proofs.word_metric.Statement.{statement}
 use Rattle.metric.proofs.word_metric.Tie as tie
-
-not-three : (m : ℕ) → width-good m ≡ true → (m ≡ 3 → ⊥) → m ≡ 4
-not-three = widths (λ m. (m ≡ 3 → ⊥) → m ≡ 4) (λ f. absurd (f refl)) (λ f. refl)
 
 with-width : {m k : ℕ} {rs : List ℤ} {n : ℕ} → m ≡ k → Word-with m rs n → Word-with k rs n
 with-width e w = rw (← e) w

@@ -34,5 +34,5 @@ least-of-spec =
     (λ c. search needs)
     (λ c. search needs)
     (λ c. let s = c .before .before .before .before in
-    (omega arith, rw (c .smaller .ensures) (least-next _ (s .loop .i) (s .loop .least) _ (c .before .before .before .loop-test .taken) (record { sfits = c .before .before .size-of-arg2 .given }) (c .before .size-of2 .ensures) ∙ s .loop .inv .1)))
+    (omega arith, rw (c .less-of .ensures) (least-next _ (s .loop .i) (s .loop .least) _ (c .before .before .before .loop-test .taken) (record { sfits = c .before .before .size-of-arg2 .given }) (c .before .size-of2 .ensures) ∙ s .loop .inv .1)))
     (λ c. sym (least-end _ _ _ (c .loop-test .left)) ∙ c .before .loop .inv .1))

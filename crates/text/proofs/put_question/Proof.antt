@@ -32,6 +32,7 @@ put-question-spec =
     (λ c κs. omega (arith, simp length-append at (ap length (by-parts (c .before .before .before .before .before .before .before .before .before .before .before .before .before .before .before .before .before .before) refl))))
     (λ c κs. omega (arith, simp length-append at (ap length (by-parts (c .before .before .before .before .before .before .before .before .before .before .before .before .before .before .before .before .before .before .before .before .before .before) refl))))
     (λ c κs. search needs)
+    (λ c. search needs)
     (λ c κs. let e = ended-length (decimal (c .before .least-of .result)) in
     simp e (omega (arith, simp (length-append, e) at (ap length (by-parts (c .before .before .before .before .before .before .before .before .before .before .before .before .before .before .before .before .before .before .before .before .before .before .before .before .before .before .before) (c .before .least-of .ensures))), c .before .before .before .before .before .before .before .before .before .before .before .before .before .before .before .before .before .before .before .before .before .before .before .before .put-number, c .before .before .before .before .before .before .before .before .before .before .before .before .before .before .before .before .before .before .before .before .before .before .before .before .before .before .before)))
     (λ c. search needs)

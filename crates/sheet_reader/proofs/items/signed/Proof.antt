@@ -1,8 +1,7 @@
 -- `sheet_reader::signed` meets its contract.
 -- Assumes nothing.
-use native.Mathlib.Omega.{arith}
 use borrow.Author.Needs.{needs}
-use Rattle.sheet_reader.proofs.Twos.{off-small, signed-fits, narrow-is}
+use Rattle.sheet_reader.proofs.Twos.{wrapped-small, wrapped-fits, wrapped-is}
 use Rattle.sheet_reader.proofs.items.signed.Statement.{statement}
 use Rattle.sheet_reader.proofs.items.signed.Tie as tie
 
@@ -13,8 +12,7 @@ signed-spec =
     (λ c. search needs)
     (λ c. search needs)
     (λ c. search needs)
-    (λ c. record { fits = omega (arith, off-small (c .args .base) (c .args .d) (c .pre .1) (c .pre .0), c .pre .1) })
+    (λ c. record { sfits = wrapped-small (c .args .base) (c .args .d) (c .pre .1) (c .pre .0) })
     (λ c. search needs)
-    (λ c. record { sfits = omega (arith, off-small (c .args .base) (c .args .d) (c .pre .1) (c .pre .0), c .pre .1) })
-    (λ c. signed-fits (c .args .base) (c .args .d) (c .pre .1) (c .pre .0))
-    (λ c. narrow-is (c .args .base) (c .args .d) (c .pre .1) (c .pre .0)))
+    (λ c. wrapped-fits (c .args .base) (c .args .d) (c .pre .1) (c .pre .0))
+    (λ c. wrapped-is (c .args .base) (c .args .d) (c .pre .1) (c .pre .0)))
