@@ -1,12 +1,7 @@
 -- What is known of a call's input where nothing is refused, and what a call says by its refusal.
 -- Assumes nothing.
-use mathlib.Core.Path.{_≡_, refl, sym, ap}
-use mathlib.Core.Bool.{Bool, true, false, _&&_, cond}
-use mathlib.Core.List.{List}
-use Prim.Native.Nat.{ℕ, zero, suc, _+_, _≤_, _<_}
-use native.Mathlib.Omega.{arith}
-use lib.Dec.{eqb, leb, lit<, lit≤}
-use lib.ListN.{length}
+use Rattle.basics.proofs.Kit.{_≡_, refl, sym, ap, Bool, true, false, _&&_, cond, List, ℕ, zero, suc, _+_, _≤_, _<_, arith, length, eqb, leb}
+use lib.Dec.{lit<, lit≤}
 use borrow.Author.Tests.{eqb-true, eq-eqb}
 use Rattle.field.specs.Field.{width-good}
 use Rattle.field.proofs.Tests.{widths}

@@ -1,13 +1,9 @@
 -- At every bit some codewords have 0 and some have 1: the word of zeros, and the word whose bits are all 1.
 -- Each is tested once, at all of the roots that a code may have; fewer roots ask less.
 -- Assumes nothing.
-use mathlib.Core.Path.{_≡_, refl, ap, _∙_}
-use mathlib.Core.Bool.{Bool, true, _&&_}
-use mathlib.Core.List.{List}
-use Prim.Native.Nat.{ℕ, zero, suc, _+_, _-_, _^_, _≤_, _<_}
-use native.Mathlib.Omega.{arith}
-use lib.Dec.{T, eqb, eqb→eq}
-use lib.ListN.{replicate, length-replicate, getD, getD-replicate}
+use Rattle.basics.proofs.Kit.{_≡_, refl, ap, _∙_, Bool, true, _&&_, List, ℕ, zero, suc, _+_, _-_, _^_, _≤_, _<_, arith, getD, eqb}
+use lib.Dec.{T, eqb→eq}
+use lib.ListN.{replicate, length-replicate, getD-replicate}
 use Rattle.field.specs.Field.{width-good, xor, times, times-from, doubled, alpha}
 use Rattle.code.specs.Code.{long, value-at, symbols-good, is-codeword}
 use Rattle.code.specs.Bits.{bits-of, all-bits, bit-at, row-long}

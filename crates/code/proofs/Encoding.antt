@@ -1,14 +1,9 @@
 -- Each message has one codeword: a word that vanishes at a root x is X + x by what synthetic division leaves.
 -- Assumes nothing.
-use mathlib.Core.Path.{_≡_, refl, sym, ap, ap₂, _∙_}
-use mathlib.Core.Bool.{true}
-use mathlib.Core.List.{List, [], _∷_}
+use Rattle.basics.proofs.Kit.{_≡_, refl, sym, ap, ap₂, _∙_, true, List, [], _∷_, ℕ, zero, suc, _+_, _-_, _^_, _≤_, _<_, arith, length, drop}
 use mathlib.Core.Logic.{_⊎_, inl, inr}
-use Prim.Native.Nat.{ℕ, zero, suc, _+_, _-_, _^_, _<_, _≤_}
 use native.Mathlib.Nat.{not-suc-le-zero, le-of-suc-le-suc, eq-or-lt-of-le, zero-add, suc-add, add-zero, add-suc}
-use native.Mathlib.Omega.{arith}
 use lib.Pow.{pow-pos}
-use lib.ListN.{length, drop}
 use Rattle.field.specs.Field.{xor, times, alpha, width-good}
 use Rattle.code.specs.Code.{long, message-long, symbols-good, is-codeword, message}
 use Rattle.code.specs.Division.{tails, product, spread, divided, multiplied}

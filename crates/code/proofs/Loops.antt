@@ -1,14 +1,11 @@
 -- One turn of each loop over a word, and what is left of it.
 -- Assumes nothing.
-use mathlib.Core.Path.{_≡_, refl, sym, ap, ap₂, _∙_}
-use mathlib.Core.Bool.{true, false}
-use mathlib.Core.List.{List, _++_, append-nil}
-use Prim.Native.Nat.{ℕ, suc, _+_, _-_, _*_, _^_, _<_, _≤_}
+use Rattle.basics.proofs.Kit.{_≡_, refl, sym, ap, ap₂, _∙_, true, false, List, _++_, ℕ, suc, _+_, _-_, _*_, _^_, _≤_, _<_, arith, length, getD, take, drop, set}
+use mathlib.Core.List.{append-nil}
 use native.Mathlib.Nat.{le-refl, suc-mul}
 use native.Mathlib.Numerals.{add-one}
-use native.Mathlib.Omega.{arith}
 use lib.Dec.{lit≤}
-use lib.ListN.{length, getD, set, take, drop, drop-of-length-le}
+use lib.ListN.{drop-of-length-le}
 use lib.Seq.{take-suc, take-all, drop-cons, drop-length, append-snoc, set-at, length-take-le}
 use borrow.Author.Tests.{lt-ltb, le-ltb, eq-eqb, ne-eqb}
 use Rattle.field.specs.Field.{xor, times, alpha, width-good}

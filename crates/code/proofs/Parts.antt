@@ -1,12 +1,10 @@
 -- A part of a list from a place to its end, lent and come back.
 -- Assumes nothing.
-use mathlib.Core.Path.{_≡_, sym, ap, _∙_}
-use mathlib.Core.List.{List, _∷_, _++_, append-nil}
-use Prim.Native.Nat.{ℕ, suc, _+_, _-_, _<_, _≤_}
+use Rattle.basics.proofs.Kit.{_≡_, sym, ap, _∙_, List, _∷_, _++_, ℕ, suc, _+_, _-_, _≤_, _<_, arith, length, take, drop, set}
+use mathlib.Core.List.{append-nil}
 use native.Mathlib.Nat.{le-refl}
 use native.Mathlib.Numerals.{add-one}
-use native.Mathlib.Omega.{arith}
-use lib.ListN.{length, take, drop, set, length-drop, drop-of-length-le}
+use lib.ListN.{length-drop, drop-of-length-le}
 use lib.Seq.{take-all, set-split, take-set-le, drop-at, length-take-le}
 
 module _ (l : List ℕ) (a : ℕ) where

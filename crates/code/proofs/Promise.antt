@@ -1,12 +1,9 @@
 -- The statements of specs/Promise.antt.
 -- Assumes nothing.
-use mathlib.Core.Path.{_≡_, refl, sym, ap, _∙_}
-use mathlib.Core.Bool.{true, cond}
-use Prim.Native.Nat.{ℕ, zero, suc, _-_, _^_, _≤_, _<_}
-use native.Mathlib.Omega.{arith}
+use Rattle.basics.proofs.Kit.{_≡_, refl, sym, ap, _∙_, true, cond, ℕ, zero, suc, _-_, _^_, _≤_, _<_, arith, length, drop, eqb, leb}
 use native.Mathlib.Nat.{not-suc-le-zero}
-use lib.Dec.{leb, eqb, leb→le, lit<, lit≤}
-use lib.ListN.{length, drop, length-drop}
+use lib.Dec.{leb→le, lit<, lit≤}
+use lib.ListN.{length-drop}
 use Rattle.field.specs.Field.{width-good}
 use Rattle.field.proofs.Tests.{and-l, and-r, to-T}
 use Rattle.code.specs.Code.{code-good, number-refusal, width, roots, long, message-long, symbols-good, is-codeword, message}

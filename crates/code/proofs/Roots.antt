@@ -1,13 +1,9 @@
 -- One turn of the loops over the roots: a division, and a multiplication from a place on.
 -- Assumes nothing.
-use mathlib.Core.Path.{_≡_, refl, sym, ap, ap₂, _∙_}
-use mathlib.Core.Bool.{true}
-use mathlib.Core.List.{List, _++_}
-use Prim.Native.Nat.{ℕ, zero, suc, _+_, _-_, _^_, _<_, _≤_}
+use Rattle.basics.proofs.Kit.{_≡_, refl, sym, ap, ap₂, _∙_, true, List, _++_, ℕ, zero, suc, _+_, _-_, _^_, _≤_, _<_, arith, length, take, drop}
 use native.Mathlib.Nat.{not-suc-le-zero}
 use native.Mathlib.Numerals.{add-one}
-use native.Mathlib.Omega.{arith}
-use lib.ListN.{length, take, drop, length-append}
+use lib.ListN.{length-append}
 use lib.Seq.{drop-at, length-take-le}
 use lib.Pow.{pow-pos}
 use Rattle.field.specs.Field.{width-good, alpha}

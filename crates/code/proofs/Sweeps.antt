@@ -1,13 +1,10 @@
 -- A sweep down a list in place: from the end to place i it is replaced by F of what stood there, with one number carried along.
 -- Division by X + x and multiplication by it are two such sweeps.
 -- Assumes nothing.
-use mathlib.Core.Path.{_≡_, refl, sym, ap, ap₂, _∙_}
-use mathlib.Core.Bool.{true}
-use mathlib.Core.List.{List, [], _∷_, _++_, append-nil}
-use Prim.Native.Nat.{ℕ, zero, suc, _+_, _-_, _^_, _<_, _≤_}
+use Rattle.basics.proofs.Kit.{_≡_, refl, sym, ap, ap₂, _∙_, true, List, [], _∷_, _++_, ℕ, zero, suc, _+_, _-_, _^_, _≤_, _<_, arith, length, getD, take, drop, set}
+use mathlib.Core.List.{append-nil}
 use native.Mathlib.Nat.{not-suc-le-zero, le-refl}
-use native.Mathlib.Omega.{arith}
-use lib.ListN.{length, getD, take, drop, set, length-set}
+use lib.ListN.{length-set}
 use lib.Seq.{take-suc, drop-cons, append-snoc, take-length, drop-length, length-take-le, getD-at, set-at}
 use lib.Pow.{pow-pos}
 use Rattle.field.specs.Field.{width-good, xor, times}

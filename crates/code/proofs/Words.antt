@@ -1,15 +1,10 @@
 -- Words as lists of symbols, and their values: Horner's form, with which the proofs work, is tied to the sum of c_i · α^(i·t).
 -- Assumes nothing.
-use mathlib.Core.Path.{_≡_, refl, sym, ap, ap₂, _∙_}
-use mathlib.Core.Bool.{Bool, true, _&&_}
-use mathlib.Core.List.{List, [], _∷_}
+use Rattle.basics.proofs.Kit.{_≡_, refl, sym, ap, ap₂, _∙_, Bool, true, _&&_, List, [], _∷_, ℕ, zero, suc, _+_, _*_, _^_, _≤_, _<_, arith, length, drop, eqb, ltb}
 use mathlib.Core.Logic.{_⊎_, inl, inr}
-use Prim.Native.Nat.{ℕ, zero, suc, _+_, _*_, _^_, _<_, _≤_}
 use native.Mathlib.Nat.{lt-of-lt-of-le, eq-or-lt-of-le, suc-mul, zero-mul}
-use native.Mathlib.Omega.{arith}
-use lib.Dec.{T, eqb, ltb, ltb→lt, lt→ltb, eqb→eq, eqb-refl}
+use lib.Dec.{T, ltb→lt, lt→ltb, eqb→eq, eqb-refl}
 use lib.Pow.{pow-pos}
-use lib.ListN.{length, drop}
 use Rattle.field.specs.Field.{xor, times, alpha, width-good}
 use Rattle.code.specs.Code.{long, symbols-good, value-from, value-at, vanishes, is-codeword}
 unfoldable pub use Rattle.code.specs.Division.{horner}

@@ -1,13 +1,8 @@
 -- A configuration in the list of all: number k has the four places from 4 k on.
 -- Assumes nothing.
-use mathlib.Core.Path.{_≡_, refl, sym, ap, _∙_}
-use mathlib.Core.Bool.{Bool, true, false, cond}
-use mathlib.Core.List.{List, [], _∷_, _++_}
-use Prim.Native.Nat.{ℕ, zero, suc, _+_, _*_, _<_}
+use Rattle.basics.proofs.Kit.{_≡_, refl, sym, ap, _∙_, Bool, true, false, cond, List, _++_, ℕ, zero, suc, _+_, _*_, _<_, arith, length, getD, drop, eqb}
 use native.Mathlib.Nat.{zero-add, add-zero, not-suc-le-zero, le-of-suc-le-suc}
-use native.Mathlib.Omega.{arith}
-use lib.Dec.{eqb, lit<}
-use lib.ListN.{length, getD, drop, length-append}
+use lib.ListN.{length-append}
 use lib.Seq.{take-at, drop-at, drop-drop, getD-take, getD-drop}
 use Rattle.configurations.specs.Promise.{Listed-right}
 use Rattle.configurations.specs.Configurations.{configuration, configurations, of-code-1, of-code-2, of-code-3, listed-from, listed, tuple}

@@ -1,14 +1,9 @@
 -- Code 3's table. One test is computed over its 256 tuples, and validity, completeness and ascending order are read off it.
 -- Assumes nothing.
-use mathlib.Core.Path.{_≡_, refl, sym, ap, ap₂, _∙_}
-use mathlib.Core.Bool.{Bool, true, _&&_, _||_, not}
-use mathlib.Core.List.{List, [], _∷_}
-use Prim.Native.Nat.{ℕ, zero, suc, _+_, _*_, _/_, _%_, _^_, _<_, _≤_}
+use Rattle.basics.proofs.Kit.{_≡_, refl, sym, ap, ap₂, _∙_, Bool, true, _&&_, _||_, not, List, [], _∷_, ℕ, zero, suc, _+_, _*_, _/_, _%_, _^_, _≤_, _<_, arith, length, take, drop, eqb}
 use native.Mathlib.Nat.{mod-lt, mod-eq-of-lt, add-zero, zero-add}
-use native.Mathlib.Omega.{arith}
-use lib.Dec.{T, eqb, eqb→eq, lit≤}
+use lib.Dec.{T, eqb→eq, lit≤}
 use lib.Pow.{pow-pos}
-use lib.ListN.{length, take, drop}
 use lib.Seq.{drop-drop}
 use Rattle.field.specs.Field.{width-good, xor, times, times-from, doubled, alpha, square}
 use Rattle.split.specs.Split.{numbered, cosets, layer-value, glued, valid, valid-at, all-below, padded, sum}

@@ -1,14 +1,10 @@
 -- A tuple is a configuration by a test, and the sums of a valid one at the roots are zero.
 -- Assumes nothing.
-use mathlib.Core.Path.{_≡_, sym, subst}
-use mathlib.Core.Bool.{Bool, true, false, _&&_, _||_, not}
-use mathlib.Core.List.{List}
+use Rattle.basics.proofs.Kit.{_≡_, sym, Bool, true, false, _&&_, _||_, not, List, ℕ, zero, suc, _+_, _≤_, _<_, arith, length, eqb}
+use mathlib.Core.Path.{subst}
 use mathlib.Core.Logic.{_⊎_, inl, inr}
-use Prim.Native.Nat.{ℕ, zero, suc, _+_, _<_, _≤_}
 use native.Mathlib.Nat.{eq-or-lt-of-le}
-use native.Mathlib.Omega.{arith}
-use lib.Dec.{T, eqb, eqb→eq}
-use lib.ListN.{length}
+use lib.Dec.{T, eqb→eq}
 use Rattle.split.specs.Split.{cosets, glued, valid, valid-at, all-below}
 use Rattle.configurations.specs.Configurations.{Configuration}
 use Rattle.field.proofs.Tests.{and-l, and-r, to-T, from-T}

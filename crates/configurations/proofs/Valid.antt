@@ -1,15 +1,11 @@
 -- The configurations of each code are the valid ones, all of them, ascending. Codes 1 and 2 by tests at the field's elements, and the
 -- places that are free come first; code 3 by its table.
 -- Assumes nothing.
-use mathlib.Core.Path.{_≡_, refl, sym, ap, ap₂, _∙_, subst}
-use mathlib.Core.Bool.{Bool, true, _&&_, _||_, not}
-use mathlib.Core.List.{List, [], _∷_}
-use Prim.Native.Nat.{ℕ, zero, suc, _+_, _*_, _/_, _%_, _<_, _≤_}
+use Rattle.basics.proofs.Kit.{_≡_, refl, sym, ap, ap₂, _∙_, Bool, true, _&&_, _||_, not, List, [], _∷_, ℕ, zero, suc, _+_, _*_, _/_, _%_, _≤_, _<_, arith, length, eqb}
+use mathlib.Core.Path.{subst}
 use mathlib.Core.Logic.{_⊎_, inl, inr}
 use native.Mathlib.Nat.{eq-or-lt-of-le}
-use native.Mathlib.Omega.{arith}
-use lib.Dec.{T, eqb, eqb→eq, lit≤}
-use lib.ListN.{length}
+use lib.Dec.{T, eqb→eq, lit≤}
 use borrow.Author.Tests.{eq-eqb}
 use Rattle.field.specs.Field.{width-good, xor, times, times-from, doubled, alpha, square}
 use Rattle.code.specs.Code.{code-good, width, roots, long, is-codeword}

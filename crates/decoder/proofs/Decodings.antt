@@ -1,12 +1,8 @@
 -- A decoding is right: from the least costs that the search found to metrics.
 -- Assumes nothing.
-use mathlib.Core.Path.{_≡_, sym, ap, _∙_, subst}
-use mathlib.Core.List.{List}
-use Prim.Native.Nat.{ℕ, _+_, _*_, _/_, _%_, _≤_, _<_}
+use Rattle.basics.proofs.Kit.{_≡_, sym, ap, _∙_, List, ℕ, _+_, _*_, _/_, _%_, _≤_, _<_, arith, length, getD, ℤ, pos, _-ℤ_}
+use mathlib.Core.Path.{subst}
 use native.Mathlib.Nat.{div-add-mod', mod-lt, div-lt-iff-lt-mul}
-use native.Mathlib.Omega.{arith}
-use lib.ListN.{length, getD}
-use lib.IntN.{ℤ, pos, _-ℤ_}
 use Rattle.field.proofs.Tests.{widths}
 use Rattle.code.specs.declared.Shape.{Shape}
 use Rattle.code.specs.Code.{is-codeword}

@@ -1,14 +1,7 @@
 -- From the least total to a best word and to the soft outputs: what the trace and the soft pass ask, and that they give the least costs of codewords.
 -- Assumes nothing.
-use mathlib.Core.Path.{_≡_, sym, ap, ap₂, _∙_}
-use mathlib.Core.Bool.{true, cond}
-use mathlib.Core.List.{List}
-use Prim.Native.Nat.{ℕ, _+_, _-_, _*_, _/_, _%_, _≤_, _<_}
+use Rattle.basics.proofs.Kit.{_≡_, sym, ap, ap₂, _∙_, true, cond, List, ℕ, _+_, _-_, _*_, _/_, _%_, _≤_, _<_, arith, length, getD, eqb, ℤ}
 use native.Mathlib.Nat.{zero-mul, one-mul, zero-add, mul-le-mul-right}
-use native.Mathlib.Omega.{arith}
-use lib.Dec.{eqb}
-use lib.ListN.{length, getD}
-use lib.IntN.{ℤ}
 use Rattle.code.specs.declared.Shape.{Shape}
 use Rattle.code.specs.Code.{code-good, width, roots, long, is-codeword}
 use Rattle.code.specs.Bits.{row-long}

@@ -1,12 +1,8 @@
 -- What an accepted call of the decoder has passed.
 -- Assumes nothing.
-use mathlib.Core.Path.{_≡_, sym, ap, _∙_}
-use mathlib.Core.List.{List}
-use Prim.Native.Nat.{ℕ, _*_, _≤_, _<_}
-use native.Mathlib.Omega.{arith}
+use Rattle.basics.proofs.Kit.{_≡_, sym, ap, _∙_, List, ℕ, _*_, _≤_, _<_, arith, getD, take, ℤ}
 use borrow.Author.Tests.{eqb-true}
-use lib.IntN.{ℤ}
-use lib.ListN.{getD, take, replicate, getD-replicate}
+use lib.ListN.{replicate, getD-replicate}
 use lib.Seq.{getD-take}
 use Rattle.refusal.proofs.Tests.{passed}
 use Rattle.code.specs.declared.Shape.{Shape}

@@ -1,16 +1,11 @@
 -- Soft outputs as the program writes them: differences of costs in 16 signed bits, position by position.
 -- Assumes nothing.
-use mathlib.Core.Path.{_≡_, refl, ap₂, _∙_}
-use mathlib.Core.Bool.{true}
-use mathlib.Core.List.{List}
-use Prim.Native.Nat.{ℕ, zero, suc, _+_, _*_, _^_, _≤_, _<_}
+use Rattle.basics.proofs.Kit.{_≡_, refl, ap₂, _∙_, true, List, ℕ, zero, suc, _+_, _*_, _^_, _≤_, _<_, arith, length, getD, set, ℤ, pos, negsuc, _-ℤ_}
 use native.Mathlib.Nat.{suc-mul, mul-le-mul-right}
-use native.Mathlib.Omega.{arith}
 use native.Mathlib.Decide.{decLe}
 use native.Mathlib.Numerals.{add-one}
-use lib.ListN.{length, getD, set, length-set}
+use lib.ListN.{length-set}
 use lib.Seq.{getD-set-same, getD-set-other}
-use lib.IntN.{ℤ, pos, negsuc, _-ℤ_}
 use lib.Signed.{mag}
 use mir.Syntax.{w16, w32}
 use mir.Val.{SFits, toZ, ofZ}

@@ -1,11 +1,9 @@
 -- The field, by tests that antt computes at all of its elements, at both widths.
 -- Assumes nothing.
-use mathlib.Core.Path.{_≡_, refl, sym, ap, ap₂, _∙_, subst, subst⁻¹}
-use mathlib.Core.Bool.{Bool, true, false, cond, _||_, not}
-use Prim.Native.Nat.{ℕ, zero, suc, _+_, _-_, _/_, _%_, _^_, _<_, _≤_}
+use Rattle.basics.proofs.Kit.{_≡_, refl, sym, ap, ap₂, _∙_, Bool, true, false, _||_, not, cond, ℕ, zero, suc, _+_, _-_, _/_, _%_, _^_, _≤_, _<_, arith, eqb, leb}
+use mathlib.Core.Path.{subst, subst⁻¹}
 use native.Mathlib.Nat.{mod-lt, zero-add, suc-add}
-use native.Mathlib.Omega.{arith}
-use lib.Dec.{T, eqb, leb, lit<, eqb→eq}
+use lib.Dec.{T, lit<, eqb→eq}
 use lib.Arith.{lt→nleb}
 use lib.Pow.{pow-pos}
 use Rattle.field.specs.Field.{xor, times, times-from, doubled, alpha, inverse, inverse-from, width-good, square}

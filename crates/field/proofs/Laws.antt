@@ -1,9 +1,8 @@
 -- The statements of specs/Laws.antt, from the tests of Field.antt.
 -- Assumes nothing.
-use mathlib.Core.Path.{_≡_, refl, sym, ap, _∙_, subst}
-use mathlib.Core.Bool.{Bool, true, false, cond, not, _||_}
-use Prim.Native.Nat.{ℕ, _-_, _^_, _<_}
-use lib.Dec.{T, eqb, leb}
+use Rattle.basics.proofs.Kit.{_≡_, refl, sym, ap, _∙_, Bool, true, false, _||_, not, cond, ℕ, _-_, _^_, _<_, eqb, leb}
+use mathlib.Core.Path.{subst}
+use lib.Dec.{T}
 use lib.Arith.{lt→nleb}
 use Rattle.field.specs.Field.{width-good, xor, doubled, alpha}
 use Rattle.field.specs.Laws.{Fields, Powers}

@@ -1,8 +1,6 @@
 -- What a refusal says of the answer, and that nothing is refused of the elements.
 -- Assumes nothing.
-use mathlib.Core.Path.{_≡_, ap}
-use Prim.Native.Nat.{ℕ, zero, suc}
-use native.Mathlib.Omega.{arith}
+use Rattle.basics.proofs.Kit.{_≡_, ap, ℕ, zero, suc, arith}
 use borrow.Author.Tests.{ltb-true}
 use Rattle.refusal.proofs.Tests.{passed}
 use Rattle.field.specs.declared.Element.{Element}

@@ -1,13 +1,8 @@
 -- The rule of a table is one test that antt computes over the whole of it; and the laws by which the tables serve.
 -- Assumes nothing.
-use mathlib.Core.Path.{_≡_, refl, sym, ap, _∙_}
-use mathlib.Core.Bool.{Bool, true, _&&_}
-use mathlib.Core.List.{List, [], _∷_}
-use Prim.Native.Nat.{ℕ, zero, suc, _+_, _-_, _*_, _/_, _%_, _^_, _≤_, _<_}
+use Rattle.basics.proofs.Kit.{_≡_, refl, sym, ap, _∙_, Bool, true, _&&_, List, [], _∷_, ℕ, zero, suc, _+_, _-_, _*_, _/_, _%_, _^_, _≤_, _<_, arith, length, getD, eqb, ltb}
 use native.Mathlib.Nat.{zero-add, suc-mul, zero-mul, div-add-mod', mod-lt, not-suc-le-zero}
-use native.Mathlib.Omega.{arith}
-use lib.Dec.{T, eqb, ltb, eqb→eq, ltb→lt, lit≤}
-use lib.ListN.{length, getD}
+use lib.Dec.{T, eqb→eq, ltb→lt, lit≤}
 use Rattle.field.specs.Field.{width-good, xor, times, times-from, doubled, alpha, inverse, inverse-from}
 use Rattle.field.specs.Within.{Log, Tables}
 use Rattle.field.proofs.Tests.{all, at, and-l, and-r, widths}

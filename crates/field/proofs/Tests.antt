@@ -1,12 +1,10 @@
 -- A rule at every number below a bound, by one test that antt computes; and at both widths.
 -- Assumes nothing.
-use mathlib.Core.Path.{_≡_, refl, sym, subst}
+use Rattle.basics.proofs.Kit.{_≡_, refl, sym, Bool, true, false, _&&_, ℕ, zero, suc, _^_, _≤_, _<_, arith, eqb, leb}
+use mathlib.Core.Path.{subst}
 use mathlib.Core.Logic.{_⊎_, inl, inr}
-use mathlib.Core.Bool.{Bool, true, false, _&&_}
-use Prim.Native.Nat.{ℕ, zero, suc, _^_, _≤_, _<_}
 use native.Mathlib.Nat.{le-of-suc-le-suc, not-suc-le-zero, eq-or-lt-of-le}
-use native.Mathlib.Omega.{arith}
-use lib.Dec.{T, leb, eqb, leb→le, eqb→eq}
+use lib.Dec.{T, leb→le, eqb→eq}
 use Rattle.field.specs.Field.{width-good}
 
 pub and-l : (a b : Bool) → T (a && b) → T a

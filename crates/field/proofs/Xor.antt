@@ -1,11 +1,8 @@
 -- The laws of xor.
 -- Assumes nothing.
-use mathlib.Core.Path.{_≡_, refl, sym, ap, ap₂, _∙_}
-use mathlib.Core.Bool.{cond}
-use Prim.Native.Nat.{ℕ, zero, suc, _+_, _*_, _/_, _%_, _^_, _<_}
+use Rattle.basics.proofs.Kit.{_≡_, refl, sym, ap, ap₂, _∙_, cond, ℕ, zero, suc, _+_, _*_, _/_, _%_, _^_, _<_, arith, eqb}
 use native.Mathlib.Nat.{mod-lt, zero-lt-suc}
-use native.Mathlib.Omega.{arith}
-use lib.Dec.{eqb, eqb→eq}
+use lib.Dec.{eqb→eq}
 use lib.Arith.{bin-ind}
 use lib.Bits as B
 use lib.Bits.{bitXor, differ, xor-step, xor-shr, xor-mod}

@@ -1,13 +1,8 @@
 -- From the walk to the least with one layer's table replaced: the least total over the tuples, and where a layer's other table meets what the
 -- other layers cost, both are sums over one tuple.
 -- Assumes nothing.
-use mathlib.Core.Path.{_≡_, refl, sym, ap, ap₂, _∙_}
-use mathlib.Core.Bool.{Bool, true, false, cond}
-use Prim.Native.Nat.{ℕ, zero, suc, _+_, _-_, _*_, _≤_, _<_, min}
-use native.Mathlib.Omega.{arith}
-use native.Mathlib.Decide.{decLe}
-use borrow.Author.Tests.{eq-eqb, eqb-true, eqb-false}
-use lib.Dec.{eqb}
+use Rattle.basics.proofs.Kit.{_≡_, refl, sym, ap, _∙_, Bool, true, false, cond, ℕ, _+_, _-_, _≤_, _<_, arith, eqb}
+use borrow.Author.Tests.{eq-eqb, eqb-true}
 use Rattle.trellis.specs.Trellis.{leastOf, meet}
 use Rattle.trellis.proofs.Least.{least-cap, least-le, least-found, le-least}
 use Rattle.lanes.proofs.Rows.{four}

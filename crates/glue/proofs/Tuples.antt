@@ -1,18 +1,12 @@
 -- One tuple: its total, and the entries that it lowers.
 -- Assumes nothing.
-use mathlib.Core.Path.{_≡_, refl, sym, ap, ap₂, _∙_}
-use mathlib.Core.Bool.{Bool, true, false, cond}
-use mathlib.Core.List.{List, [], _∷_}
-use Prim.Native.Nat.{ℕ, zero, suc, _+_, _-_, _*_, _≤_, _<_, min}
-use native.Mathlib.Omega.{arith}
-use native.Mathlib.Decide.{decLe}
-use borrow.Author.Tests.{eq-eqb, ne-eqb, eqb-true, eqb-false}
-use lib.Dec.{eqb}
-use lib.ListN.{length, getD, set, length-set}
+use Rattle.basics.proofs.Kit.{_≡_, refl, sym, ap, _∙_, Bool, true, false, cond, List, ℕ, _+_, _-_, _*_, _≤_, _<_, min, arith, length, getD, set, eqb}
+use borrow.Author.Tests.{eqb-true, eqb-false}
+use lib.ListN.{length-set}
 use lib.Seq.{getD-set-same, getD-set-other, set-getD}
 use Rattle.lanes.specs.Lanes.{entry, lane}
 use Rattle.lanes.proofs.Rows.{four}
-use Rattle.glue.specs.Walk.{sum4, total, lower-at, lowered, Within}
+use Rattle.glue.specs.Walk.{lower-at, lowered}
 
 -- lowering to what is no less changes nothing
 pub kept : (g : List ℕ) (i x : ℕ) → getD g i 0 ≤ x → g ≡ lower-at g i x

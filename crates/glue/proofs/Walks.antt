@@ -1,18 +1,13 @@
 -- All the tuples, one by one: what a turn of the walk asks and leaves.
 -- Assumes nothing.
-use mathlib.Core.Path.{_≡_, refl, sym, ap, ap₂, _∙_}
-use mathlib.Core.Bool.{Bool, true, false, cond}
-use mathlib.Core.List.{List, [], _∷_}
-use Prim.Native.Nat.{ℕ, zero, suc, _+_, _-_, _*_, _≤_, _<_, min}
-use native.Mathlib.Omega.{arith}
+use Rattle.basics.proofs.Kit.{_≡_, refl, sym, ap, _∙_, Bool, true, false, cond, List, ℕ, suc, _+_, _-_, _*_, _≤_, _<_, min, arith, length, getD, set, eqb, ltb}
 use native.Mathlib.Numerals.{add-one}
 use borrow.Author.Tests.{ltb-true, ltb-false}
-use lib.Dec.{eqb, ltb}
 use native.Mathlib.Decide.{decLe}
-use lib.ListN.{length, getD, set, length-set}
+use lib.ListN.{length-set}
 use lib.Seq.{getD-set-same, getD-set-other}
 use Rattle.trellis.specs.Trellis.{leastOf}
-use Rattle.lanes.specs.Lanes.{entry, lane, lanes}
+use Rattle.lanes.specs.Lanes.{entry, lane}
 use Rattle.trellis.proofs.Least.{least-cap}
 use Rattle.lanes.proofs.Rows.{lanes-at}
 use Rattle.glue.specs.Walk.{conf, tuple, total, least-total, least-with, lowered, Within, Tuples, Walked, Marginals}

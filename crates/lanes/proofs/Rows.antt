@@ -1,13 +1,11 @@
 -- Rows of four, one or two side by side: their lanes, and what stands in a list of rows after some are written anew.
 -- Assumes nothing.
-use mathlib.Core.Path.{_≡_, refl, _∙_, subst}
-use mathlib.Core.List.{List}
-use Prim.Native.Nat.{ℕ, zero, suc, _+_, _-_, _*_, _≤_, _<_, min}
-use native.Mathlib.Omega.{arith}
+use Rattle.basics.proofs.Kit.{_≡_, refl, _∙_, List, ℕ, zero, suc, _+_, _-_, _*_, _≤_, _<_, min, arith, length, getD, set}
+use mathlib.Core.Path.{subst}
 use native.Mathlib.Decide.{decLe}
-use lib.ListN.{length, getD, set, length-set}
+use lib.ListN.{length-set}
 use lib.Seq.{getD-set-same, getD-set-other}
-use Rattle.lanes.specs.Lanes.{entry, lane, lanes, row, beside, rows, two, twofold, eight, sum, less, put, put-two, Small, Sums}
+use Rattle.lanes.specs.Lanes.{entry, lane, lanes, row, beside, rows, twofold, eight, sum, less, put, put-two, Small, Sums}
 
 -- a rule at each lane
 pub four {ℓ} : (P : ℕ → Type ℓ) → P 0 → P 1 → P 2 → P 3 → (j : ℕ) → j < 4 → P j

@@ -1,10 +1,9 @@
-// A reader that stands over a lent sheet: a struct with the slice and a position, which is the number of questions that it has passed. `new` stands
-// before the first one, `next` yields one question into lent outputs and says where the reader stands then, and `moved` is the reader there.
-// They are thin over `yield_at`, which has plain parameters, and so has `read_from`: whoever calls these meets no such struct. All of them
-// take any input, a position that nobody gave out among it, and promise what specs/Calls.antt says: each yield checks the whole sheet.
+// A reader that stands over a lent sheet: a struct with the slice and a position, which is the number of questions that it has passed, 0 before the
+// first one. `next` yields one question into lent outputs and says at which position the reader stands then. It is thin over `yield_at`, which
+// has plain parameters, and so has `read_from`: whoever calls these meets no such struct. All of them take any input, a position that nobody
+// gave out among it, and promise what specs/Calls.antt says: each yield checks the whole sheet.
 use sheet_reader::Step;
 use sheet_reader::Yield;
-ghost use mathlib.Core.Path.{_≡_};
 ghost use Rattle.lent_reader.specs.Calls.{Yield-says};
 
 pub struct Reader<'a> {
@@ -28,25 +27,11 @@ pub fn yield_at(sheet: &[u8], at: usize, row: &mut [i16], word: &mut [u8]) -> St
     Step { answer, next }
 }
 
-// A reader before the first question.
-pub fn new<'a>(sheet: &'a [u8]) -> Reader<'a>
-    ensures { λ r. ⌜ (r .sheet ≡ sheet .entry) × (r .at ≡ 0) ⌝ }
-{
-    Reader { sheet, at: 0 }
-}
-
 // The question that the reader stands before, and where it stands then. None left and a refusal keep the place and the outputs.
 pub fn next<'a>(r: Reader<'a>, row: &mut [i16], word: &mut [u8]) -> Step
     ensures { λ s. ⌜ Yield-says (now (r .entry .sheet)) (r .entry .at) s (now (row .entry)) (now (row .exit)) (now (word .entry)) (now (word .exit)) ⌝ }
 {
     yield_at(r.sheet, r.at, row, word)
-}
-
-// The reader at another place of its sheet.
-pub fn moved<'a>(r: Reader<'a>, at: usize) -> Reader<'a>
-    ensures { λ q. ⌜ (q .sheet ≡ r .entry .sheet) × (q .at ≡ at) ⌝ }
-{
-    Reader { sheet: r.sheet, at }
 }
 
 // The same as `yield_at`, by a reader that is made at that place and asked.

@@ -1,13 +1,7 @@
 -- A mark is right: what a codeword costs more than the least is what it lacks.
 -- Assumes nothing.
-use mathlib.Core.Path.{_≡_, sym, ap, _∙_}
-use mathlib.Core.Bool.{true}
-use mathlib.Core.List.{List}
-use Prim.Native.Nat.{ℕ, _-_, _*_, _^_, _≤_, _<_}
-use native.Mathlib.Omega.{arith}
+use Rattle.basics.proofs.Kit.{_≡_, sym, ap, _∙_, true, List, ℕ, _-_, _*_, _^_, _≤_, _<_, arith, length, ℤ, pos, natAbs, _-ℤ_}
 use lib.Dec.{lit≤}
-use lib.ListN.{length}
-use lib.IntN.{ℤ, pos, natAbs, _-ℤ_}
 use mir.Syntax.{w32}
 use mir.Val.{SFits}
 use Rattle.field.proofs.Tests.{widths}

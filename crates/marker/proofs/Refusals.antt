@@ -1,12 +1,7 @@
 -- What an accepted call of the marker has passed.
 -- Assumes nothing.
-use mathlib.Core.Path.{_≡_}
-use mathlib.Core.Bool.{true}
-use mathlib.Core.List.{List}
-use Prim.Native.Nat.{ℕ}
+use Rattle.basics.proofs.Kit.{_≡_, true, List, ℕ, length, ℤ}
 use borrow.Author.Tests.{eqb-true}
-use lib.ListN.{length}
-use lib.IntN.{ℤ}
 use Rattle.refusal.proofs.Tests.{passed}
 use Rattle.code.specs.Code.{long, symbols-good}
 use Rattle.code.specs.Bits.{row-long}

@@ -1,15 +1,9 @@
 -- What a row of reliabilities can weigh, and a word cost; the size of a metric.
 -- Assumes nothing.
-use mathlib.Core.Path.{_≡_, refl}
-use mathlib.Core.Bool.{true, cond}
-use mathlib.Core.List.{List, [], _∷_}
-use Prim.Native.Nat.{ℕ, zero, suc, _+_, _*_, _≤_}
+use Rattle.basics.proofs.Kit.{_≡_, refl, true, cond, List, [], _∷_, ℕ, zero, suc, _+_, _*_, _≤_, arith, length, getD, eqb, ℤ, pos, negsuc, natAbs, _+ℤ_, _-ℤ_}
 use native.Mathlib.Nat.{suc-mul}
-use native.Mathlib.Omega.{arith}
 use borrow.Author.Tests.{leb-true, le-leb}
-use lib.Dec.{eqb, eqb·suc-zero}
-use lib.ListN.{length, getD}
-use lib.IntN.{ℤ, pos, negsuc, natAbs, _+ℤ_, _-ℤ_}
+use lib.Dec.{eqb·suc-zero}
 use Rattle.field.proofs.Tests.{and-l, and-r, to-T, from-T}
 use Rattle.code.specs.Bits.{all-bits}
 use Rattle.metric.specs.Row.{row-bound, reliability-good, row-good}

@@ -1,15 +1,10 @@
 -- THE GREATER METRIC IS THE LESSER COST: the metric of a word with a bit for each entry is the row's weight less twice its cost,
 -- so greatest metrics, soft outputs and decodings come from least costs.
 -- Assumes nothing.
-use mathlib.Core.Path.{_≡_, refl, sym, ap, _∙_}
-use mathlib.Core.Bool.{Bool, true}
-use mathlib.Core.List.{List, [], _∷_}
-use Prim.Native.Nat.{ℕ, zero, suc, _+_, _*_, _≤_, _<_}
+use Rattle.basics.proofs.Kit.{_≡_, refl, sym, ap, _∙_, Bool, true, List, [], _∷_, ℕ, zero, suc, _+_, _*_, _≤_, _<_, arith, length, getD, ℤ, pos, _-ℤ_}
 use native.Mathlib.Nat.{suc-inj}
-use native.Mathlib.Omega.{arith}
 use lib.Dec.{eqb·suc-zero}
-use lib.ListN.{length, getD, length-append}
-use lib.IntN.{ℤ, pos, _-ℤ_}
+use lib.ListN.{length-append}
 use Rattle.code.specs.Code.{is-codeword}
 use Rattle.code.specs.Bits.{bits-of, all-bits, row-long}
 use Rattle.code.proofs.Words.{codeword-parts}

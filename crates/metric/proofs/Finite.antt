@@ -1,16 +1,10 @@
 -- THERE IS A LEAST COST: the words of n symbols are finitely many, so a search for a lesser one ends.
 -- Assumes nothing.
-use mathlib.Core.Path.{_≡_, refl}
+use Rattle.basics.proofs.Kit.{_≡_, refl, Bool, true, false, _&&_, List, [], _∷_, ℕ, zero, suc, _^_, _≤_, _<_, arith, length, eqb, ltb, ℤ}
 use mathlib.Core.Logic.{_⊎_, inl, inr}
-use mathlib.Core.Bool.{Bool, true, false, _&&_}
-use mathlib.Core.List.{List, [], _∷_}
-use Prim.Native.Nat.{ℕ, zero, suc, _^_, _≤_, _<_}
 use native.Mathlib.Nat.{suc-inj, le-of-suc-le-suc, not-suc-le-zero, eq-or-lt-of-le, le-refl}
-use native.Mathlib.Omega.{arith}
 use borrow.Author.Tests.{ltb-false, eq-eqb}
-use lib.Dec.{T, ltb, eqb, ltb→lt, eqb→eq}
-use lib.ListN.{length}
-use lib.IntN.{ℤ}
+use lib.Dec.{T, ltb→lt, eqb→eq}
 use Rattle.field.proofs.Tests.{and-l, and-r, to-T, from-T}
 use Rattle.code.specs.Bits.{bit-at}
 use Rattle.code.proofs.Words.{Below, below}

@@ -1,12 +1,9 @@
 -- An integer z is costOne z - costZero z: sums, differences, equality and order of integers become facts of natural numbers, which omega reads.
 -- Assumes nothing.
-use mathlib.Core.Path.{_≡_, refl, sym, ap}
-use mathlib.Core.Bool.{Bool, true, false, not, cond, false≢true}
-use Prim.Native.Nat.{ℕ, zero, suc, _+_, _-_, _≤_, _<_}
-use native.Mathlib.Omega.{arith}
+use Rattle.basics.proofs.Kit.{_≡_, refl, sym, ap, Bool, true, false, not, cond, ℕ, zero, suc, _+_, _-_, _≤_, _<_, arith, ltb, ℤ, pos, negsuc, natAbs, _+ℤ_, _-ℤ_}
+use mathlib.Core.Bool.{false≢true}
 use borrow.Author.Tests.{ltb-true, ltb-false}
-use lib.Dec.{ltb}
-use lib.IntN.{ℤ, pos, negsuc, natAbs, subℕ, _+ℤ_, _-ℤ_}
+use lib.IntN.{subℕ}
 use Rattle.metric.specs.Metric.{is-neg, at-most}
 use Rattle.metric.specs.Cost.{costZero, costOne}
 

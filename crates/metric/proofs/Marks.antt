@@ -1,12 +1,6 @@
 -- The three verdicts from costs: the shortfall is twice what the word costs above the least; and from the greatest metric.
 -- Assumes nothing.
-use mathlib.Core.Path.{_≡_, refl, ap, _∙_}
-use mathlib.Core.Bool.{Bool, true, false}
-use mathlib.Core.List.{List}
-use Prim.Native.Nat.{ℕ, _*_, _-_, _<_}
-use native.Mathlib.Omega.{arith}
-use lib.ListN.{length}
-use lib.IntN.{ℤ, pos, _-ℤ_}
+use Rattle.basics.proofs.Kit.{_≡_, refl, ap, _∙_, Bool, true, false, List, ℕ, _-_, _*_, _<_, arith, length, ℤ, pos, _-ℤ_}
 use Rattle.code.specs.Bits.{all-bits}
 use Rattle.metric.specs.Metric.{metric, at-most, Greatest, Marked}
 use Rattle.metric.specs.Cost.{costZero, costOne, cost, top, Least}

@@ -1,13 +1,8 @@
 -- The test of a row, entry by entry.
 -- Assumes nothing.
-use mathlib.Core.Path.{_≡_, refl, sym, ap, _∙_}
-use mathlib.Core.Bool.{Bool, true, false, _&&_}
-use mathlib.Core.List.{List}
-use Prim.Native.Nat.{ℕ, suc, _+_, _<_}
+use Rattle.basics.proofs.Kit.{_≡_, refl, sym, ap, _∙_, Bool, true, false, _&&_, List, ℕ, suc, _+_, _<_, length, getD, drop, ℤ, pos}
 use native.Mathlib.Numerals.{add-one}
-use lib.ListN.{length, getD, drop}
 use lib.Seq.{drop-cons, drop-length}
-use lib.IntN.{ℤ, pos}
 use Rattle.metric.specs.Row.{reliability-good, row-good}
 
 -- so far, and what is left

@@ -1,10 +1,6 @@
 -- The values on record of document 01 that are of metrics, and the order of the bits, each computed from the definitions.
 -- Assumes nothing.
-use mathlib.Core.Path.{_≡_, refl}
-use mathlib.Core.Bool.{true, false}
-use mathlib.Core.List.{List, [], _∷_, _++_}
-use Prim.Native.Nat.{ℕ}
-use lib.IntN.{ℤ, pos, negsuc}
+use Rattle.basics.proofs.Kit.{_≡_, refl, true, false, List, [], _∷_, _++_, ℕ, ℤ, pos, negsuc}
 use lib.ListN.{replicate}
 use Rattle.code.specs.Code.{width, long}
 use Rattle.code.specs.Bits.{bits-of, all-bits, bit-at, row-long}

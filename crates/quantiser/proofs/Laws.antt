@@ -1,14 +1,13 @@
 -- The statements of specs/Laws.antt. A greater fraction has a greater nearest whole number, and a sign turns the order of sizes round.
 -- Assumes nothing.
-use mathlib.Core.Path.{_≡_, refl, sym, ap, _∙_}
-use mathlib.Core.Bool.{Bool, true, false, _&&_, _||_, false≢true}
-use mathlib.Core.List.{[], _∷_, map}
-use Prim.Native.Nat.{ℕ, zero, suc, _+_, _*_, _≤_, _<_, min, zero-le}
+use Rattle.basics.proofs.Kit.{_≡_, refl, sym, ap, _∙_, Bool, true, false, _&&_, _||_, [], _∷_, ℕ, zero, suc, _+_, _*_, _≤_, _<_, min, arith, eqb, ltb, ℤ, pos, negsuc, natAbs}
+use mathlib.Core.Bool.{false≢true}
+use mathlib.Core.List.{map}
+use Prim.Native.Nat.{zero-le}
 use native.Mathlib.Nat.{le-refl, le-trans, le-of-lt, lt-of-not-le, zero-mul, le-antisymm, le-of-suc-le-suc, lt-of-mul-lt-mul-right, div-mul-le-self, div-lt-iff-lt-mul, div-eq-of-lt}
-use native.Mathlib.Omega.{arith}
 use borrow.Author.Tests.{le-ltb, ne-eqb, le-leb}
-use lib.Dec.{ltb, eqb, eqb→eq, le→leb, lit≤}
-use lib.IntN.{ℤ, pos, negsuc, negℤ, natAbs, negℤ-negℤ}
+use lib.Dec.{eqb→eq, le→leb, lit≤}
+use lib.IntN.{negℤ, negℤ-negℤ}
 use lib.Signed.{_≤ℤ_, leZ-yes}
 use lib.Ieee.{nan, inf, fin, up, down, neg, lt, eq, le}
 use lib.Ieee.Fits.{down-pos, and-l, and-r}

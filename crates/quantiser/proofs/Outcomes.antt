@@ -1,11 +1,7 @@
 -- What is known of a call that is not refused.
 -- Assumes nothing.
-use mathlib.Core.Path.{_≡_, sym, _∙_}
-use mathlib.Core.Bool.{false}
-use mathlib.Core.List.{List}
-use Prim.Native.Nat.{ℕ}
+use Rattle.basics.proofs.Kit.{_≡_, sym, _∙_, false, List, ℕ, length}
 use borrow.Author.Tests.{eqb-true, not-true}
-use lib.ListN.{length}
 use lib.Ieee.{Float}
 use Rattle.refusal.proofs.Tests.{passed}
 use Rattle.quantiser.specs.Calls.{has-nan, quantise-refusal}

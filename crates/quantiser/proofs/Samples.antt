@@ -1,12 +1,10 @@
 -- A list of samples passed one by one: whether one is a NaN; and a row that is filled from the front. Assumes nothing.
-use mathlib.Core.Path.{_≡_, refl, sym, ap, _∙_, subst}
-use mathlib.Core.Bool.{Bool, true, false, _||_, false≢true}
-use mathlib.Core.List.{List, [], _∷_, _++_, map}
-use Prim.Native.Nat.{ℕ, zero, suc, _+_, _<_}
+use Rattle.basics.proofs.Kit.{_≡_, refl, sym, ap, _∙_, Bool, true, false, _||_, List, [], _∷_, _++_, ℕ, zero, suc, _+_, _<_, arith, length, getD, take, drop, set}
+use mathlib.Core.Path.{subst}
+use mathlib.Core.Bool.{false≢true}
+use mathlib.Core.List.{map}
 use native.Mathlib.Numerals.{add-one}
-use native.Mathlib.Omega.{arith}
 use lib.Dec.{T, not-T}
-use lib.ListN.{length, getD, take, drop, set}
 use lib.Seq.{drop-cons}
 use lib.Ieee.{Float, nan, inf, fin, ne, isNan}
 use lib.Ieee.Bits.{is-false}

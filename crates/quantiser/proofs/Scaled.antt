@@ -1,15 +1,13 @@
 -- `x * 32.0` of an `f32` is exact, or from 2^128 on an infinity, which is clipped as the exact product is: so 32 times a sample is rounded as
 -- the float `x * 32.0` is. A finite float is counted in units of 2^-149, the smallest there is. Assumes nothing.
-use mathlib.Core.Path.{_≡_, refl, sym, ap, _∙_, subst}
-use mathlib.Core.Bool.{Bool, true, false, _&&_, false≢true}
-use Prim.Native.Nat.{ℕ, zero, suc, _+_, _-_, _*_, _/_, _%_, _^_, _≤_, _<_, min, compare}
-use native.Mathlib.Nat.{le-of-eq, le-of-suc-le-suc, le-trans, lt-of-lt-of-le, lt-of-not-le, min-eq-right, not-le-of-lt}
-use native.Mathlib.Nat.{le-div-iff-mul-le, le-of-mul-le-mul-right, lt-of-mul-lt-mul-right, mul-assoc, mul-div-cancel, mul-le-mul-right, mul-lt-mul-of-pos-right, mul-one, mul-pos, mul-right-comm, one-mul, zero-mul}
-use native.Mathlib.Omega.{arith}
-use lib.Dec.{T, ltb, leb, eqb, lit<, lit≤, leb→le, ltb→lt, eqb→eq, not-T}
-use lib.IntN.{ℤ, pos, negsuc}
+use Rattle.basics.proofs.Kit.{_≡_, refl, sym, ap, _∙_, Bool, true, false, _&&_, ℕ, zero, suc, _+_, _-_, _*_, _/_, _%_, _^_, _≤_, _<_, min, arith, eqb, leb, ltb, ℤ, pos, negsuc}
+use mathlib.Core.Path.{subst}
+use mathlib.Core.Bool.{false≢true}
+use Prim.Native.Nat.{compare}
+use native.Mathlib.Nat.{le-of-eq, le-of-suc-le-suc, le-trans, lt-of-lt-of-le, lt-of-not-le, min-eq-right, not-le-of-lt, le-div-iff-mul-le, le-of-mul-le-mul-right, lt-of-mul-lt-mul-right, mul-assoc, mul-div-cancel, mul-le-mul-right, mul-lt-mul-of-pos-right, mul-one, mul-pos, mul-right-comm, one-mul, zero-mul}
+use lib.Dec.{T, lit<, lit≤, leb→le, ltb→lt, eqb→eq, not-T}
 use lib.Pow.{pow-add, pow-pos, pow-lt}
-use lib.Ieee.{Float, nan, inf, fin, up, down, binary32, mul, round, units, odd, fits, isNan, unlike, size, nearest as to-even}
+use lib.Ieee.{Float, nan, inf, fin, up, down, binary32, mul, round, units, odd, fits, isNan, unlike, size}
 use lib.Ieee.Bits.{cond-no}
 use lib.Ieee.Digits.{back, size-le}
 use lib.Ieee.Exact.{HasValue, round-exact}

@@ -1,13 +1,12 @@
 -- A float rounded, by its bits: `rounded 1` in units of 2^-149, and what `size_of` makes of each range of the exponent's field.
 -- `omega` takes numerals of at most 38 digits, so a power of two beyond them stands as a variable P in a lemma of its own.
 -- Assumes nothing.
-use mathlib.Core.Path.{_≡_, refl, sym, ap, _∙_, subst}
-use mathlib.Core.Bool.{Bool, true, false, cond, false≢true}
-use Prim.Native.Nat.{ℕ, zero, suc, _+_, _-_, _*_, _/_, _%_, _^_, _≤_, _<_, min, zero-le}
+use Rattle.basics.proofs.Kit.{_≡_, refl, sym, ap, _∙_, Bool, true, false, cond, ℕ, zero, suc, _+_, _-_, _*_, _/_, _%_, _^_, _≤_, _<_, min, arith, eqb, leb, pos, natAbs}
+use mathlib.Core.Path.{subst}
+use mathlib.Core.Bool.{false≢true}
+use Prim.Native.Nat.{zero-le}
 use native.Mathlib.Nat.{le-of-suc-le-suc, lt-of-lt-of-le, mul-le-mul, mul-one, one-mul, mul-assoc, min-eq-right, min-le-right, le-of-eq, div-eq-of-lt, le-div-iff-mul-le}
-use native.Mathlib.Omega.{arith}
-use lib.Dec.{T, leb, eqb, lit<, lit≤, eqb→eq}
-use lib.IntN.{pos, natAbs}
+use lib.Dec.{T, lit<, lit≤, eqb→eq}
 use lib.Pow.{pow-add, pow-pos, pow-mono, shl-lt}
 use lib.Ieee.{Float, nan, inf, fin, up, down, binary32, odd, ofFields, ofBits, toBits, fits, isNan, nanBits}
 use lib.Ieee.Bits.{ofBits-toBits, nanBits-is}

@@ -1,10 +1,6 @@
 -- The values on record of document 01 and the edges, each computed from the definitions. Samples stand by their bits.
 -- Assumes nothing.
-use mathlib.Core.Path.{_≡_, refl}
-use mathlib.Core.Bool.{true, false}
-use mathlib.Core.List.{List, _∷_}
-use Prim.Native.Nat.{ℕ}
-use lib.IntN.{ℤ, pos, negsuc}
+use Rattle.basics.proofs.Kit.{_≡_, refl, true, false, List, _∷_, ℕ, ℤ, pos, negsuc}
 use lib.ListN.{replicate}
 use lib.Ieee.{Float, fin, binary32, ofBits, isNan}
 use Rattle.code.specs.Code.{code-good, number-refusal, width, long}

@@ -1,8 +1,6 @@
 -- The outcome of a call from its refusal's number and its answer, and back.
 -- Assumes nothing.
-use mathlib.Core.Path.{_≡_, refl, _∙_}
-use Prim.Native.Nat.{ℕ, zero, suc}
-use native.Mathlib.Omega.{arith}
+use Rattle.basics.proofs.Kit.{_≡_, refl, _∙_, ℕ, zero, suc, arith}
 use Rattle.refusal.specs.Refusal.{Outcome}
 
 module _ (refusal r : ℕ) (Done Kept : Type 0) where

@@ -1,9 +1,6 @@
 -- What is known where a chain of tests refuses nothing.
 -- Assumes nothing.
-use mathlib.Core.Path.{_≡_, refl}
-use mathlib.Core.Bool.{Bool, true, false}
-use Prim.Native.Nat.{ℕ, zero, suc}
-use native.Mathlib.Omega.{arith}
+use Rattle.basics.proofs.Kit.{_≡_, refl, Bool, true, false, ℕ, zero, suc, arith}
 use Rattle.refusal.specs.Refusal.{unless, first}
 
 pub passed : (b : Bool) (n e : ℕ) → unless b (suc n) e ≡ 0 → (b ≡ true) × (e ≡ 0)

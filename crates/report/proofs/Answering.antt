@@ -1,12 +1,7 @@
 -- A question that a sheet can hold is refused by neither decoder nor marker, so what they say makes its line.
 -- Assumes nothing.
-use mathlib.Core.Path.{_≡_, refl, sym, ap, ap₂, _∙_}
-use mathlib.Core.List.{List}
-use Prim.Native.Nat.{ℕ, _+_, _*_, _≤_}
-use native.Mathlib.Omega.{arith}
+use Rattle.basics.proofs.Kit.{_≡_, refl, sym, ap, ap₂, _∙_, List, ℕ, _+_, _*_, _≤_, arith, length, ℤ}
 use borrow.Author.Tests.{eq-eqb}
-use lib.ListN.{length}
-use lib.IntN.{ℤ}
 use Rattle.refusal.specs.Refusal.{unless}
 use Rattle.code.specs.declared.Chosen.{Chosen}
 use Rattle.code.specs.Code.{width, roots, long, is-codeword}

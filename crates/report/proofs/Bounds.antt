@@ -1,13 +1,8 @@
 -- How long a line is at most: a best metric is not below 0, since it is at least that of the zero word and that of the word of ones, of which one is not.
 -- Assumes nothing.
-use mathlib.Core.Path.{_≡_, refl}
-use mathlib.Core.Bool.{Bool, true}
-use mathlib.Core.List.{List, [], _∷_}
-use Prim.Native.Nat.{ℕ, zero, suc, _+_, _*_, _^_, _-_, _≤_, _<_}
-use native.Mathlib.Omega.{arith}
+use Rattle.basics.proofs.Kit.{_≡_, refl, Bool, true, List, [], _∷_, ℕ, zero, suc, _+_, _-_, _*_, _^_, _≤_, _<_, arith, length, getD, ℤ, pos, negsuc, natAbs}
 use lib.Dec.{lit<, lit≤}
-use lib.ListN.{length, getD, replicate}
-use lib.IntN.{ℤ, pos, negsuc, natAbs}
+use lib.ListN.{replicate}
 use Rattle.field.specs.Field.{xor, doubled, times-from, times, alpha, width-good}
 use Rattle.field.proofs.Tests.{widths}
 use Rattle.code.specs.Code.{code-good, width, roots, long, value-from, value-at, vanishes, symbols-good, is-codeword}

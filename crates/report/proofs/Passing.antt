@@ -1,17 +1,13 @@
 -- From one question to the next: the reader yields the question that stands in the sheet's list, and its line follows those before.
 -- Assumes nothing.
-use mathlib.Core.Path.{_≡_, refl, sym, ap, _∙_}
+use Rattle.basics.proofs.Kit.{_≡_, refl, sym, ap, _∙_, true, List, [], _∷_, _++_, ℕ, zero, suc, _+_, _*_, _≤_, _<_, arith, length, getD, take, drop, ℤ}
 use mathlib.Core.Logic.{_⊎_, inl, inr}
-use mathlib.Core.Bool.{true}
-use mathlib.Core.List.{List, [], _∷_, _++_, append-assoc, append-nil}
-use Prim.Native.Nat.{ℕ, zero, suc, _+_, _*_, _≤_, _<_}
+use mathlib.Core.List.{append-assoc, append-nil}
 use native.Mathlib.Nat.{suc-mul, mul-le-mul-right}
 use native.Mathlib.Numerals.{add-one}
-use native.Mathlib.Omega.{arith}
 use borrow.Author.Tests.{eq-eqb}
-use lib.ListN.{length, getD, take, drop, length-drop}
+use lib.ListN.{length-drop}
 use lib.Seq.{take-all}
-use lib.IntN.{ℤ}
 use Rattle.code.specs.declared.Chosen.{Chosen}
 use Rattle.code.specs.Within.{Chosen-says}
 use Rattle.sheet.specs.Sheet.{Question, question, reliabilities, head-code, low, as-words, question-in, question-good, all-good, questions}

@@ -1,13 +1,9 @@
 -- The statements of specs/Promise.antt: one line a question, so by the lines; how long, by the longest line.
 -- Assumes nothing.
-use mathlib.Core.Path.{_≡_, refl, sym, ap, ap₂, _∙_}
-use mathlib.Core.List.{List, [], _∷_, _++_}
+use Rattle.basics.proofs.Kit.{_≡_, refl, sym, ap, ap₂, _∙_, true, List, [], _∷_, _++_, ℕ, zero, suc, _*_, _≤_, _<_, arith, length}
 use mathlib.Core.Logic.{_⊎_, inl, inr}
-use mathlib.Core.Bool.{true}
-use Prim.Native.Nat.{ℕ, zero, suc, _*_, _≤_, _<_}
 use native.Mathlib.Nat.{suc-mul, mul-le-mul-right}
-use native.Mathlib.Omega.{arith}
-use lib.ListN.{length, length-append}
+use lib.ListN.{length-append}
 use Rattle.code.specs.Code.{width, roots, is-codeword}
 use Rattle.code.proofs.Accepted.{width-fine, roots-few}
 use Rattle.metric.specs.Promise.{Codewords-for, Decoded-there, Decoded-one, Marked-there, Marked-one}

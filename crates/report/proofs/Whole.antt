@@ -1,14 +1,9 @@
 -- The whole text: a refusal's line, or the header, the lines and the count, one behind the other from the output's start.
 -- Assumes nothing.
-use mathlib.Core.Path.{_≡_, refl, sym, ap, ap₂, _∙_}
-use mathlib.Core.Bool.{true, _&&_}
-use mathlib.Core.List.{List, [], _∷_, _++_}
-use Prim.Native.Nat.{ℕ, zero, suc, _+_, _-_, _*_, _≤_, _<_}
+use Rattle.basics.proofs.Kit.{_≡_, refl, sym, ap, ap₂, _∙_, true, _&&_, List, [], _∷_, _++_, ℕ, zero, suc, _+_, _-_, _*_, _≤_, _<_, arith, length, getD, drop, eqb}
 use native.Mathlib.Nat.{zero-add, mul-le-mul-right}
-use native.Mathlib.Omega.{arith}
 use borrow.Author.Tests.{eq-eqb, ne-eqb, lt-ltb}
-use lib.Dec.{eqb}
-use lib.ListN.{length, getD, drop, length-append}
+use lib.ListN.{length-append}
 use Rattle.refusal.specs.Refusal.{unless, Outcome}
 use Rattle.sheet.specs.Sheet.{sheet-refusal, questions}
 use Rattle.sheet.specs.Calls.{judgement, judged}

@@ -1,16 +1,11 @@
 -- From tables to codewords: over the configurations of a code, the least sum of the layers' tables is the least cost of a codeword, with bits held or not.
 -- Assumes nothing.
-use mathlib.Core.Path.{_≡_, refl, sym, ap, ap₂, _∙_}
-use mathlib.Core.Bool.{Bool, true, cond}
-use mathlib.Core.List.{List, [], _∷_}
-use Prim.Native.Nat.{ℕ, zero, suc, _+_, _-_, _*_, _/_, _^_, _≤_, _<_}
+use Rattle.basics.proofs.Kit.{_≡_, refl, sym, ap, ap₂, _∙_, Bool, true, cond, List, [], _∷_, ℕ, zero, suc, _+_, _-_, _*_, _/_, _^_, _≤_, _<_, arith, length, getD, ℤ, pos}
 use native.Mathlib.Nat.{div-eq-of-lt, lt-of-lt-of-le}
-use native.Mathlib.Omega.{arith}
 use native.Mathlib.Decide.{decLe}
 use lib.Pow.{pow-mono}
-use lib.ListN.{length, getD, replicate, length-replicate, List·getD-append}
+use lib.ListN.{replicate, length-replicate, List·getD-append}
 use lib.Seq.{ext-getD, getD-append-add}
-use lib.IntN.{ℤ, pos}
 use borrow.Author.Tests.{le-ltb, ne-eqb}
 use Rattle.field.specs.Field.{width-good, xor}
 use Rattle.field.proofs.Tests.{widths}

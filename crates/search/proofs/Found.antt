@@ -1,17 +1,11 @@
 -- THE SEARCH IS RIGHT: the least over the configurations is the least cost of a codeword; and where one layer's table with a bit held meets what the
 -- other layers cost, that is the least cost of a codeword with that bit.
 -- Assumes nothing.
-use mathlib.Core.Path.{_≡_, refl, sym, ap, _∙_, subst}
-use mathlib.Core.Bool.{Bool, true, false, cond}
-use mathlib.Core.List.{List, [], _∷_}
-use Prim.Native.Nat.{ℕ, zero, suc, _+_, _-_, _*_, _≤_, _<_}
+use Rattle.basics.proofs.Kit.{_≡_, refl, sym, ap, _∙_, Bool, true, false, cond, List, [], _∷_, ℕ, zero, suc, _+_, _-_, _*_, _≤_, _<_, arith, length, getD, eqb, ℤ}
+use mathlib.Core.Path.{subst}
 use native.Mathlib.Nat.{not-suc-le-zero, le-of-suc-le-suc}
-use native.Mathlib.Omega.{arith}
 use borrow.Author.Tests.{eq-eqb, ne-eqb, eqb-true}
 use lib.Arith.{digits-lt}
-use lib.Dec.{eqb}
-use lib.ListN.{length, getD}
-use lib.IntN.{ℤ}
 use Rattle.field.specs.Field.{width-good}
 use Rattle.field.proofs.Tests.{widths}
 use Rattle.code.specs.Code.{code-good, width, roots, long, is-codeword}

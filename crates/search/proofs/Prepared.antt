@@ -1,17 +1,13 @@
 -- Columns and costs as the program makes them: by the sign of a reliability, one position at a turn.
 -- Assumes nothing.
-use mathlib.Core.Path.{_≡_, refl, sym, ap, _∙_, subst}
-use mathlib.Core.Bool.{Bool, true, false, _&&_}
-use mathlib.Core.List.{List}
-use Prim.Native.Nat.{ℕ, suc, _+_, _*_, _≤_, _<_}
+use Rattle.basics.proofs.Kit.{_≡_, refl, sym, ap, _∙_, Bool, true, false, _&&_, List, ℕ, suc, _+_, _*_, _≤_, _<_, arith, length, getD, take, set, eqb, ℤ, pos, negsuc, natAbs, _-ℤ_}
+use mathlib.Core.Path.{subst}
 use native.Mathlib.Nat.{zero-add, suc-mul, mul-le-mul-right}
-use native.Mathlib.Omega.{arith}
 use native.Mathlib.Decide.{decLe}
 use borrow.Author.Tests.{ltb-true, ltb-false}
-use lib.Dec.{T, eqb, eqb→eq}
-use lib.ListN.{length, getD, set, take, length-set}
+use lib.Dec.{T, eqb→eq}
+use lib.ListN.{length-set}
 use lib.Seq.{getD-set-same, getD-set-other}
-use lib.IntN.{ℤ, pos, negsuc, natAbs, _-ℤ_}
 use lib.Signed.{ltZ, nonNeg}
 use mir.Syntax.{w16, w32}
 use mir.Val.{SFits, Fits, toZ, ofZ}

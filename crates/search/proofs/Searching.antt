@@ -1,14 +1,8 @@
 -- The search at an accepted row: what the walk asks, and that the least total is the least cost of a codeword.
 -- Assumes nothing.
-use mathlib.Core.Path.{_≡_, sym, ap, ap₂, _∙_}
-use mathlib.Core.Bool.{true}
-use mathlib.Core.List.{List, [], _∷_}
-use Prim.Native.Nat.{ℕ, zero, suc, _+_, _-_, _*_, _≤_, _<_}
+use Rattle.basics.proofs.Kit.{_≡_, sym, ap, ap₂, _∙_, true, List, [], _∷_, ℕ, zero, suc, _+_, _-_, _*_, _≤_, _<_, arith, length, getD, ℤ}
 use native.Mathlib.Nat.{zero-mul, zero-add}
-use native.Mathlib.Omega.{arith}
 use native.Mathlib.Decide.{decLe}
-use lib.ListN.{length, getD}
-use lib.IntN.{ℤ}
 use Rattle.field.proofs.Tests.{to-T}
 use Rattle.code.specs.declared.Shape.{Shape}
 use Rattle.code.specs.Code.{code-good, width, roots, long, is-codeword}

@@ -1,14 +1,7 @@
 -- The traced word: its layers are the traces of each layer, so it is a codeword that has the cost of its configuration.
 -- Assumes nothing.
-use mathlib.Core.Path.{_≡_, refl, ap, ap₂, _∙_}
-use mathlib.Core.Bool.{true}
-use mathlib.Core.List.{List, _∷_}
-use Prim.Native.Nat.{ℕ, zero, suc, _+_, _*_, _≤_, _<_}
-use native.Mathlib.Omega.{arith}
+use Rattle.basics.proofs.Kit.{_≡_, refl, ap, ap₂, _∙_, true, List, _∷_, ℕ, zero, suc, _+_, _*_, _≤_, _<_, arith, length, getD, leb, ℤ}
 use borrow.Author.Tests.{le-leb}
-use lib.Dec.{leb}
-use lib.ListN.{length, getD}
-use lib.IntN.{ℤ}
 use Rattle.field.specs.Field.{xor}
 use Rattle.field.proofs.Xor as X
 use Rattle.code.specs.Code.{code-good, width, roots, long, is-codeword}

@@ -1,11 +1,7 @@
 -- The tuples that a walk is lent are those of the code.
 -- Assumes nothing.
-use mathlib.Core.Path.{_≡_, ap, _∙_}
-use mathlib.Core.Bool.{Bool, true, false, cond}
-use mathlib.Core.List.{List}
-use Prim.Native.Nat.{ℕ}
+use Rattle.basics.proofs.Kit.{_≡_, List, ℕ}
 use borrow.Author.Tests.{eq-eqb, ne-eqb}
-use lib.Dec.{eqb}
 use Rattle.code.specs.declared.Shape.{Shape}
 use Rattle.code.specs.Within.{number-of}
 use Rattle.configurations.specs.Configurations.{configurations, listed}

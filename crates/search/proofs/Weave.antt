@@ -1,11 +1,7 @@
 -- The word of four layers, and its layers again.
 -- Assumes nothing.
-use mathlib.Core.Path.{_≡_, refl, sym, ap, ap₂, _∙_}
-use mathlib.Core.List.{List, [], _∷_}
-use Prim.Native.Nat.{ℕ, suc, _+_, _*_, _/_, _%_, _^_, _<_}
+use Rattle.basics.proofs.Kit.{_≡_, refl, sym, ap, ap₂, _∙_, List, [], _∷_, ℕ, suc, _+_, _*_, _/_, _%_, _^_, _<_, arith, length}
 use native.Mathlib.Nat.{suc-inj}
-use native.Mathlib.Omega.{arith}
-use lib.ListN.{length}
 use Rattle.code.proofs.Words.{Below}
 use Rattle.split.specs.Split.{layer}
 use Rattle.lanes.proofs.Rows.{four}

@@ -1,14 +1,11 @@
 -- Words as bytes, low byte first, and back.
 -- Assumes nothing.
-use mathlib.Core.Path.{_≡_, refl, sym, ap, ap₂, _∙_, subst}
-use mathlib.Core.Bool.{true, _&&_}
-use mathlib.Core.List.{List, [], _∷_, _++_}
-use Prim.Native.Nat.{ℕ, zero, suc, _+_, _*_, _/_, _%_, _^_, _<_, _≤_}
+use Rattle.basics.proofs.Kit.{_≡_, refl, sym, ap, ap₂, _∙_, true, _&&_, List, [], _∷_, _++_, ℕ, zero, suc, _+_, _*_, _/_, _%_, _^_, _≤_, _<_, arith, length, getD, take, drop, ltb}
+use mathlib.Core.Path.{subst}
 use native.Mathlib.Nat.{div-eq-of-lt, not-suc-le-zero, add-zero, mul-suc, add-comm}
-use native.Mathlib.Omega.{arith}
 use borrow.Author.Tests.{ltb-true, lt-ltb}
-use lib.Dec.{ltb, lit<}
-use lib.ListN.{length, take, drop, length-append, length-drop, take-append-drop, getD, List·getD-eq-default}
+use lib.Dec.{lit<}
+use lib.ListN.{length-append, length-drop, take-append-drop, List·getD-eq-default}
 use lib.Seq.{take-at, drop-at, length-take-le, drop-drop, getD-drop}
 use Rattle.code.proofs.Words.{Below}
 use Rattle.sheet.specs.Sheet.{digits, packed, as-bytes, words-from, as-words}

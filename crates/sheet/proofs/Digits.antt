@@ -1,12 +1,9 @@
 -- Digits and the number that has them, to any base: both round trips.
 -- Assumes nothing.
-use mathlib.Core.Path.{_≡_, refl, sym, ap, ap₂, _∙_, subst}
-use mathlib.Core.List.{List, [], _∷_}
-use Prim.Native.Nat.{ℕ, zero, suc, _+_, _*_, _/_, _%_, _^_, _<_}
+use Rattle.basics.proofs.Kit.{_≡_, refl, sym, ap, ap₂, _∙_, List, [], _∷_, ℕ, zero, suc, _+_, _*_, _/_, _%_, _^_, _<_, arith, length}
+use mathlib.Core.Path.{subst}
 use native.Mathlib.Nat.{add-mul-mod-self-left, add-mul-div-left, mod-eq-of-lt, div-eq-of-lt, mod-lt, mod-add-div, mul-suc, zero-add, div-div-eq-div-mul, div-one, mul-le-mul-left, pow-zero, pow-succ'}
-use native.Mathlib.Omega.{arith}
 use lib.Dec.{lit<}
-use lib.ListN.{length}
 use Rattle.code.proofs.Words.{Below}
 use Rattle.sheet.specs.Sheet.{digits, packed}
 

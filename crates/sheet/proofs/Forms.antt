@@ -1,17 +1,13 @@
 -- The forms: reliabilities in two's complement, and symbols. Their items fit, and both ways of a row are inverse to each other.
 -- Assumes nothing.
-use mathlib.Core.Path.{_≡_, refl, sym, ap, ap₂}
+use Rattle.basics.proofs.Kit.{_≡_, refl, sym, ap, ap₂, Bool, true, false, _&&_, _||_, cond, List, [], _∷_, _++_, ℕ, suc, _+_, _-_, _*_, _/_, _%_, _^_, _≤_, _<_, arith, length, leb, ltb, ℤ, pos, negsuc, natAbs}
 use mathlib.Core.Logic.{_⊎_, inl, inr}
-use mathlib.Core.Bool.{Bool, true, false, _&&_, _||_, cond, and-assoc, or-false}
-use mathlib.Core.List.{List, [], _∷_, _++_}
-use Prim.Native.Nat.{ℕ, suc, _+_, _*_, _-_, _/_, _%_, _^_, _<_, _≤_}
+use mathlib.Core.Bool.{and-assoc, or-false}
 use native.Mathlib.Nat.{mod-lt, mod-add-div, mul-suc, mul-le-mul-left, mul-le-mul-right}
-use native.Mathlib.Omega.{arith}
 use borrow.Author.Tests.{ltb-true, ltb-false, leb-true, leb-false, lt-ltb, le-ltb, le-leb, lt-leb}
-use lib.Dec.{ltb, leb, lit≤, lit<}
+use lib.Dec.{lit≤, lit<}
 use lib.Pow.{pow-mono}
-use lib.ListN.{length, length-map}
-use lib.IntN.{ℤ, pos, negsuc, natAbs}
+use lib.ListN.{length-map}
 use mir.Syntax.{w64}
 use mir.Val.{Fits}
 use Rattle.field.specs.Field.{width-good}

@@ -1,13 +1,8 @@
 -- The longest sheet: 200 questions of code 3, each of 24 words.
 -- Assumes nothing.
-use mathlib.Core.Path.{_≡_, refl, ap, _∙_}
-use mathlib.Core.Bool.{true}
-use mathlib.Core.List.{List, [], _∷_, _++_}
-use Prim.Native.Nat.{ℕ, zero, suc, _+_, _*_, _≤_}
-use native.Mathlib.Omega.{arith}
+use Rattle.basics.proofs.Kit.{_≡_, refl, ap, _∙_, true, List, [], _∷_, _++_, ℕ, zero, suc, _+_, _*_, _≤_, arith, length, pos}
 use lib.Dec.{lit≤}
-use lib.ListN.{length, replicate, length-append, length-replicate}
-use lib.IntN.{pos}
+use lib.ListN.{replicate, length-append, length-replicate}
 use Rattle.field.specs.Field.{width-good}
 use Rattle.field.proofs.Tests.{widths}
 use Rattle.code.specs.Code.{code-good, width, long, symbols-good}

@@ -1,12 +1,7 @@
 -- Refusals are small, so 100 and a count is none.
 -- Assumes nothing.
-use mathlib.Core.Path.{_≡_, refl}
-use mathlib.Core.Bool.{Bool, true, false, cond}
-use mathlib.Core.List.{List, [], _∷_}
-use Prim.Native.Nat.{ℕ, zero, suc, _-_, _≤_}
-use native.Mathlib.Omega.{arith}
-use lib.Dec.{eqb, lit≤}
-use lib.ListN.{length}
+use Rattle.basics.proofs.Kit.{_≡_, refl, Bool, true, false, cond, List, [], _∷_, ℕ, zero, suc, _-_, _≤_, arith, length, eqb}
+use lib.Dec.{lit≤}
 use Rattle.refusal.specs.Refusal.{unless, first}
 use Rattle.code.specs.Code.{number-refusal}
 use Rattle.sheet.specs.declared.Form.{Form}

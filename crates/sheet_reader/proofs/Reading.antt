@@ -1,14 +1,10 @@
 -- The items one after another, as they are taken from the words, and one turn of the loops that fill the outputs.
 -- Assumes nothing.
-use mathlib.Core.Path.{_≡_, refl, sym, ap, _∙_}
-use mathlib.Core.List.{List, _∷_, _++_}
-use Prim.Native.Nat.{ℕ, zero, suc, _+_, _-_, _/_, _%_, _<_, _≤_, min}
+use Rattle.basics.proofs.Kit.{_≡_, refl, sym, ap, _∙_, List, _∷_, _++_, ℕ, zero, suc, _+_, _-_, _/_, _%_, _≤_, _<_, min, arith, length, getD, take, drop, set, ℤ}
 use native.Mathlib.Nat.{mod-lt, add-zero, sub-zero, zero-lt-suc}
 use native.Mathlib.Numerals.{add-one}
-use native.Mathlib.Omega.{arith}
-use lib.ListN.{length, getD, take, drop, set, length-set, List·getD-map}
+use lib.ListN.{length-set, List·getD-map}
 use lib.Seq.{getD-drop, drop-drop, take-suc, take-suc-set, take-all}
-use lib.IntN.{ℤ}
 use Rattle.sheet.specs.declared.Form.{Form}
 use Rattle.sheet.specs.Sheet.{body, digits, used, items, count, items-in, row-of, signed-of}
 use Rattle.sheet.specs.Within.{Fine}

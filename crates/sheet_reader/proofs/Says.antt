@@ -1,15 +1,8 @@
 -- From an answer to what a yield says: a question was found, or nothing changed.
 -- Assumes nothing.
-use mathlib.Core.Path.{_≡_, refl, sym, _∙_}
+use Rattle.basics.proofs.Kit.{_≡_, refl, sym, _∙_, Bool, true, false, _&&_, List, ℕ, _+_, _/_, _≤_, _<_, arith, length, getD, drop, eqb, ℤ}
 use mathlib.Core.Logic.{_⊎_, inl, inr}
-use mathlib.Core.Bool.{Bool, true, false, _&&_}
-use mathlib.Core.List.{List}
-use Prim.Native.Nat.{ℕ, _+_, _/_, _<_, _≤_}
-use native.Mathlib.Omega.{arith}
 use borrow.Author.Tests.{eqb-true}
-use lib.Dec.{eqb}
-use lib.ListN.{length, getD, drop}
-use lib.IntN.{ℤ}
 use Rattle.code.specs.Code.{width, long}
 use Rattle.code.specs.Bits.{row-long}
 use Rattle.sheet.specs.declared.Form.{Form}

@@ -1,17 +1,14 @@
 -- Reliabilities and symbols as numbers, one digit a turn; words stored as bytes.
 -- Assumes nothing.
-use mathlib.Core.Path.{_≡_, refl, sym, ap, ap₂, _∙_, subst}
-use mathlib.Core.Bool.{true, false}
-use mathlib.Core.List.{List, [], _∷_, _++_, append-assoc, append-nil}
-use Prim.Native.Nat.{ℕ, suc, _+_, _*_, _-_, _/_, _%_, _^_, _<_, _≤_}
+use Rattle.basics.proofs.Kit.{_≡_, refl, sym, ap, ap₂, _∙_, true, false, List, [], _∷_, _++_, ℕ, suc, _+_, _-_, _*_, _/_, _%_, _^_, _≤_, _<_, arith, length, getD, take, drop, set, ℤ, pos, negsuc, natAbs, _+ℤ_}
+use mathlib.Core.Path.{subst}
+use mathlib.Core.List.{append-assoc, append-nil}
 use native.Mathlib.Nat.{lt-of-lt-of-le, pow-le-pow-right}
 use native.Mathlib.Numerals.{add-one}
-use native.Mathlib.Omega.{arith}
 use borrow.Author.Tests.{ltb-true, leb-true, le-ltb}
 use lib.Dec.{T}
-use lib.ListN.{length, getD, take, drop, set, length-take, length-drop, length-append, drop-of-length-le, List·getD-map}
+use lib.ListN.{length-take, length-drop, length-append, drop-of-length-le, List·getD-map}
 use lib.Seq.{drop-cons, sets-eq, getD-take, take-suc, take-at, drop-at, drop-drop, length-take-le}
-use lib.IntN.{ℤ, pos, negsuc, natAbs, _+ℤ_}
 use lib.Signed.{ltZ, nonNeg}
 use mir.Syntax.{w16, w32}
 use mir.Val.{SFits, Fits, toZ, ofZ}

@@ -1,16 +1,10 @@
 -- The words of a question one by one, and the items of each form.
 -- Assumes nothing.
-use mathlib.Core.Path.{_≡_, refl, sym, ap, ap₂, _∙_}
-use mathlib.Core.Bool.{Bool, true, false, cond}
-use mathlib.Core.List.{List, _++_}
-use Prim.Native.Nat.{ℕ, zero, suc, _+_, _*_, _-_, _^_, _<_, _≤_}
+use Rattle.basics.proofs.Kit.{_≡_, refl, sym, ap, ap₂, _∙_, Bool, true, false, cond, List, _++_, ℕ, zero, suc, _+_, _-_, _*_, _^_, _≤_, _<_, arith, length, getD, take, drop, eqb, ℤ}
 use native.Mathlib.Nat.{lt-of-lt-of-le, mul-comm, mul-suc, mul-zero, add-comm, not-suc-le-zero}
-use native.Mathlib.Omega.{arith}
 use borrow.Author.Tests.{eqb-true, eqb-false, eq-eqb, ne-eqb}
-use lib.Dec.{eqb}
-use lib.ListN.{length, getD, take, drop, List·getD-append}
+use lib.ListN.{List·getD-append}
 use lib.Seq.{drop-drop, getD-drop, getD-append-add}
-use lib.IntN.{ℤ}
 use Rattle.field.proofs.Tests.{to-T}
 use Rattle.code.specs.Code.{width}
 use Rattle.code.proofs.Words.{Below, below, widen}

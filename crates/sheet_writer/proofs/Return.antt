@@ -1,14 +1,10 @@
 -- Both round trips. An accepted list holds questions that a sheet can hold, and a list of such questions, lent as the writer takes it, is accepted.
 -- Assumes nothing.
-use mathlib.Core.Path.{_≡_, refl, ap₂}
-use mathlib.Core.Bool.{true, _&&_}
-use mathlib.Core.List.{List, [], _∷_, _++_, map, flatMap, append-nil}
-use Prim.Native.Nat.{ℕ}
-use native.Mathlib.Omega.{arith}
+use Rattle.basics.proofs.Kit.{_≡_, refl, ap₂, true, _&&_, List, [], _∷_, _++_, ℕ, arith, length, drop, ℤ}
+use mathlib.Core.List.{map, flatMap, append-nil}
 use borrow.Author.Tests.{le-leb, eq-eqb, lt-ltb}
-use lib.ListN.{length, drop, length-append, length-map}
+use lib.ListN.{length-append, length-map}
 use lib.Seq.{take-at, drop-at}
-use lib.IntN.{ℤ}
 use Rattle.refusal.specs.Refusal.{unless, first, Outcome}
 use Rattle.refusal.proofs.Tests.{first-none}
 use Rattle.refusal.proofs.Outcomes.{outcome-zero}

@@ -1,11 +1,8 @@
 -- A step may be taken from the front or from the back: where two tables meet, the least is the same. So the tables from the front, started
 -- from any table g and met with those from the back, give the least of g plus the whole table in which one bit is held.
 -- Assumes nothing.
-use mathlib.Core.Path.{_≡_, refl, sym, ap, ap₂, _∙_}
-use mathlib.Core.Bool.{Bool, cond}
-use Prim.Native.Nat.{ℕ, zero, suc, _+_, _^_, _≤_, _<_}
+use Rattle.basics.proofs.Kit.{_≡_, refl, sym, ap, ap₂, _∙_, Bool, cond, ℕ, zero, suc, _+_, _^_, _≤_, _<_, arith}
 use native.Mathlib.Nat.{zero-add}
-use native.Mathlib.Omega.{arith}
 use native.Mathlib.Decide.{decLe}
 use borrow.Author.Tests.{eq-eqb, ne-eqb}
 use Rattle.field.specs.Field.{xor}

@@ -1,11 +1,7 @@
 -- One column from the front, two rows at a time: what a turn of the loops asks, and what it leaves.
 -- Assumes nothing.
-use mathlib.Core.Path.{_≡_, refl, ap, _∙_}
-use mathlib.Core.List.{List, [], _∷_}
-use Prim.Native.Nat.{ℕ, zero, suc, _+_, _*_, _≤_, _<_, min}
-use native.Mathlib.Omega.{arith}
+use Rattle.basics.proofs.Kit.{_≡_, refl, ap, _∙_, List, [], _∷_, ℕ, zero, suc, _+_, _*_, _≤_, _<_, min, arith, length, getD}
 use native.Mathlib.Decide.{decLe}
-use lib.ListN.{length, getD}
 use Rattle.field.specs.Field.{xor}
 use Rattle.field.proofs.Xor as X
 use Rattle.trellis.specs.Trellis.{step, either, only, leastOf}

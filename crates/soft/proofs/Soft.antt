@@ -1,13 +1,10 @@
 -- The soft pass: table i carries the first table past the columns before i, and each column is met with the tables behind it.
 -- Assumes nothing.
-use mathlib.Core.Path.{_≡_, refl, sym, ap, ap₂, _∙_, subst}
-use mathlib.Core.List.{List}
-use Prim.Native.Nat.{ℕ, zero, suc, _+_, _-_, _*_, _≤_, _<_, min}
+use Rattle.basics.proofs.Kit.{_≡_, refl, sym, ap, ap₂, _∙_, List, ℕ, zero, suc, _+_, _-_, _*_, _≤_, _<_, min, arith, length, getD, take, drop}
+use mathlib.Core.Path.{subst}
 use native.Mathlib.Nat.{suc-mul, mul-le-mul-right}
-use native.Mathlib.Omega.{arith}
 use native.Mathlib.Decide.{decLe}
 use native.Mathlib.Numerals.{add-one}
-use lib.ListN.{length, getD, take, drop}
 use borrow.Rule.Slice.PartMut.{putMid}
 use Rattle.field.specs.Field.{xor}
 use Rattle.field.proofs.Xor as X

@@ -1,15 +1,9 @@
 -- The syndrome of a binary word is the sum of the columns of its 1 bits: values add, and a syndrome's parts are digits. So the syndrome of
 -- a sum is the sum of the syndromes.
 -- Assumes nothing.
-use mathlib.Core.Path.{_≡_, refl, sym, ap, ap₂, _∙_}
-use mathlib.Core.Bool.{Bool, true, false, _&&_, cond}
-use mathlib.Core.List.{List, [], _∷_}
-use Prim.Native.Nat.{ℕ, zero, suc, _+_, _*_, _^_, _≤_, _<_}
+use Rattle.basics.proofs.Kit.{_≡_, refl, sym, ap, ap₂, _∙_, Bool, true, false, _&&_, cond, List, [], _∷_, ℕ, zero, suc, _+_, _*_, _^_, _≤_, _<_, arith, length, eqb, leb}
 use native.Mathlib.Nat.{mul-comm, mul-zero, add-comm}
-use native.Mathlib.Omega.{arith}
 use lib.Bits as B
-use lib.Dec.{leb, eqb}
-use lib.ListN.{length}
 use lib.Pow.{pow-pos}
 use Rattle.field.specs.Field.{xor, times, alpha, width-good}
 use Rattle.code.specs.Code.{value-from, value-at}

@@ -1,11 +1,8 @@
 -- Cosets: a syndrome is below their number, as is a column, and two words with the same syndrome have a sum with syndrome 0.
 -- Assumes nothing.
-use mathlib.Core.Path.{_≡_, ap, _∙_}
-use mathlib.Core.Bool.{Bool, true, false, _&&_, cond}
-use Prim.Native.Nat.{ℕ, _+_, _*_, _^_, _<_}
+use Rattle.basics.proofs.Kit.{_≡_, ap, _∙_, Bool, true, false, _&&_, cond, ℕ, _+_, _*_, _^_, _<_, arith, eqb, leb}
 use native.Mathlib.Nat.{mul-le-mul-left, mul-suc}
-use native.Mathlib.Omega.{arith}
-use lib.Dec.{T, eqb, leb, leb→le, le→leb, lit<}
+use lib.Dec.{T, leb→le, le→leb, lit<}
 use lib.Pow.{pow-add}
 use Rattle.field.specs.Field.{width-good, alpha, xor}
 use Rattle.code.specs.Code.{value-at}

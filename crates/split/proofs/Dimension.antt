@@ -1,14 +1,10 @@
 -- The dimension of a BCH code. The columns of the first q positions, as many as a syndrome has bits, are independent, and the column of
 -- each later position is a sum of some of them: so the last bits are free, and the first q follow from them.
 -- Assumes nothing.
-use mathlib.Core.Path.{_≡_, refl, sym, ap, ap₂, _∙_}
-use mathlib.Core.Bool.{Bool, true, _&&_, not, cond}
-use mathlib.Core.List.{List, [], _∷_, _++_}
-use Prim.Native.Nat.{ℕ, zero, suc, _+_, _*_, _-_, _^_, _<_, _≤_}
+use Rattle.basics.proofs.Kit.{_≡_, refl, sym, ap, ap₂, _∙_, Bool, true, _&&_, not, cond, List, [], _∷_, _++_, ℕ, zero, suc, _+_, _-_, _*_, _^_, _≤_, _<_, arith, length, take, eqb, leb, ltb}
 use native.Mathlib.Nat.{add-zero, zero-add, suc-add, add-suc}
-use native.Mathlib.Omega.{arith}
-use lib.Dec.{T, eqb, leb, ltb, eqb→eq, leb→le}
-use lib.ListN.{length, take, replicate, length-append, take-append-drop}
+use lib.Dec.{T, eqb→eq, leb→le}
+use lib.ListN.{replicate, length-append, take-append-drop}
 use lib.Seq.{drop-at, length-take-le}
 use Rattle.field.specs.Field.{xor, doubled, alpha, width-good}
 use Rattle.code.specs.Code.{width, roots, long, syndrome-long}

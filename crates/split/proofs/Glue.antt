@@ -1,14 +1,10 @@
 -- A word is a codeword exactly when its layers' syndromes are a valid configuration: a syndrome holds a layer's value at every root.
 -- Assumes nothing.
-use mathlib.Core.Path.{_≡_, refl, sym, ap, ap₂, _∙_, subst}
-use mathlib.Core.Bool.{Bool, true, _&&_, cond}
-use mathlib.Core.List.{List, [], _∷_}
-use Prim.Native.Nat.{ℕ, zero, suc, _+_, _*_, _/_, _%_, _^_, _<_, _≤_}
+use Rattle.basics.proofs.Kit.{_≡_, refl, sym, ap, ap₂, _∙_, Bool, true, _&&_, cond, List, [], _∷_, ℕ, zero, suc, _+_, _*_, _/_, _%_, _^_, _≤_, _<_, arith, length, eqb, leb}
+use mathlib.Core.Path.{subst}
 use native.Mathlib.Nat.{mul-comm, add-comm, not-suc-le-zero}
-use native.Mathlib.Omega.{arith}
 use lib.Arith.{digits-div, digits-mod}
-use lib.Dec.{eqb, leb, le→leb}
-use lib.ListN.{length}
+use lib.Dec.{le→leb}
 use Rattle.field.specs.Field.{xor, times, times-from, doubled, alpha, width-good, square}
 use Rattle.code.specs.Code.{long, value-at, vanishes, is-codeword}
 use Rattle.split.specs.Split.{layer, number, numbered, syndrome, syndromes, syndromes-from, layer-value, glued, valid, valid-at}

@@ -1,14 +1,11 @@
 -- The value of a word from those of its layers, and of a binary word at a square. By Horner's form.
 -- Assumes nothing.
-use mathlib.Core.Path.{_≡_, refl, sym, ap, ap₂, _∙_, fun-ext}
-use mathlib.Core.Bool.{Bool, true, _&&_}
-use mathlib.Core.List.{List, [], _∷_}
-use Prim.Native.Nat.{ℕ, zero, suc, _+_, _*_, _/_, _%_, _^_, _<_, _≤_}
+use Rattle.basics.proofs.Kit.{_≡_, refl, sym, ap, ap₂, _∙_, Bool, true, _&&_, List, [], _∷_, ℕ, zero, suc, _+_, _*_, _/_, _%_, _^_, _≤_, _<_, arith, length, getD, ltb}
+use mathlib.Core.Path.{fun-ext}
 use native.Mathlib.Nat.{mod-lt, zero-lt-suc, not-suc-le-zero, le-of-suc-le-suc, zero-mul, suc-mul, div-one, pow-succ', div-div-eq-div-mul}
-use native.Mathlib.Omega.{arith}
-use lib.Dec.{T, lit≤, ltb, ltb→lt, lt→ltb}
+use lib.Dec.{T, lit≤, ltb→lt, lt→ltb}
 use lib.Pow.{pow-pos}
-use lib.ListN.{length, getD, List·getD-append}
+use lib.ListN.{List·getD-append}
 use lib.Seq.{getD-append-add}
 use Rattle.field.specs.Field.{xor, times, alpha, width-good, square}
 use Rattle.code.specs.Code.{long, value-at}

@@ -1,14 +1,11 @@
 -- Each coset of the three codes has one leader. The BCH codes of document 01 are perfect: with t = 1, 3, 1 each coset has exactly one
 -- word of weight t or less. So one test over a table of leaders, at the words of weight t or less and at the syndromes, shows both.
 -- Assumes nothing.
-use mathlib.Core.Path.{_≡_, refl, sym, ap, ap₂, _∙_, subst}
-use mathlib.Core.Bool.{Bool, true, false, _&&_, not, cond}
-use mathlib.Core.List.{List, [], _∷_}
+use Rattle.basics.proofs.Kit.{_≡_, refl, sym, ap, ap₂, _∙_, Bool, true, false, _&&_, not, cond, List, [], _∷_, ℕ, zero, suc, _+_, _*_, _/_, _%_, _≤_, _<_, arith, length, getD, set, eqb, leb}
+use mathlib.Core.Path.{subst}
 use mathlib.Core.Logic.{_⊎_, inl, inr}
-use Prim.Native.Nat.{ℕ, zero, suc, _+_, _*_, _/_, _%_, _<_, _≤_}
-use native.Mathlib.Omega.{arith}
-use lib.Dec.{T, eqb, leb, eqb→eq, leb→le, nleb→lt}
-use lib.ListN.{length, getD, set, replicate}
+use lib.Dec.{T, eqb→eq, leb→le, nleb→lt}
+use lib.ListN.{replicate}
 use Rattle.field.specs.Field.{width-good, xor, times, times-from, doubled, alpha}
 use Rattle.code.specs.Code.{code-good, width, roots, long, value-from, value-at}
 use Rattle.code.specs.Promise.{Codes-inside}

@@ -1,12 +1,10 @@
 -- One turn of the loops that copy a list to the front of another.
 -- Assumes nothing.
-use mathlib.Core.Path.{_≡_, refl, sym, ap, _∙_}
-use mathlib.Core.List.{List, [], _∷_, _++_, append-nil}
-use Prim.Native.Nat.{ℕ, zero, suc, _+_, _-_, _/_, _%_, _^_, _≤_, _<_}
+use Rattle.basics.proofs.Kit.{_≡_, refl, sym, ap, _∙_, List, [], _∷_, _++_, ℕ, zero, suc, _+_, _-_, _/_, _%_, _^_, _≤_, _<_, arith, length, getD, take, drop, set}
+use mathlib.Core.List.{append-nil}
 use native.Mathlib.Nat.{not-suc-le-zero, le-of-suc-le-suc}
 use native.Mathlib.Numerals.{add-one}
-use native.Mathlib.Omega.{arith}
-use lib.ListN.{length, getD, take, drop, set, drop-of-length-le}
+use lib.ListN.{drop-of-length-le}
 use lib.Seq.{take-all, drop-cons}
 use Rattle.field.specs.Field.{xor}
 use Rattle.code.specs.Bits.{bits-of}

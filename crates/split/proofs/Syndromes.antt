@@ -1,16 +1,12 @@
 -- The syndromes of a word as the program computes them, for up to four roots.
 -- Assumes nothing.
-use mathlib.Core.Path.{_≡_, refl, sym, ap, _∙_}
-use mathlib.Core.Bool.{true, false}
-use mathlib.Core.List.{List, _++_}
-use Prim.Native.Nat.{ℕ, zero, suc, _+_, _*_, _-_, _^_, _≤_, _<_}
-use native.Mathlib.Nat.{mul-zero, mul-one, add-zero, zero-add, add-suc, suc-add, mul-le-mul-right, not-suc-le-zero, le-of-suc-le-suc}
-use native.Mathlib.Omega.{arith}
-use lib.Dec.{leb, lit≤}
-use lib.ListN.{length, getD, take, drop, replicate}
+use Rattle.basics.proofs.Kit.{_≡_, refl, sym, ap, _∙_, true, false, List, _++_, ℕ, zero, suc, _+_, _-_, _*_, _^_, _≤_, _<_, arith, length, getD, take, drop, leb}
+use native.Mathlib.Nat.{mul-zero, add-zero, zero-add, add-suc, suc-add, mul-le-mul-right, not-suc-le-zero, le-of-suc-le-suc}
+use lib.Dec.{lit≤}
+use lib.ListN.{replicate}
 use lib.Seq.{take-all}
 use borrow.Author.Tests.{le-leb, lt-leb}
-use Rattle.field.specs.Field.{width-good, alpha}
+use Rattle.field.specs.Field.{width-good}
 use Rattle.code.specs.Code.{value-at, roots}
 use Rattle.code.specs.declared.Shape.{Shape}
 use Rattle.code.specs.Within.{Coded}

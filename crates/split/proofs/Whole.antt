@@ -1,12 +1,9 @@
 -- The output of a split, piece by piece: the layers with THE leaders of their cosets, end to end.
 -- Assumes nothing.
-use mathlib.Core.Path.{_≡_, sym, ap, _∙_}
-use mathlib.Core.Bool.{true}
-use mathlib.Core.List.{List, _++_, append-assoc}
-use Prim.Native.Nat.{ℕ, zero, suc, _+_, _-_, _*_, _≤_, _<_}
+use Rattle.basics.proofs.Kit.{_≡_, sym, ap, _∙_, true, List, _++_, ℕ, zero, suc, _+_, _-_, _*_, _≤_, _<_, arith, length, getD, take, drop}
+use mathlib.Core.List.{append-assoc}
 use native.Mathlib.Nat.{not-suc-le-zero, le-of-suc-le-suc, zero-mul, suc-mul, add-zero, zero-add, add-suc, suc-add, mul-comm, mul-le-mul-right}
-use native.Mathlib.Omega.{arith}
-use lib.ListN.{length, getD, take, drop, replicate, length-append, length-take, length-drop, List·getD-append}
+use lib.ListN.{replicate, length-append, length-take, length-drop, List·getD-append}
 use lib.Seq.{take-at, drop-at, drop-append-add, take-add, drop-drop, length-take-le}
 use borrow.Rule.Slice.PartMut.{putMid}
 use Rattle.code.specs.Code.{code-good, width, roots, long}

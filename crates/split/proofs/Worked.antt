@@ -1,8 +1,6 @@
 -- The configurations on record (document 01, 'Values on record'), from the definitions.
 -- Assumes nothing.
-use mathlib.Core.Path.{_≡_, refl}
-use mathlib.Core.Bool.{true}
-use mathlib.Core.List.{[], _∷_}
+use Rattle.basics.proofs.Kit.{_≡_, refl, true, [], _∷_}
 use Rattle.field.specs.Field.{xor, times, times-from, doubled, alpha}
 use Rattle.code.specs.Code.{width, roots, long, value-from, value-at, vanishes, symbols-good, is-codeword}
 use Rattle.split.specs.Split.{layer, number, syndrome, syndromes, syndromes-from}

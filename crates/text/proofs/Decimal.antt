@@ -1,13 +1,8 @@
 -- Decimal digits: a number's digits are those of its tenth part and its last one, and a number below 10^k has at most k of them.
 -- Assumes nothing.
-use mathlib.Core.Path.{_≡_, refl, ap}
-use mathlib.Core.Bool.{Bool, true, false, cond}
-use mathlib.Core.List.{[], _∷_, _++_}
-use Prim.Native.Nat.{ℕ, zero, suc, _*_, _/_, _%_, _^_, _≤_, _<_}
+use Rattle.basics.proofs.Kit.{_≡_, refl, ap, Bool, true, false, cond, [], _∷_, _++_, ℕ, zero, suc, _*_, _/_, _%_, _^_, _≤_, _<_, arith, length, ltb}
 use native.Mathlib.Nat.{pow-succ'}
-use native.Mathlib.Omega.{arith}
-use lib.Dec.{ltb}
-use lib.ListN.{length, length-append}
+use lib.ListN.{length-append}
 use borrow.Author.Tests.{ltb-true, ltb-false, lt-ltb, le-ltb}
 use Rattle.text.specs.Text.{digit, decimal-from, decimal}
 

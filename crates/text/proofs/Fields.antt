@@ -1,17 +1,14 @@
 -- The fields of a line: decided bits one by one, signs, the least magnitude, and verdicts.
 -- Assumes nothing.
-use mathlib.Core.Path.{_≡_, refl, sym, ap, _∙_}
-use mathlib.Core.Bool.{true, false, cond, false≢true}
-use mathlib.Core.List.{List, [], _∷_, _++_, append-assoc}
-use Prim.Native.Nat.{ℕ, zero, suc, _+_, _^_, _≤_, _<_, min}
+use Rattle.basics.proofs.Kit.{_≡_, refl, sym, ap, _∙_, true, false, cond, List, [], _∷_, _++_, ℕ, zero, suc, _+_, _^_, _≤_, _<_, min, arith, length, getD, drop, ℤ, pos, negsuc, natAbs, _-ℤ_}
+use mathlib.Core.Bool.{false≢true}
+use mathlib.Core.List.{append-assoc}
 use native.Mathlib.Nat.{zero-add}
 use native.Mathlib.Numerals.{add-one}
-use native.Mathlib.Omega.{arith}
 use borrow.Author.Tests.{ltb-true, le-ltb}
 use lib.Dec.{T}
-use lib.ListN.{length, getD, drop, drop-of-length-le}
+use lib.ListN.{drop-of-length-le}
 use lib.Seq.{drop-cons}
-use lib.IntN.{ℤ, pos, negsuc, natAbs, _-ℤ_}
 use lib.Signed.{ltZ, nonNeg}
 use mir.Syntax.{w16, w32, w64}
 use mir.Val.{SFits, Fits, toZ, ofZ}

@@ -1,12 +1,9 @@
 -- A question's line is the parts in which it is written, and every line has a bounded length.
 -- Assumes nothing.
-use mathlib.Core.Path.{_≡_}
-use mathlib.Core.List.{List, [], _∷_, _++_, append-assoc}
-use Prim.Native.Nat.{ℕ, zero, suc, _+_, _^_, _≤_, _<_, min}
-use native.Mathlib.Omega.{arith}
+use Rattle.basics.proofs.Kit.{_≡_, List, [], _∷_, _++_, ℕ, zero, suc, _+_, _^_, _≤_, _<_, min, arith, length, getD, ℤ, pos, negsuc, natAbs}
+use mathlib.Core.List.{append-assoc}
 use lib.Dec.{lit≤}
-use lib.ListN.{length, getD, length-append}
-use lib.IntN.{ℤ, pos, negsuc, natAbs}
+use lib.ListN.{length-append}
 use Rattle.metric.specs.Cost.{costZero, costOne}
 use Rattle.metric.specs.Metric.{is-neg}
 use Rattle.text.specs.Text.{feed, space, decimal, sign, signed, line, none-word, short-word, best-word, question-word, refused-word, verdict-field, shortfall-field, bits-field, least-from, least-magnitude, question-line, count-line, refused-line}

@@ -1,12 +1,10 @@
 -- Texts written one behind the other are one text, and a stored byte is a text of one.
 -- Assumes nothing.
-use mathlib.Core.Path.{_≡_, ap, ap₂, _∙_}
-use mathlib.Core.List.{List, [], _∷_, _++_, append-assoc}
-use Prim.Native.Nat.{ℕ, _+_, _≤_, _<_}
+use Rattle.basics.proofs.Kit.{_≡_, ap, ap₂, _∙_, List, [], _∷_, _++_, ℕ, _+_, _≤_, _<_, arith, length, getD, take, drop, set}
+use mathlib.Core.List.{append-assoc}
 use native.Mathlib.Nat.{add-zero, add-suc, add-assoc}
 use native.Mathlib.Numerals.{add-one}
-use native.Mathlib.Omega.{arith}
-use lib.ListN.{length, take, drop, set, getD, length-append, length-drop, take-append-drop}
+use lib.ListN.{length-append, length-drop, take-append-drop}
 use lib.Seq.{length-take-le, take-at, drop-append-add, drop-drop, set-split, take-suc, take-all}
 use Rattle.text.specs.Within.{put, Written}
 

@@ -1,10 +1,8 @@
 -- The least of finitely many numbers and a cap.
 -- Assumes nothing.
-use mathlib.Core.Path.{_≡_, refl, ap}
+use Rattle.basics.proofs.Kit.{_≡_, refl, ap, ℕ, zero, suc, _≤_, _<_, min, arith}
 use mathlib.Core.Logic.{_⊎_, inl, inr}
-use Prim.Native.Nat.{ℕ, zero, suc, _≤_, _<_, min}
 use native.Mathlib.Nat.{not-suc-le-zero, eq-or-lt-of-le, le-of-suc-le-suc, le-antisymm}
-use native.Mathlib.Omega.{arith}
 use native.Mathlib.Decide.{decLe}
 use Rattle.trellis.specs.Trellis.{leastOf}
 

@@ -1,9 +1,6 @@
 -- Two rows side by side, s and s + 1 with s even, past a column: they lead to two rows that stand side by side as well.
 -- Assumes nothing.
-use mathlib.Core.Path.{_≡_, sym, ap, ap₂, _∙_}
-use mathlib.Core.List.{List}
-use Prim.Native.Nat.{ℕ, zero, suc, _+_, _*_, _%_, _/_, _^_, _<_}
-use native.Mathlib.Omega.{arith}
+use Rattle.basics.proofs.Kit.{_≡_, sym, ap, ap₂, _∙_, List, ℕ, zero, suc, _+_, _*_, _/_, _%_, _^_, _<_, arith}
 use native.Mathlib.Nat.{pow-succ'}
 use lib.Bits.{xor-block}
 use Rattle.field.specs.Field.{xor}

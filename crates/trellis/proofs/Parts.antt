@@ -1,10 +1,7 @@
 -- A part of a list that was lent and comes back changed: what stands in it, before it and after it.
 -- Assumes nothing.
-use mathlib.Core.Path.{_≡_, sym, _∙_}
-use mathlib.Core.List.{List, _++_}
-use Prim.Native.Nat.{ℕ, _+_, _≤_, _<_}
-use native.Mathlib.Omega.{arith}
-use lib.ListN.{length, getD, take, drop, length-drop, List·getD-append}
+use Rattle.basics.proofs.Kit.{_≡_, sym, _∙_, List, _++_, ℕ, _+_, _≤_, _<_, arith, length, getD, take, drop}
+use lib.ListN.{length-drop, List·getD-append}
 use lib.Seq.{getD-take, getD-drop, getD-append-add, length-take-le}
 use borrow.Rule.Slice.PartMut.{putMid, same-len-mid}
 

@@ -1,11 +1,7 @@
 -- One column from the back, two rows at a time: what a turn of the loops asks, and what it leaves.
 -- Assumes nothing.
-use mathlib.Core.Path.{_≡_, refl, ap, _∙_}
-use mathlib.Core.List.{List}
-use Prim.Native.Nat.{ℕ, _+_, _*_, _≤_, _<_}
-use native.Mathlib.Omega.{arith}
+use Rattle.basics.proofs.Kit.{_≡_, refl, ap, _∙_, List, ℕ, _+_, _*_, _≤_, _<_, arith, length, getD}
 use native.Mathlib.Decide.{decLe}
-use lib.ListN.{length, getD}
 use Rattle.field.specs.Field.{xor}
 use Rattle.trellis.specs.Trellis.{step, either}
 use Rattle.lanes.specs.Lanes.{entry, lane, rows, two, twofold, sum, less, put-two, limit}

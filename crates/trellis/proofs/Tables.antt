@@ -1,12 +1,8 @@
 -- All the tables from the back: the one behind the last column, and one column more at each turn.
 -- Assumes nothing.
-use mathlib.Core.Path.{_≡_, refl, sym, ap, _∙_}
-use mathlib.Core.List.{List, [], _∷_}
-use Prim.Native.Nat.{ℕ, zero, suc, _+_, _-_, _*_, _^_, _≤_, _<_}
+use Rattle.basics.proofs.Kit.{_≡_, refl, sym, ap, _∙_, List, [], _∷_, ℕ, zero, suc, _+_, _-_, _*_, _^_, _≤_, _<_, arith, length, getD, take, drop}
 use native.Mathlib.Nat.{suc-mul, mul-le-mul-right, sub-le, sub-self}
-use native.Mathlib.Omega.{arith}
 use native.Mathlib.Decide.{decLe}
-use lib.ListN.{length, getD, take, drop}
 use Rattle.field.specs.Field.{xor}
 use Rattle.field.proofs.Xor as X
 use Rattle.trellis.specs.Trellis.{Columns, step, either, back, free, final}

@@ -1,16 +1,13 @@
 -- The trace, symbol by symbol: each layer's bits are those of its own trace.
 -- Assumes nothing.
-use mathlib.Core.Path.{_≡_, refl, sym, ap, ap₂, _∙_}
-use mathlib.Core.List.{List, [], _∷_, _++_, append-assoc, append-nil}
-use Prim.Native.Nat.{ℕ, zero, suc, _+_, _-_, _*_, _^_, _≤_, _<_}
+use Rattle.basics.proofs.Kit.{_≡_, refl, sym, ap, ap₂, _∙_, List, [], _∷_, _++_, ℕ, zero, suc, _+_, _-_, _*_, _^_, _≤_, _<_, arith, length, getD, take, drop, set, leb}
+use mathlib.Core.List.{append-assoc, append-nil}
 use native.Mathlib.Nat.{suc-mul, mul-le-mul-right}
-use native.Mathlib.Omega.{arith}
-use lib.Dec.{leb}
-use lib.ListN.{length, getD, take, drop, set, length-set}
+use lib.ListN.{length-set}
 use lib.Seq.{take-suc-set, take-all}
 use Rattle.field.specs.Field.{xor}
 use Rattle.field.proofs.Xor as X
-use Rattle.trellis.specs.Trellis.{pick, back, free, final, bit, choice, trace}
+use Rattle.trellis.specs.Trellis.{pick, back, free, final, bit, choice}
 use Rattle.lanes.specs.Lanes.{entry, lane, lanes, row}
 use Rattle.trellis.specs.Rows.{front, at-table, layer, Layers, chosen, symbol, traced, Bit, TraceRow, picked, Trace}
 use Rattle.trellis.proofs.Parts.{part-at, part-long}

@@ -1,9 +1,5 @@
 -- What `judge_sheet` answers tells a refusal from a count, as refusals are below 100. Assumes nothing.
-use mathlib.Core.Path.{_≡_, refl}
-use mathlib.Core.List.{List}
-use Prim.Native.Nat.{ℕ, zero, suc, _-_, _<_, _≤_}
-use native.Mathlib.Omega.{arith}
-use lib.ListN.{length}
+use Rattle.basics.proofs.Kit.{_≡_, refl, List, ℕ, zero, suc, _-_, _≤_, _<_, arith, length}
 use Rattle.refusal.specs.Refusal.{Outcome}
 use Rattle.sheet.specs.Sheet.{sheet-refusal, questions}
 use Rattle.sheet.specs.Calls.{judgement, judged}

@@ -1,11 +1,6 @@
 -- The table of specs/Values.antt, from the definitions: what is finite is computed, and a message has one codeword.
 -- Assumes nothing.
-use mathlib.Core.Path.{_≡_, refl, ap, _∙_}
-use mathlib.Core.Bool.{true}
-use mathlib.Core.List.{List}
-use Prim.Native.Nat.{ℕ}
-use native.Mathlib.Omega.{arith}
-use lib.ListN.{length}
+use Rattle.basics.proofs.Kit.{_≡_, refl, ap, _∙_, true, List, ℕ, arith, length}
 use Rattle.field.specs.Field.{xor, times, times-from, doubled, alpha}
 use Rattle.code.specs.Code.{code-good, number-refusal, width, roots, long, message-long, value-from, value-at, vanishes, symbols-good, is-codeword, message}
 use Rattle.code.specs.Bits.{row-long}

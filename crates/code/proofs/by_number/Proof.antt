@@ -1,8 +1,7 @@
 -- `code::by_number` meets its contract.
 -- Assumes nothing.
-use mathlib.Core.Path.{refl, _∙_}
+use Rattle.basics.proofs.Kit.{refl, _∙_, needs}
 use Rattle.refusal.proofs.Tests.{link}
-use borrow.Author.Needs.{needs}
 use Rattle.code.specs.Code.{number-refusal}
 use Rattle.code.proofs.by_number.Statement.{statement}
 use Rattle.code.proofs.by_number.Tie as tie

@@ -1,8 +1,6 @@
 -- `code::check_word` meets its contract.
 -- Assumes nothing.
-use mathlib.Core.Path.{_≡_, sym, _∙_}
-use mathlib.Core.Bool.{true, false}
-use borrow.Author.Needs.{needs}
+use Rattle.basics.proofs.Kit.{_≡_, sym, _∙_, true, false, needs}
 use Rattle.refusal.specs.Refusal.{first}
 use Rattle.refusal.proofs.Tests.{first-none}
 use Rattle.code.specs.Code.{number-refusal, width, is-codeword}

@@ -1,10 +1,7 @@
 -- `code::copy` meets its contract.
 -- Assumes nothing.
-use mathlib.Core.List.{List, _++_}
-use mathlib.Core.Path.{ap, _≡_, refl, _∙_}
-use Prim.Native.Nat.{ℕ, _≤_, _-_}
-use lib.ListN.{getD, set, length-set, length, take, drop}
-use borrow.Author.Needs.{needs}
+use Rattle.basics.proofs.Kit.{_≡_, refl, ap, _∙_, List, _++_, ℕ, _-_, _≤_, needs, length, getD, take, drop, set}
+use lib.ListN.{length-set}
 use Rattle.code.proofs.Loops.{copy-step, copy-done}
 use Rattle.code.proofs.copy.Statement.{statement}
 use Rattle.code.proofs.copy.Tie as tie

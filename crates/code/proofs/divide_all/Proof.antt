@@ -1,7 +1,6 @@
 -- `code::divide_all` meets its contract: the message divided by t of them.
 -- Assumes nothing.
-use Prim.Native.Nat.{_-_}
-use borrow.Author.Needs.{needs}
+use Rattle.basics.proofs.Kit.{_-_, needs}
 use Rattle.field.proofs.Field as F
 use Rattle.code.proofs.Roots.{Dividing, dividing-start, dividing-end, dividing-turn}
 use Rattle.code.proofs.divide_all.Statement.{statement}

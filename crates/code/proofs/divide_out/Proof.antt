@@ -1,10 +1,6 @@
 -- `code::divide_out` meets its contract.
 -- Assumes nothing.
-use mathlib.Core.Path.{ap, _∙_}
-use Prim.Native.Nat.{_-_}
-use native.Mathlib.Omega.{arith}
-use lib.ListN.{getD}
-use borrow.Author.Needs.{needs}
+use Rattle.basics.proofs.Kit.{ap, _∙_, _-_, arith, needs, getD}
 use Rattle.field.specs.Field.{xor}
 use Rattle.code.specs.Division.{tails, horner}
 use Rattle.code.proofs.Sweeps.{Divided, divide-start, divide-turn, divide-inside, finish}

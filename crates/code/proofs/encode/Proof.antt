@@ -1,11 +1,6 @@
 -- `code::encode` meets its contract.
 -- Assumes nothing.
-use mathlib.Core.Path.{_≡_, refl, sym, _∙_}
-use mathlib.Core.Bool.{true}
-use mathlib.Core.List.{List}
-use Prim.Native.Nat.{ℕ}
-use borrow.Author.Needs.{needs}
-use lib.ListN.{length}
+use Rattle.basics.proofs.Kit.{_≡_, refl, sym, _∙_, true, List, ℕ, needs, length}
 use Rattle.refusal.specs.Refusal.{first}
 use Rattle.refusal.proofs.Tests.{first-none}
 use Rattle.code.specs.Code.{number-refusal, width, roots, is-codeword, message}

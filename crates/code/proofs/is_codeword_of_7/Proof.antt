@@ -1,7 +1,6 @@
 -- `code::is_codeword_of_7` meets its contract: the roots decide, by the tables of the field.
 -- Assumes nothing.
-use mathlib.Core.Path.{_∙_}
-use borrow.Author.Needs.{needs}
+use Rattle.basics.proofs.Kit.{_∙_, needs}
 use Rattle.field.proofs.Tables.{tables-3}
 use Rattle.code.proofs.Loops.{roots-decide}
 use Rattle.code.proofs.is_codeword_of_7.Statement.{statement}

@@ -1,8 +1,6 @@
 -- `code::member_refusal` meets its contract.
 -- Assumes nothing.
-use mathlib.Core.Path.{_≡_, refl, sym, ap, _∙_}
-use lib.Dec.{eqb}
-use borrow.Author.Needs.{needs}
+use Rattle.basics.proofs.Kit.{_≡_, refl, sym, ap, _∙_, needs, eqb}
 use Rattle.refusal.proofs.Tests.{link, first-refuses, first-passes}
 use Rattle.code.specs.Calls.{word-refusal, member-refusal}
 use Rattle.code.proofs.Accepted.{word-accepts}

@@ -1,9 +1,6 @@
 -- `code::multiply_all` meets its contract: multiplied by those above t, from place t on.
 -- Assumes nothing.
-use mathlib.Core.Path.{_≡_}
-use Prim.Native.Nat.{_-_, _+_}
-use native.Mathlib.Omega.{arith}
-use borrow.Author.Needs.{needs}
+use Rattle.basics.proofs.Kit.{_≡_, _+_, _-_, arith, needs}
 use Rattle.field.proofs.Field as F
 use Rattle.code.proofs.Roots.{Multiplying, multiplying-start, multiplying-end, multiplying-turn}
 use Rattle.code.proofs.multiply_all.Statement.{statement}

@@ -1,14 +1,10 @@
 -- `code::multiply_at` meets its contract.
 -- Assumes nothing.
-use mathlib.Core.Path.{ap₂, ap, _∙_}
-use mathlib.Core.Bool.{Bool, _&&_}
-use mathlib.Core.List.{List, _++_}
-use Prim.Native.Nat.{_-_, _^_, ℕ}
-use lib.ListN.{length, set, take, length-set}
+use Rattle.basics.proofs.Kit.{ap, ap₂, _∙_, Bool, _&&_, List, _++_, ℕ, _-_, _^_, needs, length, take, set}
+use lib.ListN.{length-set}
 use lib.Pow.{pow-pos}
 use borrow.Author.Tests.{lt-ltb}
 use borrow.Rule.Slice.PartMut.{same-len-mid}
-use borrow.Author.Needs.{needs}
 use Rattle.code.specs.Code.{symbols-good}
 use Rattle.code.specs.Division.{spread}
 use Rattle.code.proofs.Parts.{cleared, put-cleared}

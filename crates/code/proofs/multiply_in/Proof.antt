@@ -1,10 +1,6 @@
 -- `code::multiply_in` meets its contract.
 -- Assumes nothing.
-use mathlib.Core.Path.{ap, refl, _∙_}
-use Prim.Native.Nat.{_-_}
-use native.Mathlib.Omega.{arith}
-use lib.ListN.{getD}
-use borrow.Author.Needs.{needs}
+use Rattle.basics.proofs.Kit.{refl, ap, _∙_, _-_, arith, needs, getD}
 use Rattle.field.specs.Field.{xor}
 use Rattle.code.specs.Division.{spread}
 use Rattle.code.proofs.Sweeps.{Spread, spread-start, spread-turn, spread-inside, finish, first}

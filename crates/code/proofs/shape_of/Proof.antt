@@ -1,14 +1,10 @@
 -- `code::shape_of` meets its contract.
 -- Assumes nothing.
-use mathlib.Core.Path.{_≡_, refl, ap, _∙_}
-use mathlib.Core.Bool.{true}
-use Prim.Native.Nat.{ℕ, _+_, _-_, _*_, _%_, _^_, _≤_, _<_}
+use Rattle.basics.proofs.Kit.{_≡_, refl, ap, _∙_, true, ℕ, _-_, _<_, arith, needs}
 use native.Mathlib.Nat.{one-mul, mod-eq-of-lt}
-use native.Mathlib.Omega.{arith}
 use lib.Pow.{pow-lt}
-use borrow.Author.Needs.{needs}
 use Rattle.field.specs.Field.{width-good}
-use Rattle.code.specs.Code.{width, roots, long, message-long}
+use Rattle.code.specs.Code.{long, message-long}
 use Rattle.code.proofs.Accepted.{width-fine, roots-few, coded, syndrome-short}
 use Rattle.code.proofs.shape_of.Statement.{statement}
 use Rattle.code.proofs.shape_of.Tie as tie

@@ -1,10 +1,6 @@
 -- `code::symbols_good` meets its contract: what is left of the word is as good as the whole.
 -- Assumes nothing.
-use mathlib.Core.Path.{_≡_, refl, sym, _∙_}
-use Prim.Native.Nat.{_≤_, _-_}
-use lib.ListN.{length, drop}
-use native.Mathlib.Omega.{arith}
-use borrow.Author.Needs.{needs}
+use Rattle.basics.proofs.Kit.{_≡_, refl, sym, _∙_, _-_, _≤_, arith, needs, length, drop}
 use Rattle.code.specs.Code.{symbols-good}
 use Rattle.code.proofs.Loops.{symbol-good, symbol-bad, symbols-none}
 use Rattle.code.proofs.symbols_good.Statement.{statement}

@@ -1,8 +1,6 @@
 -- `code::syndrome_long_of` meets its contract.
 -- Assumes nothing.
-use Prim.Native.Nat.{_≤_, _<_}
-use native.Mathlib.Omega.{arith}
-use borrow.Author.Needs.{needs}
+use Rattle.basics.proofs.Kit.{_≤_, _<_, arith}
 use borrow.Author.Tests.{lt-leb, le-leb, eq-eqb, ne-eqb}
 use Rattle.code.proofs.Accepted.{width-small}
 use Rattle.code.proofs.syndrome_long_of.Statement.{statement}

@@ -1,8 +1,6 @@
 -- `code::value` meets its contract: Horner's rule, from the top symbol down.
 -- Assumes nothing.
-use Prim.Native.Nat.{_-_}
-use native.Mathlib.Omega.{arith}
-use borrow.Author.Needs.{needs}
+use Rattle.basics.proofs.Kit.{_-_, arith, needs}
 use Rattle.code.specs.Code.{long}
 use Rattle.code.proofs.Loops.{Valued, value-start, value-inside, value-turn, value-end}
 use Rattle.code.proofs.value.Statement.{statement}

@@ -1,9 +1,6 @@
 -- `code::vanishes` meets its contract: the roots from α^t on are those that are left.
 -- Assumes nothing.
-use mathlib.Core.Path.{_≡_, sym, ap, _∙_}
-use Prim.Native.Nat.{_≤_, _+_, _-_}
-use native.Mathlib.Omega.{arith}
-use borrow.Author.Needs.{needs}
+use Rattle.basics.proofs.Kit.{_≡_, sym, ap, _∙_, _+_, _-_, _≤_, arith, needs}
 use Rattle.code.specs.Code.{vanishes}
 use Rattle.code.proofs.Loops.{long-small, root-met, root-missed, roots-none}
 use Rattle.code.proofs.vanishes.Statement.{statement}

@@ -1,7 +1,6 @@
 -- `code::write_quotient` meets its contract.
 -- Assumes nothing.
-use mathlib.Core.Path.{ap, _∙_}
-use borrow.Author.Needs.{needs}
+use Rattle.basics.proofs.Kit.{ap, _∙_, needs}
 use Rattle.code.specs.Code.{symbols-good}
 use Rattle.code.specs.Division.{divided}
 use Rattle.code.proofs.write_quotient.Statement.{statement}

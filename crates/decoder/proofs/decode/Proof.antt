@@ -1,11 +1,9 @@
 -- `decoder::decode` meets its contract.
 -- Assumes nothing.
-use mathlib.Core.Path.{_≡_, refl, sym, _∙_}
+use Rattle.basics.proofs.Kit.{_≡_, refl, sym, _∙_, needs, length}
 use mir.Facts.{toZ-ofZ}
-use borrow.Author.Needs.{needs}
 use Rattle.refusal.proofs.Outcomes.{outcome-done, outcome-refused}
 use Rattle.refusal.proofs.Tests.{first-none}
-use lib.ListN.{length}
 use Rattle.refusal.specs.Refusal.{first}
 use Rattle.code.specs.Code.{number-refusal, width}
 use Rattle.code.proofs.Promise.{chosen-refusal}

@@ -1,7 +1,6 @@
 -- `decoder::decode_accepted` meets its contract: the tables have the length that the code needs.
 -- Assumes nothing.
-use mathlib.Core.Path.{sym}
-use borrow.Author.Needs.{needs}
+use Rattle.basics.proofs.Kit.{sym, needs}
 use Rattle.search.proofs.Tabling.{rooms}
 use Rattle.decoder.proofs.decode_accepted.Statement.{statement}
 use Rattle.decoder.proofs.decode_accepted.Tie as tie

@@ -1,9 +1,6 @@
 -- `decoder::decode_in` meets its contract.
 -- Assumes nothing.
-use mathlib.Core.Path.{_≡_, sym}
-use Prim.Native.Nat.{_*_, _≤_}
-use native.Mathlib.Omega.{arith}
-use borrow.Author.Needs.{needs}
+use Rattle.basics.proofs.Kit.{sym, _*_, _≤_, arith, needs}
 use lib.Seq.{length-take-le}
 use Rattle.search.proofs.Tabling.{short, size-small}
 use Rattle.decoder.proofs.Refusals.{caps}

@@ -1,9 +1,7 @@
 -- `decoder::decode_refusal` meets its contract.
 -- Assumes nothing.
-use mathlib.Core.Path.{refl, ap}
-use lib.Dec.{eqb}
+use Rattle.basics.proofs.Kit.{refl, ap, needs, eqb}
 use Rattle.refusal.proofs.Tests.{link}
-use borrow.Author.Needs.{needs}
 use Rattle.decoder.specs.Calls.{decode-refusal}
 use Rattle.decoder.proofs.decode_refusal.Statement.{statement}
 use Rattle.decoder.proofs.decode_refusal.Tie as tie

@@ -1,9 +1,6 @@
 -- `decoder::decode_with` meets its contract.
 -- Assumes nothing.
-use mathlib.Core.Path.{_∙_}
-use Prim.Native.Nat.{_≤_}
-use native.Mathlib.Omega.{arith}
-use borrow.Author.Needs.{needs}
+use Rattle.basics.proofs.Kit.{_∙_, _≤_, arith, needs}
 use mir.Facts.{toZ-ofZ}
 use Rattle.decoder.proofs.Decodings.{row-60, least-small, weight-small, rows-ok, decoding}
 use Rattle.decoder.proofs.decode_with.Statement.{statement}

@@ -1,10 +1,7 @@
 -- `decoder::soft_from` meets its contract.
 -- Assumes nothing.
 use Rattle.decoder.proofs.Writing.{soft-fits, minus-fits, narrow-fits, narrow-is}
-use lib.IntN.{pos, _-ℤ_}
-use native.Mathlib.Omega.{arith}
-use Prim.Native.Nat.{_*_}
-use borrow.Author.Needs.{needs}
+use Rattle.basics.proofs.Kit.{_*_, arith, needs, pos, _-ℤ_}
 use Rattle.decoder.proofs.soft_from.Statement.{statement}
 use Rattle.decoder.proofs.soft_from.Tie as tie
 

@@ -1,11 +1,7 @@
 -- `decoder::soft_row` meets its contract.
 -- Assumes nothing.
-use mathlib.Core.Path.{_≡_, refl}
-use Prim.Native.Nat.{_+_, _*_, _^_, _≤_, _<_}
-use native.Mathlib.Omega.{arith}
-use borrow.Author.Needs.{needs}
-use lib.IntN.{pos}
-use lib.ListN.{length, length-set}
+use Rattle.basics.proofs.Kit.{_≡_, refl, _+_, _*_, _^_, _≤_, _<_, arith, needs, length, pos}
+use lib.ListN.{length-set}
 use Rattle.decoder.proofs.Writing.{at-least, not-four, written-is, width-3, width-4}
 use Rattle.decoder.proofs.soft_row.Statement.{statement}
 use Rattle.decoder.proofs.soft_row.Tie as tie

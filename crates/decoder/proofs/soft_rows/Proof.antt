@@ -2,9 +2,7 @@
 -- Assumes nothing.
 use Rattle.decoder.proofs.Writing.{row-ok, rows-more, next}
 use Rattle.decoder.specs.Within.{Softened}
-use native.Mathlib.Omega.{arith}
-use Prim.Native.Nat.{_<_, _≤_, _-_, _*_}
-use mathlib.Core.Path.{_≡_, refl}
+use Rattle.basics.proofs.Kit.{_≡_, refl, _-_, _*_, _≤_, _<_, arith}
 use Rattle.decoder.proofs.soft_rows.Statement.{statement}
 use Rattle.decoder.proofs.soft_rows.Tie as tie
 

@@ -1,7 +1,6 @@
 -- `field::invert` meets its contract: the rest of a turn away from its exponent.
 -- Assumes nothing.
-use mathlib.Core.Path.{sym, _∙_}
-use borrow.Author.Needs.{needs}
+use Rattle.basics.proofs.Kit.{sym, _∙_, needs}
 use Rattle.field.proofs.Field as F
 use Rattle.field.proofs.Tables.{inverse-log}
 use Rattle.field.proofs.invert.Statement.{statement}

@@ -1,8 +1,6 @@
 -- `field::log` meets its contract: the table's rule.
 -- Assumes nothing.
-use mathlib.Core.Path.{_≡_}
-use Prim.Native.Nat.{_<_}
-use native.Mathlib.Omega.{arith}
+use Rattle.basics.proofs.Kit.{_≡_, _<_, arith}
 use Rattle.field.proofs.Tests.{not-three}
 use Rattle.field.proofs.Tables.{exponent-3, exponent-4}
 use Rattle.field.proofs.log.Statement.{statement}

@@ -1,8 +1,6 @@
 -- `field::multiply` meets its contract: exponents add.
 -- Assumes nothing.
-use mathlib.Core.Path.{sym, _∙_}
-use native.Mathlib.Omega.{arith}
-use borrow.Author.Needs.{needs}
+use Rattle.basics.proofs.Kit.{sym, _∙_, arith, needs}
 use Rattle.field.proofs.Field as F
 use Rattle.field.proofs.Tables.{size, product-log}
 use Rattle.field.proofs.multiply.Statement.{statement}

@@ -1,8 +1,6 @@
 -- `field::times_power` meets its contract: exponents add.
 -- Assumes nothing.
-use mathlib.Core.Path.{sym}
-use native.Mathlib.Omega.{arith}
-use borrow.Author.Needs.{needs}
+use Rattle.basics.proofs.Kit.{sym, arith, needs}
 use Rattle.field.specs.Field.{alpha}
 use Rattle.field.proofs.Field as F
 use Rattle.field.proofs.Tables.{size, short-of-turn, turn-off, past-turn}

@@ -1,8 +1,6 @@
 -- `field::two_refusal` meets its contract.
 -- Assumes nothing.
-use mathlib.Core.Path.{_≡_, refl, sym, _∙_}
-use mathlib.Core.Bool.{true}
-use borrow.Author.Needs.{needs}
+use Rattle.basics.proofs.Kit.{_≡_, refl, sym, _∙_, true, needs}
 use borrow.Author.Tests.{not-true, not-false}
 use Rattle.refusal.specs.Refusal.{unless}
 use Rattle.field.specs.Field.{width-good}

@@ -4,10 +4,7 @@ use Rattle.glue.proofs.Walks.{tuple-in, within}
 use Rattle.trellis.specs.Trellis.{leastOf}
 use native.Mathlib.Numerals.{add-one}
 use Rattle.glue.specs.Walk.{tuple, total, least-total}
-use native.Mathlib.Omega.{arith}
-use Prim.Native.Nat.{ℕ, _<_, _≤_, _-_, _+_, min}
-use mathlib.Core.List.{List}
-use mathlib.Core.Path.{_≡_, sym, ap, ap₂, _∙_, refl}
+use Rattle.basics.proofs.Kit.{_≡_, refl, sym, ap, ap₂, _∙_, List, ℕ, _+_, _-_, _≤_, _<_, min, arith}
 use Rattle.glue.proofs.least_of.Statement.{statement}
 use Rattle.glue.proofs.least_of.Tie as tie
 

@@ -1,12 +1,7 @@
 -- `glue::lower` meets its contract.
 -- Assumes nothing.
 use Rattle.glue.proofs.Tuples.{kept, less-set}
-use lib.ListN.{length, getD}
-use native.Mathlib.Omega.{arith}
-use Prim.Native.Nat.{ℕ, suc, _<_, _≤_, _-_, _+_, _*_}
-use mathlib.Core.List.{List}
-use mathlib.Core.Path.{_≡_, sym, ap, ap₂, _∙_, subst, refl}
-use borrow.Author.Needs.{needs}
+use Rattle.basics.proofs.Kit.{_+_, _-_, _*_, needs}
 use Rattle.glue.proofs.lower.Statement.{statement}
 use Rattle.glue.proofs.lower.Tie as tie
 

@@ -1,11 +1,7 @@
 -- `glue::subtract` meets its contract.
 -- Assumes nothing.
 use Rattle.glue.proofs.Walks.{Taken, taken-more}
-use lib.ListN.{length, getD}
-use native.Mathlib.Omega.{arith}
-use Prim.Native.Nat.{ℕ, suc, _<_, _≤_, _-_, _+_, _*_}
-use mathlib.Core.List.{List}
-use mathlib.Core.Path.{_≡_, sym, ap, ap₂, _∙_, subst, refl}
+use Rattle.basics.proofs.Kit.{_≡_, refl, _-_, _≤_, _<_, arith, length}
 use Rattle.glue.proofs.subtract.Statement.{statement}
 use Rattle.glue.proofs.subtract.Tie as tie
 

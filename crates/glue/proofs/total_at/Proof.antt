@@ -1,7 +1,6 @@
 -- `glue::total_at` meets its contract.
 -- Assumes nothing.
-use borrow.Author.Needs.{needs}
-use mathlib.Core.Path.{ap, _∙_}
+use Rattle.basics.proofs.Kit.{ap, _∙_, needs}
 use Rattle.glue.specs.Walk.{total}
 use Rattle.glue.proofs.total_at.Statement.{statement}
 use Rattle.glue.proofs.total_at.Tie as tie

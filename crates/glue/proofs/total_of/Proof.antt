@@ -1,12 +1,7 @@
 -- `glue::total_of` meets its contract.
 -- Assumes nothing.
 use Rattle.glue.specs.Walk.{total}
-use lib.ListN.{length, getD}
-use native.Mathlib.Omega.{arith}
-use Prim.Native.Nat.{ℕ, suc, _<_, _≤_, _-_, _+_, _*_}
-use mathlib.Core.List.{List}
-use mathlib.Core.Path.{_≡_, sym, ap, ap₂, _∙_, subst, refl}
-use borrow.Author.Needs.{needs}
+use Rattle.basics.proofs.Kit.{_-_, arith, needs}
 use Rattle.glue.proofs.total_of.Statement.{statement}
 use Rattle.glue.proofs.total_of.Tie as tie
 

@@ -1,12 +1,7 @@
 -- `glue::visit` meets its contract.
 -- Assumes nothing.
 use Rattle.glue.specs.Walk.{lower-at, lowered}
-use lib.ListN.{length, getD}
-use native.Mathlib.Omega.{arith}
-use Prim.Native.Nat.{ℕ, suc, _<_, _≤_, _-_, _+_, _*_}
-use mathlib.Core.List.{List}
-use mathlib.Core.Path.{_≡_, sym, ap, ap₂, _∙_, subst, refl}
-use borrow.Author.Needs.{needs}
+use Rattle.basics.proofs.Kit.{ap, _∙_, List, ℕ, _+_, _-_, _*_, needs, getD}
 use Rattle.glue.proofs.visit.Statement.{statement}
 use Rattle.glue.proofs.visit.Tie as tie
 

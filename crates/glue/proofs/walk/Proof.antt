@@ -1,14 +1,8 @@
 -- `glue::walk` meets its contract.
 -- Assumes nothing.
 use Rattle.glue.proofs.Walks.{Walking, walk-start, tuple-in, within, walk-more, walk-end}
-use lib.Dec.{ltb}
-use mathlib.Core.Bool.{cond}
+use Rattle.basics.proofs.Kit.{_≡_, ap, _∙_, cond, ℕ, _-_, _≤_, _<_, min, arith, ltb}
 use Rattle.glue.specs.Walk.{total, tuple}
-use lib.ListN.{length, getD}
-use native.Mathlib.Omega.{arith}
-use Prim.Native.Nat.{ℕ, suc, _<_, _≤_, _-_, _+_, _*_, min}
-use mathlib.Core.List.{List}
-use mathlib.Core.Path.{_≡_, sym, ap, ap₂, _∙_, subst, refl}
 use Rattle.glue.proofs.walk.Statement.{statement}
 use Rattle.glue.proofs.walk.Tie as tie
 

@@ -1,9 +1,7 @@
 -- `lanes::lesser` meets its contract.
 -- Assumes nothing.
-use native.Mathlib.Omega.{arith}
-use borrow.Author.Needs.{needs}
+use Rattle.basics.proofs.Kit.{refl, arith, needs}
 use Rattle.lanes.specs.Lanes.{less}
-use mathlib.Core.Path.{refl}
 use Rattle.lanes.proofs.lesser.Statement.{statement}
 use Rattle.lanes.proofs.lesser.Tie as tie
 

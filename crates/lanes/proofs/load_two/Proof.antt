@@ -1,6 +1,5 @@
 -- `lanes::load_two` meets its contract.
 -- Assumes nothing.
-use native.Mathlib.Omega.{arith}
 use borrow.Author.Needs.{needs}
 use Rattle.lanes.specs.Lanes.{rows}
 use Rattle.lanes.proofs.load_two.Statement.{statement}

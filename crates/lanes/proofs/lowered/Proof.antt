@@ -2,10 +2,7 @@
 -- Assumes nothing.
 use Rattle.lanes.proofs.Rows.{small-sum}
 use Rattle.lanes.specs.Lanes.{less}
-use native.Mathlib.Omega.{arith}
-use Prim.Native.Nat.{_<_, _≤_, _-_}
-use mathlib.Core.Path.{_≡_, sym, ap, ap₂, _∙_, subst}
-use borrow.Author.Needs.{needs}
+use Rattle.basics.proofs.Kit.{ap, _∙_, _-_, needs}
 use Rattle.lanes.proofs.lowered.Statement.{statement}
 use Rattle.lanes.proofs.lowered.Tie as tie
 

@@ -5,12 +5,8 @@ use mir.Facts.{toZ-pos}
 use mir.Val.{toZ}
 use mir.Syntax.{w16}
 use lib.Signed.{leZ}
-use lib.Dec.{leb}
-use Prim.Native.Nat.{ℕ, _<_}
-use mathlib.Core.Path.{_≡_, sym, ap₂, _∙_}
+use Rattle.basics.proofs.Kit.{_≡_, sym, ap₂, _∙_, ℕ, _<_, arith, needs, leb}
 use borrow.Author.Tests.{leb-true, leb-false}
-use native.Mathlib.Omega.{arith}
-use borrow.Author.Needs.{needs}
 use Rattle.lanes.proofs.min_of.Statement.{statement}
 use Rattle.lanes.proofs.min_of.Tie as tie
 

@@ -1,7 +1,6 @@
 -- `lanes::plus` meets its contract.
 -- Assumes nothing.
-use native.Mathlib.Omega.{arith}
-use borrow.Author.Needs.{needs}
+use Rattle.basics.proofs.Kit.{arith, needs}
 use Rattle.lanes.specs.Lanes.{sum}
 use Rattle.lanes.proofs.plus.Statement.{statement}
 use Rattle.lanes.proofs.plus.Tie as tie

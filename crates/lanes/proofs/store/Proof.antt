@@ -2,8 +2,7 @@
 -- Assumes nothing.
 use Rattle.lanes.specs.Lanes.{put}
 use lib.ListN.{length-set}
-use native.Mathlib.Omega.{arith}
-use borrow.Author.Needs.{needs}
+use Rattle.basics.proofs.Kit.{arith, needs}
 use Rattle.lanes.proofs.store.Statement.{statement}
 use Rattle.lanes.proofs.store.Tie as tie
 

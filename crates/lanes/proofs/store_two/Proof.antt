@@ -1,7 +1,6 @@
 -- `lanes::store_two` meets its contract.
 -- Assumes nothing.
-use native.Mathlib.Omega.{arith}
-use borrow.Author.Needs.{needs}
+use Rattle.basics.proofs.Kit.{arith, needs}
 use lib.ListN.{length-set}
 use Rattle.lanes.specs.Lanes.{put, put-two}
 use Rattle.lanes.proofs.store_two.Statement.{statement}

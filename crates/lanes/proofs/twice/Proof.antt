@@ -1,6 +1,5 @@
 -- `lanes::twice` meets its contract.
 -- Assumes nothing.
-use native.Mathlib.Omega.{arith}
 use borrow.Author.Needs.{needs}
 use Rattle.lanes.specs.Lanes.{twofold}
 use Rattle.lanes.proofs.twice.Statement.{statement}

@@ -1,7 +1,6 @@
 -- `lent_reader::yield_at` meets its contract: a question that was found is one of at most 200, so the place behind it fits.
 -- Assumes nothing.
-use native.Mathlib.Omega.{arith}
-use borrow.Author.Needs.{needs}
+use Rattle.basics.proofs.Kit.{arith, needs}
 use Rattle.lent_reader.proofs.Order.{found-inside}
 use Rattle.lent_reader.proofs.yield_at.Statement.{statement}
 use Rattle.lent_reader.proofs.yield_at.Tie as tie

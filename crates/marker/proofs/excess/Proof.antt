@@ -1,7 +1,6 @@
 -- `marker::excess` meets its contract: the tables have the length that the code needs.
 -- Assumes nothing.
-use mathlib.Core.Path.{sym}
-use borrow.Author.Needs.{needs}
+use Rattle.basics.proofs.Kit.{sym, needs}
 use Rattle.search.proofs.Tabling.{rooms}
 use Rattle.marker.proofs.excess.Statement.{statement}
 use Rattle.marker.proofs.excess.Tie as tie

@@ -1,9 +1,6 @@
 -- `marker::excess_in` meets its contract: the rooms are cut to the lengths of the code.
 -- Assumes nothing.
-use mathlib.Core.Path.{sym}
-use Prim.Native.Nat.{_*_, _≤_}
-use native.Mathlib.Omega.{arith}
-use borrow.Author.Needs.{needs}
+use Rattle.basics.proofs.Kit.{sym, _*_, _≤_, arith, needs}
 use lib.Seq.{length-take-le}
 use Rattle.search.proofs.Tabling.{short}
 use Rattle.marker.proofs.excess_in.Statement.{statement}

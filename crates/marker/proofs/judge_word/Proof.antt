@@ -1,11 +1,7 @@
 -- `marker::judge_word` meets its contract.
 -- Assumes nothing.
-use mathlib.Core.Path.{_≡_, refl, sym, _∙_}
-use Prim.Native.Nat.{_^_, _<_}
-use native.Mathlib.Omega.{arith}
-use borrow.Author.Needs.{needs}
+use Rattle.basics.proofs.Kit.{_≡_, refl, sym, _∙_, _^_, _<_, arith, needs, pos}
 use borrow.Author.Tests.{not-true, not-false}
-use lib.IntN.{pos}
 use mir.Facts.{toZ-pos}
 use mir.Syntax.{w32}
 use Rattle.refusal.proofs.Tests.{first-none}

@@ -1,9 +1,7 @@
 -- `marker::mark_refusal` meets its contract.
 -- Assumes nothing.
-use mathlib.Core.Path.{refl, ap}
-use lib.Dec.{eqb}
+use Rattle.basics.proofs.Kit.{refl, ap, needs, eqb}
 use Rattle.refusal.proofs.Tests.{link}
-use borrow.Author.Needs.{needs}
 use Rattle.marker.specs.Calls.{mark-refusal}
 use Rattle.marker.proofs.mark_refusal.Statement.{statement}
 use Rattle.marker.proofs.mark_refusal.Tie as tie

@@ -1,9 +1,8 @@
 -- `marker::verdict_on_word` meets its contract.
 -- Assumes nothing.
-use mathlib.Core.Path.{_≡_, refl, sym, ap₂, _∙_, subst}
-use borrow.Author.Needs.{needs}
+use Rattle.basics.proofs.Kit.{_≡_, refl, sym, ap₂, _∙_, needs, _-ℤ_}
+use mathlib.Core.Path.{subst}
 use borrow.Author.Tests.{not-true, not-false}
-use lib.IntN.{_-ℤ_}
 use mir.Facts.{toZ-ofZ}
 use mir.Syntax.{w32}
 use mir.Val.{SFits, toZ, ofZ}

@@ -1,11 +1,10 @@
 -- `metric::is_reliability` meets its contract.
 -- Assumes nothing.
-use mathlib.Core.Path.{_≡_}
-use lib.IntN.{pos, negℤ, _-ℤ_}
+use Rattle.basics.proofs.Kit.{_≡_, needs, pos, _-ℤ_}
+use lib.IntN.{negℤ}
 use mir.Facts.{toZ-ofZ, toZ-pos}
 use mir.Syntax.{w16}
 use mir.Val.{toZ, ofZ}
-use borrow.Author.Needs.{needs}
 use Rattle.metric.proofs.Rows.{below-zero, below-fits, too-low, not-too-low}
 use Rattle.metric.proofs.is_reliability.Statement.{statement}
 use Rattle.metric.proofs.is_reliability.Tie as tie

@@ -1,12 +1,6 @@
 -- `metric::is_row` meets its contract.
 -- Assumes nothing.
-use mathlib.Core.Path.{_≡_, refl, ap, _∙_}
-use mathlib.Core.Bool.{Bool, _&&_}
-use Prim.Native.Nat.{_≤_, _-_}
-use native.Mathlib.Omega.{arith}
-use borrow.Author.Needs.{needs}
-use lib.ListN.{length, getD}
-use lib.IntN.{pos}
+use Rattle.basics.proofs.Kit.{_≡_, refl, ap, _∙_, Bool, _&&_, _-_, _≤_, arith, needs, length, getD, pos}
 use mir.Facts.{toZ-ofZ}
 use mir.Syntax.{w16}
 use Rattle.metric.proofs.Rowing.{Rowing, row-next, row-end}

@@ -1,10 +1,6 @@
 -- `metric::summed` meets its contract: from its last symbol on.
 -- Assumes nothing.
-use mathlib.Core.Path.{_≡_}
-use Prim.Native.Nat.{_+_, _*_, _-_, _≤_}
-use native.Mathlib.Omega.{arith}
-use borrow.Author.Needs.{needs}
-use lib.ListN.{length, drop}
+use Rattle.basics.proofs.Kit.{_≡_, _+_, _-_, _*_, _≤_, arith, needs, length, drop}
 use mir.Facts.{toZ-ofZ}
 use mir.Syntax.{w32}
 use mir.Val.{toZ}

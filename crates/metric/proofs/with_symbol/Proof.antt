@@ -1,12 +1,6 @@
 -- `metric::with_symbol` meets its contract: from its last bit on.
 -- Assumes nothing.
-use mathlib.Core.Path.{_≡_, _∙_}
-use mathlib.Core.List.{List, _++_}
-use Prim.Native.Nat.{ℕ, _+_, _*_, _-_, _/_, _%_, _^_, _≤_}
-use native.Mathlib.Omega.{arith}
-use borrow.Author.Needs.{needs}
-use lib.ListN.{length, getD, drop}
-use lib.IntN.{pos, natAbs}
+use Rattle.basics.proofs.Kit.{_≡_, _∙_, List, _++_, ℕ, _+_, _-_, _*_, _/_, _%_, _^_, _≤_, arith, needs, getD, drop, pos, natAbs}
 use mir.Facts.{toZ-ofZ}
 use mir.Syntax.{w16, w32}
 use mir.Val.{toZ}

@@ -1,9 +1,6 @@
 -- `metric::word_metric` meets its contract.
 -- Assumes nothing.
-use mathlib.Core.Path.{_≡_, _∙_}
-use mathlib.Core.List.{List}
-use Prim.Native.Nat.{ℕ}
-use lib.IntN.{ℤ}
+use Rattle.basics.proofs.Kit.{_≡_, _∙_, List, ℕ, ℤ}
 use mir.Facts.{toZ-ofZ}
 use Rattle.field.proofs.Tests.{not-three}
 use Rattle.metric.specs.Metric.{metric}

@@ -1,10 +1,7 @@
 -- `quantiser::any_nan` meets its contract. The invariant: the samples below i have no NaN, so what is asked of all is asked of the rest.
 -- Assumes nothing.
-use mathlib.Core.Path.{_≡_, refl}
-use Prim.Native.Nat.{_≤_, _-_}
-use native.Mathlib.Omega.{arith}
-use lib.ListN.{length, drop, drop-of-length-le}
-use borrow.Author.Needs.{needs}
+use Rattle.basics.proofs.Kit.{_≡_, refl, _-_, _≤_, arith, needs, length, drop}
+use lib.ListN.{drop-of-length-le}
 use Rattle.quantiser.specs.Calls.{has-nan}
 use Rattle.quantiser.proofs.Samples.{next}
 use Rattle.quantiser.proofs.any_nan.Statement.{statement}

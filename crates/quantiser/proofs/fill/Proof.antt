@@ -1,17 +1,12 @@
 -- `quantiser::fill` meets its contract. The invariant: below i the row is the samples quantised, and from i on it is as it was.
 -- Assumes nothing.
-use mathlib.Core.Path.{_≡_, refl}
-use mathlib.Core.Bool.{false}
-use mathlib.Core.List.{map, _++_, append-nil}
-use Prim.Native.Nat.{_≤_, _-_}
+use Rattle.basics.proofs.Kit.{_≡_, refl, false, _++_, _-_, _≤_, arith, needs, length, take, drop, now}
+use mathlib.Core.List.{map, append-nil}
 use native.Mathlib.Numerals.{add-one}
-use native.Mathlib.Omega.{arith}
-use lib.ListN.{length, take, drop, length-set, length-map, drop-of-length-le}
+use lib.ListN.{length-set, length-map, drop-of-length-le}
 use lib.Seq.{take-all}
 use lib.Ieee.{nan}
-use denote.Ref.{now}
 use mir.Facts.{toZ-ofZ}
-use borrow.Author.Needs.{needs}
 use Rattle.quantiser.specs.Calls.{has-nan}
 use Rattle.quantiser.specs.Quantise.{quantised}
 use Rattle.quantiser.proofs.Samples.{numbers, stored}

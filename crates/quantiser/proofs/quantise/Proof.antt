@@ -1,10 +1,8 @@
 -- `quantiser::quantise` meets its contract: nothing is written before the refusal is known, and what is accepted is filled.
 -- Assumes nothing.
-use mathlib.Core.Path.{_≡_, refl, sym, _∙_}
-use borrow.Author.Needs.{needs}
+use Rattle.basics.proofs.Kit.{_≡_, refl, sym, _∙_, needs, length}
 use Rattle.refusal.proofs.Outcomes.{outcome-done, outcome-refused}
 use Rattle.refusal.proofs.Tests.{first-none}
-use lib.ListN.{length}
 use Rattle.refusal.specs.Refusal.{first}
 use Rattle.code.specs.Code.{number-refusal, width}
 use Rattle.code.proofs.Promise.{chosen-refusal}

@@ -1,10 +1,7 @@
 -- `quantiser::quantise_refusal` meets its contract.
 -- Assumes nothing.
-use mathlib.Core.Path.{refl, ap}
-use mathlib.Core.Bool.{not}
-use lib.Dec.{eqb}
+use Rattle.basics.proofs.Kit.{refl, ap, not, needs, eqb}
 use Rattle.refusal.proofs.Tests.{link}
-use borrow.Author.Needs.{needs}
 use Rattle.quantiser.specs.Calls.{quantise-refusal}
 use Rattle.quantiser.proofs.quantise_refusal.Statement.{statement}
 use Rattle.quantiser.proofs.quantise_refusal.Tie as tie

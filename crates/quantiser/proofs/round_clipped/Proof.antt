@@ -1,11 +1,9 @@
 -- `quantiser::round_clipped` meets its contract: the size comes from `size_of`, and the sign from the highest bit (proofs/Sizes.antt).
 -- Assumes nothing.
-use mathlib.Core.Path.{_≡_, sym, ap, _∙_}
-use Prim.Native.Nat.{ℕ, zero, suc, _≤_}
-use native.Mathlib.Omega.{arith}
+use Rattle.basics.proofs.Kit.{_≡_, sym, ap, _∙_, ℕ, zero, suc, _≤_, arith, leb, pos, _-ℤ_}
 use borrow.Author.Tests.{le-leb, lt-leb}
-use lib.Dec.{T, leb}
-use lib.IntN.{pos, negℤ, _-ℤ_, +ℤ-idl}
+use lib.Dec.{T}
+use lib.IntN.{negℤ, +ℤ-idl}
 use lib.Ieee.{binary32, fits, toBits, isNan}
 use lib.Ieee.Bits.{ofBits-toBits, nanBits-is}
 use mir.Syntax.{w16}

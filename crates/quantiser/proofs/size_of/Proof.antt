@@ -1,12 +1,8 @@
 -- `quantiser::size_of` meets its contract: a range of the exponent's field for each way out.
 -- Assumes nothing.
-use mathlib.Core.Path.{_≡_, ap}
-use Prim.Native.Nat.{ℕ, _+_, _-_, _*_, _/_, _%_, _^_, _<_}
+use Rattle.basics.proofs.Kit.{_≡_, ap, ℕ, _+_, _-_, _*_, _/_, _%_, _^_, _<_, arith, needs, pos}
 use native.Mathlib.Nat.{lt-of-lt-of-le}
-use native.Mathlib.Omega.{arith}
-use lib.IntN.{pos}
 use lib.Pow.{shl-exact, shl-lt, pow-mono}
-use borrow.Author.Needs.{needs}
 use Rattle.quantiser.proofs.Sizes.{of-plain, small, large, middle}
 use Rattle.quantiser.proofs.size_of.Statement.{statement}
 use Rattle.quantiser.proofs.size_of.Tie as tie

@@ -1,12 +1,8 @@
 -- `report::list` meets its contract: a refused sheet has its one line, any other the header, the lines and the count, and each finds room.
 -- Assumes nothing.
-use mathlib.Core.Path.{_≡_}
-use Prim.Native.Nat.{_-_}
-use lib.ListN.{length}
-use denote.Ref.{now}
+use Rattle.basics.proofs.Kit.{_≡_, _-_, needs, length, now}
 use Rattle.report.specs.Within.{Sheet-taken}
 use Rattle.report.proofs.Whole.{wrong-length, refused-room, refused, counted, header-room, lines-room, count-room, accepted}
-use borrow.Author.Needs.{needs}
 use Rattle.report.proofs.list.Statement.{statement}
 use Rattle.report.proofs.list.Tie as tie
 

@@ -1,13 +1,11 @@
 -- `report::put_answer` meets its contract: the decoder takes the row, the marker the best metric that it found, and their answers make the line.
 -- Assumes nothing.
-use mathlib.Core.Path.{_≡_}
-use denote.Ref.{now}
+use Rattle.basics.proofs.Kit.{_≡_, needs, now}
 use mir.Syntax.{w32}
 use mir.Val.{toZ, ofZ}
 use mir.Facts.{toZ-ofZ}
 use Rattle.sheet.specs.Sheet.{question}
 use Rattle.report.proofs.Answering.{Decoded-question, accepted, answered, taken, line, room, put-line}
-use borrow.Author.Needs.{needs}
 use Rattle.report.proofs.put_answer.Statement.{statement}
 use Rattle.report.proofs.put_answer.Tie as tie
 

@@ -1,7 +1,6 @@
 -- `report::put_lines` meets its contract: so many questions are passed, and their lines stand in the output.
 -- Assumes nothing.
-use Prim.Native.Nat.{_-_}
-use native.Mathlib.Omega.{arith}
+use Rattle.basics.proofs.Kit.{_-_, arith}
 use Rattle.text.proofs.Writing.{written-length}
 use Rattle.report.proofs.Passing.{Walked-sheet, walk-first, walk-asked, walk-room, walk-more, walk-done}
 use Rattle.report.proofs.put_lines.Statement.{statement}

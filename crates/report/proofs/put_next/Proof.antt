@@ -1,11 +1,9 @@
 -- `report::put_next` meets its contract: the rooms are cut to the lengths of the question's code.
 -- Assumes nothing.
-use mathlib.Core.Path.{sym}
+use Rattle.basics.proofs.Kit.{sym, needs, now}
 use lib.Seq.{length-take-le}
-use denote.Ref.{now}
 use Rattle.sheet.proofs.Forms.{bits-le, n-le}
 use Rattle.report.proofs.Passing.{rooms}
-use borrow.Author.Needs.{needs}
 use Rattle.report.proofs.put_next.Statement.{statement}
 use Rattle.report.proofs.put_next.Tie as tie
 

@@ -1,6 +1,6 @@
 -- `search::columns` meets its contract: the test is computed over each whole table.
 -- Assumes nothing.
-use mathlib.Core.Path.{_≡_, refl, sym, _∙_}
+use mathlib.Core.Path.{sym, _∙_}
 use Rattle.field.specs.Field.{xor, doubled, alpha}
 use Rattle.code.specs.Code.{width, roots, long}
 use Rattle.code.proofs.Promise.{code-1, code-2, code-3}

@@ -1,8 +1,6 @@
 -- `search::cost_at` meets its contract.
 -- Assumes nothing.
-use borrow.Author.Needs.{needs}
-use mathlib.Core.Path.{_∙_}
-use lib.ListN.{getD}
+use Rattle.basics.proofs.Kit.{_∙_, needs, getD}
 use Rattle.search.proofs.Sums.{own-in, symbol-ok, from-rows}
 use Rattle.search.proofs.cost_at.Statement.{statement}
 use Rattle.search.proofs.cost_at.Tie as tie

@@ -1,7 +1,6 @@
 -- `search::cost_rows` meets its contract.
 -- Assumes nothing.
-use borrow.Author.Needs.{needs}
-use native.Mathlib.Omega.{arith}
+use Rattle.basics.proofs.Kit.{arith, needs}
 use Rattle.search.proofs.Prepared.{costed}
 use Rattle.search.proofs.cost_rows.Statement.{statement}
 use Rattle.search.proofs.cost_rows.Tie as tie

@@ -1,11 +1,7 @@
 -- `search::costs` meets its contract.
 -- Assumes nothing.
-use native.Mathlib.Omega.{arith}
-use borrow.Author.Needs.{needs}
-use mathlib.Core.Path.{_≡_, refl, sym, _∙_}
-use Prim.Native.Nat.{_-_, _≤_}
-use lib.ListN.{length, getD, length-set}
-use lib.IntN.{pos}
+use Rattle.basics.proofs.Kit.{_≡_, refl, sym, _∙_, _-_, _≤_, arith, needs, length, getD, pos}
+use lib.ListN.{length-set}
 use mir.Syntax.{w16}
 use mir.Val.{SFits}
 use Rattle.metric.specs.Cost.{costZero, costOne}

@@ -1,9 +1,6 @@
 -- `search::size_of` meets its contract.
 -- Assumes nothing.
-use borrow.Author.Needs.{needs}
-use mathlib.Core.Path.{_≡_, ap₂}
-use Prim.Native.Nat.{ℕ, _+_}
-use native.Mathlib.Omega.{arith}
+use Rattle.basics.proofs.Kit.{_≡_, ap₂, ℕ, _+_, arith, needs}
 use Rattle.metric.specs.Cost.{costZero, costOne}
 use Rattle.metric.specs.Row.{row-bound}
 use Rattle.metric.proofs.Bounds.{costs-le}

@@ -1,9 +1,6 @@
 -- `search::spread` meets its contract.
 -- Assumes nothing.
-use native.Mathlib.Omega.{arith}
-use mathlib.Core.Path.{_≡_, refl, ap, _∙_}
-use Prim.Native.Nat.{_-_, _*_, _≤_}
-use lib.ListN.{length}
+use Rattle.basics.proofs.Kit.{_≡_, refl, ap, _∙_, _-_, _*_, _≤_, arith, length}
 use Rattle.search.specs.Within.{reliability, Spread}
 use Rattle.search.proofs.Prepared.{length-four, spread-more, inside}
 use Rattle.search.proofs.spread.Statement.{statement}

@@ -1,10 +1,7 @@
 -- `search::spread_at` meets its contract.
 -- Assumes nothing.
-use native.Mathlib.Omega.{arith}
-use borrow.Author.Needs.{needs}
+use Rattle.basics.proofs.Kit.{_∙_, _*_, arith, needs}
 use lib.ListN.{length-set}
-use mathlib.Core.Path.{_∙_}
-use Prim.Native.Nat.{_*_}
 use mir.Facts.{toZ-ofZ}
 use Rattle.search.specs.Within.{reliability}
 use Rattle.search.proofs.Prepared.{four-is}

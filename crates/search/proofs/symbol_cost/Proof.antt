@@ -1,8 +1,6 @@
 -- `search::symbol_cost` meets its contract.
 -- Assumes nothing.
-use borrow.Author.Needs.{needs}
-use native.Mathlib.Omega.{arith}
-use Prim.Native.Nat.{_≤_, _/_, _%_}
+use Rattle.basics.proofs.Kit.{_/_, _%_, _≤_, arith, needs}
 use Rattle.search.proofs.Sums.{symbol-le}
 use Rattle.search.proofs.symbol_cost.Statement.{statement}
 use Rattle.search.proofs.symbol_cost.Tie as tie

@@ -1,9 +1,6 @@
 -- `search::weight` meets its contract.
 -- Assumes nothing.
-use Prim.Native.Nat.{_≤_, _-_}
-use native.Mathlib.Omega.{arith}
-use lib.IntN.{pos}
-use lib.ListN.{length, getD}
+use Rattle.basics.proofs.Kit.{_-_, _≤_, arith, length, getD, pos}
 use mir.Facts.{toZ-ofZ}
 use mir.Syntax.{w16}
 use Rattle.metric.specs.Row.{row-bound}

@@ -1,10 +1,6 @@
 -- `search::word_cost` meets its contract.
 -- Assumes nothing.
-use mathlib.Core.Path.{_≡_}
-use Prim.Native.Nat.{_≤_, _-_, _+_}
-use native.Mathlib.Omega.{arith}
-use lib.ListN.{length}
-use denote.Ref.{now}
+use Rattle.basics.proofs.Kit.{_≡_, _+_, _-_, _≤_, arith, length, now}
 use Rattle.search.proofs.Sums.{Adding, adding-fits, adding-more, adding-end}
 use Rattle.search.proofs.word_cost.Statement.{statement}
 use Rattle.search.proofs.word_cost.Tie as tie

@@ -1,11 +1,9 @@
 -- `sheet::judge_sheet` meets its contract.
 -- Assumes nothing.
-use mathlib.Core.Path.{refl, sym, _∙_}
-use denote.Ref.{now}
+use Rattle.basics.proofs.Kit.{refl, sym, _∙_, needs, now}
 use Rattle.refusal.proofs.Tests.{link}
 use Rattle.sheet.proofs.Forms.{row-form}
 use Rattle.sheet.proofs.Turns.{judged-whole}
-use borrow.Author.Needs.{needs}
 use Rattle.sheet.proofs.judge_sheet.Statement.{statement}
 use Rattle.sheet.proofs.judge_sheet.Tie as tie
 

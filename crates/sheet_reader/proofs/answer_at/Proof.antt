@@ -1,16 +1,12 @@
 -- `sheet_reader::answer_at` meets its contract.
 -- Assumes nothing.
-use mathlib.Core.Path.{_≡_}
-use mathlib.Core.Bool.{Bool, _&&_}
-use Prim.Native.Nat.{ℕ}
-use lib.Dec.{eqb}
+use Rattle.basics.proofs.Kit.{_≡_, Bool, _&&_, ℕ, needs, eqb}
 use Rattle.code.specs.declared.Shape.{Shape}
 use Rattle.code.specs.Code.{width}
 use Rattle.code.specs.Within.{Coded}
 use Rattle.sheet.specs.Sheet.{kind, head-code, low, head-kind}
 use Rattle.sheet_reader.specs.declared.Yield.{Yield}
 use Rattle.sheet_reader.specs.Within.{yield-of, answered}
-use borrow.Author.Needs.{needs}
 use Rattle.sheet_reader.proofs.answer_at.Statement.{statement}
 use Rattle.sheet_reader.proofs.answer_at.Tie as tie
 

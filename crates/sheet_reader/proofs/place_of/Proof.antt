@@ -1,17 +1,12 @@
 -- `sheet_reader::place_of` meets its contract.
 -- Assumes nothing.
-use mathlib.Core.Path.{_≡_, refl, sym, ap, _∙_}
-use Prim.Native.Nat.{ℕ, _+_, _-_, _<_, _≤_}
-use lib.ListN.{getD}
-use denote.Ref.{now}
+use Rattle.basics.proofs.Kit.{_≡_, refl, sym, ap, _∙_, ℕ, _+_, _-_, _≤_, _<_, arith, needs, getD, now}
 use Rattle.code.specs.Code.{width}
 use Rattle.sheet.specs.Sheet.{as-words, kind, head-kind, head-code, question-long}
 use Rattle.sheet.proofs.Forms.{question-long-le, at-most, few-fits, past-fits}
 use Rattle.sheet_reader.specs.Within.{behind, skipped}
 use Rattle.sheet_reader.proofs.Says.{inside}
 use Rattle.sheet_reader.proofs.Choice.{skip-none, skip-end, skip-more}
-use borrow.Author.Needs.{needs}
-use native.Mathlib.Omega.{arith}
 use Rattle.sheet_reader.proofs.place_of.Statement.{statement}
 use Rattle.sheet_reader.proofs.place_of.Tie as tie
 

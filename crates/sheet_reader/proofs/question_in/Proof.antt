@@ -1,17 +1,13 @@
 -- `sheet_reader::question_in` meets its contract.
 -- Assumes nothing.
-use mathlib.Core.Path.{sym, ap, _∙_}
-use Prim.Native.Nat.{ℕ, _+_, _/_, _≤_, _<_}
+use Rattle.basics.proofs.Kit.{sym, ap, _∙_, ℕ, _+_, _/_, _≤_, _<_, needs, length, getD, now}
 use lib.Dec.{lit≤}
-use lib.ListN.{length, getD}
-use denote.Ref.{now}
 use Rattle.code.specs.Code.{width}
 use Rattle.code.proofs.Accepted.{width-fine}
 use Rattle.sheet.specs.Sheet.{as-words, head-code}
 use Rattle.sheet.proofs.Forms.{row-long-le, long-le, question-long-le, at-most, next-in, few-fits, past-fits}
 use Rattle.sheet_reader.specs.Within.{behind}
 use Rattle.sheet_reader.proofs.Says.{Standing, standing, inside, says-found, says-none, says-refused}
-use borrow.Author.Needs.{needs}
 use Rattle.sheet_reader.proofs.question_in.Statement.{statement}
 use Rattle.sheet_reader.proofs.question_in.Tie as tie
 

@@ -1,10 +1,9 @@
 -- `sheet_reader::question_of` meets its contract.
 -- Assumes nothing.
-use denote.Ref.{now}
+use Rattle.basics.proofs.Kit.{needs, now}
 use Rattle.sheet_reader.specs.Within.{Stands}
 use Rattle.sheet_reader.proofs.Places.{judged-large}
 use Rattle.sheet_reader.proofs.Choice.{place-there, refused, choice}
-use borrow.Author.Needs.{needs}
 use Rattle.sheet_reader.proofs.question_of.Statement.{statement}
 use Rattle.sheet_reader.proofs.question_of.Tie as tie
 

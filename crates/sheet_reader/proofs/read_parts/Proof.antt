@@ -1,13 +1,8 @@
 -- `sheet_reader::read_parts` meets its contract.
 -- Assumes nothing.
-use mathlib.Core.Path.{_∙_}
-use Prim.Native.Nat.{_≤_}
-use lib.ListN.{length}
+use Rattle.basics.proofs.Kit.{_∙_, _≤_, arith, needs, length, now}
 use lib.Seq.{drop-drop}
-use denote.Ref.{now}
 use Rattle.sheet.proofs.Forms.{count-le}
-use native.Mathlib.Omega.{arith}
-use borrow.Author.Needs.{needs}
 use Rattle.sheet_reader.proofs.read_parts.Statement.{statement}
 use Rattle.sheet_reader.proofs.read_parts.Tie as tie
 

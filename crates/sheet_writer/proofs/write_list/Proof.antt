@@ -1,14 +1,10 @@
 -- `sheet_writer::write_list` meets its contract.
 -- Assumes nothing.
-use mathlib.Core.Path.{_≡_, refl, ap, ap₂, _∙_}
-use mathlib.Core.List.{_++_}
-use Prim.Native.Nat.{ℕ, suc, _+_, _*_, _-_, _/_, _^_, _<_, _≤_}
+use Rattle.basics.proofs.Kit.{_≡_, refl, ap, ap₂, _∙_, _++_, ℕ, suc, _+_, _-_, _*_, _/_, _^_, _≤_, _<_, arith, needs, length, getD, take, drop, now}
 use native.Mathlib.Nat.{le-refl, le-trans, le-add-right}
-use lib.ListN.{length, getD, take, drop}
 use mir.Syntax.{w32, w64}
 use mir.Val.{Fits}
 use mir.Facts.{fits-le, fits-below}
-use denote.Ref.{now}
 use Rattle.code.specs.Code.{width, long}
 use Rattle.code.specs.Bits.{row-long}
 use Rattle.sheet.specs.Sheet.{question, digits, worded, end-kind, question-long, question-words, question-good}
@@ -17,8 +13,7 @@ use Rattle.sheet.proofs.Longest.{question-length}
 use Rattle.sheet_writer.specs.Within.{begun}
 use Rattle.sheet_writer.proofs.Lists.{rest-is, next-less, other-in, sum-in, row-fits, length-fits}
 use Rattle.sheet_writer.proofs.Writing.{lent-is, part-room, part-is, Begun, begin, size, next-code, next, next-good, rows-left, words-left, fits-in, more, end-fits, done}
-use borrow.Author.Needs.{needs, scaled-fits}
-use native.Mathlib.Omega.{arith}
+use borrow.Author.Needs.{scaled-fits}
 use Rattle.sheet_writer.proofs.write_list.Statement.{statement}
 use Rattle.sheet_writer.proofs.write_list.Tie as tie
 

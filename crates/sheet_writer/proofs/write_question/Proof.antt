@@ -1,18 +1,12 @@
 -- `sheet_writer::write_question` meets its contract.
 -- Assumes nothing.
-use mathlib.Core.Path.{_≡_, refl, sym, ap, ap₂, _∙_}
-use mathlib.Core.List.{List, _++_}
-use Prim.Native.Nat.{ℕ, _+_, _*_, _-_, _<_, _≤_}
-use lib.ListN.{length, take, drop}
+use Rattle.basics.proofs.Kit.{_≡_, refl, sym, ap, ap₂, _∙_, List, _++_, ℕ, _+_, _-_, _*_, _≤_, _<_, arith, needs, length, take, drop, now}
 use lib.Seq.{take-all}
-use denote.Ref.{now}
 use Rattle.sheet.specs.Sheet.{digits, question, question-words}
 use Rattle.sheet.proofs.Forms.{question-long-le}
 use Rattle.sheet.proofs.Longest.{question-length}
 use Rattle.sheet_writer.specs.Within.{begun}
 use Rattle.sheet_writer.proofs.Packing.{begun-none, begun-next}
-use borrow.Author.Needs.{needs}
-use native.Mathlib.Omega.{arith}
 use Rattle.sheet_writer.proofs.write_question.Statement.{statement}
 use Rattle.sheet_writer.proofs.write_question.Tie as tie
 

@@ -1,11 +1,10 @@
 -- `sheet_writer::write_sheet` meets its contract.
 -- Assumes nothing.
-use mathlib.Core.Path.{refl, sym, _∙_}
+use Rattle.basics.proofs.Kit.{refl, sym, _∙_, needs}
 use Rattle.refusal.proofs.Outcomes.{outcome-done, outcome-refused}
 use Rattle.sheet.proofs.Forms.{row-form}
 use Rattle.sheet_writer.specs.Calls.{Write-says}
 use Rattle.sheet_writer.proofs.Writing.{accepted}
-use borrow.Author.Needs.{needs}
 use Rattle.sheet_writer.proofs.write_sheet.Statement.{statement}
 use Rattle.sheet_writer.proofs.write_sheet.Tie as tie
 

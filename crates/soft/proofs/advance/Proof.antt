@@ -1,9 +1,6 @@
 -- `soft::advance` meets its contract.
 -- Assumes nothing.
-use native.Mathlib.Omega.{arith}
-use borrow.Author.Needs.{needs}
-use mathlib.Core.Path.{_≡_}
-use Prim.Native.Nat.{ℕ, _+_, _-_, _%_}
+use Rattle.basics.proofs.Kit.{_≡_, _+_, _-_, arith, needs}
 use Rattle.soft.proofs.advance.Statement.{statement}
 use Rattle.soft.proofs.advance.Tie as tie
 

@@ -1,9 +1,7 @@
 -- `soft::fold` meets its contract.
 -- Assumes nothing.
-use native.Mathlib.Omega.{arith}
-use borrow.Author.Needs.{needs}
+use Rattle.basics.proofs.Kit.{refl, needs}
 use Rattle.lanes.specs.Lanes.{rows}
-use mathlib.Core.Path.{refl}
 use Rattle.soft.proofs.fold.Statement.{statement}
 use Rattle.soft.proofs.fold.Tie as tie
 

@@ -2,11 +2,7 @@
 -- Assumes nothing.
 use Rattle.soft.proofs.Soft.{Passing, pass-start, advance-ok, pass-more}
 use Rattle.trellis.proofs.Tables.{inside}
-use lib.ListN.{length}
-use native.Mathlib.Omega.{arith}
-use Prim.Native.Nat.{ℕ, suc, _<_, _≤_, _-_, _+_, _*_}
-use mathlib.Core.List.{List}
-use mathlib.Core.Path.{_≡_, sym, ap, ap₂, _∙_, subst, refl}
+use Rattle.basics.proofs.Kit.{_≡_, refl, suc, _+_, _-_, _*_, _≤_, arith, length}
 use Rattle.soft.proofs.pass.Statement.{statement}
 use Rattle.soft.proofs.pass.Tie as tie
 

@@ -1,11 +1,7 @@
 -- `split::layer_value` meets its contract: the sum so far and the value of the rest of the layer make the value of the layer.
 -- Assumes nothing.
-use mathlib.Core.Path.{_≡_, sym, _∙_}
-use Prim.Native.Nat.{_≤_, _-_, _*_}
+use Rattle.basics.proofs.Kit.{_≡_, sym, _∙_, _-_, _*_, _≤_, arith, needs, length, drop}
 use native.Mathlib.Nat.{zero-mul}
-use native.Mathlib.Omega.{arith}
-use lib.ListN.{length, drop}
-use borrow.Author.Needs.{needs}
 use Rattle.field.specs.Field.{xor}
 use Rattle.code.specs.Code.{value-from, value-at}
 use Rattle.split.specs.Split.{layer}

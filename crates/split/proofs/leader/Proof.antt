@@ -1,7 +1,6 @@
 -- `split::leader` meets its contract: each table has, at its syndrome, each word of weight t or less.
 -- Assumes nothing.
-use mathlib.Core.Path.{_≡_, refl, sym, _∙_}
-use borrow.Author.Needs.{needs}
+use Rattle.basics.proofs.Kit.{_≡_, refl, sym, _∙_, needs}
 use Rattle.field.specs.Field.{xor, times, times-from, doubled, alpha}
 use Rattle.code.specs.Code.{width, roots, long, value-from, value-at}
 use Rattle.code.proofs.Promise.{code-1, code-2, code-3}

@@ -1,9 +1,6 @@
 -- `split::split` meets its contract: a refused call answers at once; else the configuration is the tuple of syndromes and the pieces are written.
 -- Assumes nothing.
-use borrow.Author.Needs.{needs}
-use mathlib.Core.Path.{_≡_, refl, sym, ap, _∙_}
-use Prim.Native.Nat.{ℕ}
-use lib.ListN.{length}
+use Rattle.basics.proofs.Kit.{_≡_, refl, sym, ap, _∙_, ℕ, needs, length}
 use Rattle.refusal.proofs.Tests.{first-none}
 use Rattle.refusal.specs.Refusal.{first}
 use Rattle.code.specs.Code.{number-refusal, width, roots}

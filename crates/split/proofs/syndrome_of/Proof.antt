@@ -1,9 +1,6 @@
 -- `split::syndrome_of` meets its contract.
 -- Assumes nothing.
-use mathlib.Core.Path.{_≡_, _∙_}
-use Prim.Native.Nat.{ℕ, _+_, _*_, _^_, _≤_}
-use native.Mathlib.Omega.{arith}
-use borrow.Author.Needs.{needs}
+use Rattle.basics.proofs.Kit.{_≡_, _∙_, ℕ, _+_, _*_, _^_, _≤_, arith, needs}
 use Rattle.code.specs.Code.{value-at}
 use Rattle.split.specs.Split.{layer}
 use Rattle.split.proofs.Layers as L

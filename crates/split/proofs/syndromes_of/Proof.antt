@@ -1,11 +1,7 @@
 -- `split::syndromes_of` meets its contract: so many places of the tuple are there, and zeros behind them.
 -- Assumes nothing.
-use mathlib.Core.Path.{_≡_, refl, _∙_}
-use mathlib.Core.List.{_++_}
-use Prim.Native.Nat.{_-_, _≤_}
-use native.Mathlib.Omega.{arith}
-use borrow.Author.Needs.{needs}
-use lib.ListN.{take, drop, replicate}
+use Rattle.basics.proofs.Kit.{_≡_, refl, _∙_, _++_, _-_, _≤_, arith, needs, take, drop}
+use lib.ListN.{replicate}
 use Rattle.split.specs.Split.{syndromes}
 use Rattle.split.proofs.Layers as L
 use Rattle.split.proofs.Syndromes.{place-at, places, all-places}

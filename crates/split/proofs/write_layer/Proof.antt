@@ -1,11 +1,7 @@
 -- `split::write_layer` meets its contract: so many positions are written, and the rest of the leader's number has the bits of the others.
 -- Assumes nothing.
-use mathlib.Core.Path.{_≡_, refl, sym, _∙_}
-use mathlib.Core.List.{_++_}
-use Prim.Native.Nat.{_-_, _≤_}
-use native.Mathlib.Omega.{arith}
-use borrow.Author.Needs.{needs}
-use lib.ListN.{length, take, drop, length-set}
+use Rattle.basics.proofs.Kit.{_≡_, refl, sym, _∙_, _++_, _-_, _≤_, arith, needs, length, take, drop}
+use lib.ListN.{length-set}
 use Rattle.code.specs.Bits.{bits-of}
 use Rattle.split.specs.Split.{layer, sum}
 use Rattle.split.proofs.Steps.{with-leader, with-length, one-position, next, copy-more, copied}

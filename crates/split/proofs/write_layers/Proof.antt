@@ -1,12 +1,8 @@
 -- `split::write_layers` meets its contract: so many pieces are written, and the output behind them is as it was.
 -- Assumes nothing.
-use mathlib.Core.Path.{_≡_, refl, sym, ap, ap₂, _∙_}
-use mathlib.Core.List.{_++_}
-use Prim.Native.Nat.{ℕ, _+_, _-_, _*_, _^_, _≤_, _<_}
+use Rattle.basics.proofs.Kit.{_≡_, refl, sym, ap, ap₂, _∙_, _++_, ℕ, _+_, _-_, _*_, _^_, _≤_, _<_, arith, needs, length, getD, take, drop}
 use native.Mathlib.Nat.{zero-mul}
-use native.Mathlib.Omega.{arith}
-use borrow.Author.Needs.{needs}
-use lib.ListN.{length, getD, take, drop, length-take, length-drop}
+use lib.ListN.{length-take, length-drop}
 use Rattle.code.specs.Code.{width, roots, long, syndrome-long}
 use Rattle.code.specs.Bits.{bits-of}
 use Rattle.code.proofs.Loops.{next-exponent}

@@ -1,11 +1,9 @@
 -- `text::put_decimal` meets its contract: the last digit stands behind those of the tenth part, which is less.
 -- Assumes nothing.
-use mathlib.Core.Path.{_∙_}
-use native.Mathlib.Omega.{arith}
+use Rattle.basics.proofs.Kit.{_∙_, ℕ, _<_, arith}
 use lib.ListN.{length-append}
 use Rattle.text.proofs.Decimal.{decimal-one, decimal-more}
 use Rattle.text.proofs.Writing.{then}
-use Prim.Native.Nat.{ℕ, _<_}
 use borrow.Fn.Kinds.{In}
 use borrow.Fn.PlainCycle.{Measures, is, falls, and}
 use Rattle.text.proofs.put_decimal.Reads as put-decimal

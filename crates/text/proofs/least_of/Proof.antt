@@ -1,11 +1,6 @@
 -- `text::least_of` meets its contract: the least so far and the rest of the soft outputs have the least of them all.
 -- Assumes nothing.
-use mathlib.Core.Path.{_≡_, sym, _∙_}
-use Prim.Native.Nat.{_-_, _≤_}
-use native.Mathlib.Omega.{arith}
-use lib.ListN.{length, drop}
-use denote.Ref.{now}
-use borrow.Author.Needs.{needs}
+use Rattle.basics.proofs.Kit.{_≡_, sym, _∙_, _-_, _≤_, arith, needs, length, drop, now}
 use Rattle.text.specs.Text.{least-from, least-magnitude}
 use Rattle.text.proofs.Fields.{least-first, least-next, least-none, least-end}
 use Rattle.text.proofs.least_of.Statement.{statement}

@@ -1,10 +1,6 @@
 -- `text::put_bits` meets its contract: so many decided bits stand in the buffer.
 -- Assumes nothing.
-use mathlib.Core.Path.{_≡_, ap, sym, _∙_}
-use Prim.Native.Nat.{_+_, _-_, _≤_, _<_}
-use native.Mathlib.Omega.{arith}
-use lib.ListN.{length, take, getD}
-use denote.Ref.{now}
+use Rattle.basics.proofs.Kit.{_≡_, sym, ap, _∙_, _+_, _-_, _≤_, _<_, arith, length, getD, take, now}
 use mir.Facts.{toZ-ofZ}
 use Rattle.text.specs.Text.{bits-field}
 use Rattle.text.specs.Within.{Written, bit-digit}

@@ -1,8 +1,7 @@
 -- `text::put_byte` meets its contract: a stored byte is a text of one.
 -- Assumes nothing.
-use native.Mathlib.Omega.{arith}
+use Rattle.basics.proofs.Kit.{arith, needs}
 use Rattle.text.proofs.Writing.{one}
-use borrow.Author.Needs.{needs}
 use Rattle.text.proofs.put_byte.Statement.{statement}
 use Rattle.text.proofs.put_byte.Tie as tie
 

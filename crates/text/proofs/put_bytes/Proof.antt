@@ -1,9 +1,6 @@
 -- `text::put_bytes` meets its contract: so many bytes of the text stand in the buffer.
 -- Assumes nothing.
-use mathlib.Core.Path.{refl}
-use Prim.Native.Nat.{_+_, _-_, _≤_}
-use native.Mathlib.Omega.{arith}
-use lib.ListN.{length, take}
+use Rattle.basics.proofs.Kit.{refl, _+_, _-_, _≤_, arith, length, take}
 use Rattle.text.specs.Within.{Written}
 use Rattle.text.proofs.Writing.{start, more, whole, written-length}
 use Rattle.text.proofs.put_bytes.Statement.{statement}

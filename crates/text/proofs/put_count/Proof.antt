@@ -1,7 +1,6 @@
 -- `text::put_count` meets its contract: the count, then the rest of its line.
 -- Assumes nothing.
-use native.Mathlib.Omega.{arith}
-use borrow.Author.Needs.{needs}
+use Rattle.basics.proofs.Kit.{arith, needs}
 use Rattle.text.specs.Text.{count-line, line, question-word}
 use Rattle.text.proofs.Writing.{then}
 use Rattle.text.proofs.Lines.{count-length}

@@ -1,8 +1,7 @@
 -- `text::put_mark` meets its contract: each verdict has its word, and a word that is no codeword a dash.
 -- Assumes nothing.
-use native.Mathlib.Omega.{arith}
+use Rattle.basics.proofs.Kit.{arith, needs}
 use mir.Facts.{toZ-ofZ}
-use borrow.Author.Needs.{needs}
 use Rattle.text.proofs.Fields.{mark-none, mark-short, mark-best}
 use Rattle.text.proofs.Writing.{then}
 use Rattle.text.proofs.put_mark.Statement.{statement}

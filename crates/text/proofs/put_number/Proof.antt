@@ -1,7 +1,6 @@
 -- `text::put_number` meets its contract: the digits, then the byte that ends the field.
 -- Assumes nothing.
-use native.Mathlib.Omega.{arith}
-use borrow.Author.Needs.{needs}
+use Rattle.basics.proofs.Kit.{arith, needs}
 use Rattle.text.specs.Within.{ended}
 use Rattle.text.proofs.Lines.{ended-length}
 use Rattle.text.proofs.Writing.{then}

@@ -1,14 +1,10 @@
 -- `text::put_question` meets its contract: the fields of a line, one behind the other.
 -- Assumes nothing.
-use mathlib.Core.Path.{_≡_, ap, refl}
-use Prim.Native.Nat.{ℕ}
-use native.Mathlib.Omega.{arith}
-use lib.ListN.{length, length-append}
-use denote.Ref.{now}
+use Rattle.basics.proofs.Kit.{_≡_, refl, ap, ℕ, arith, needs, length, now}
+use lib.ListN.{length-append}
 use mir.Syntax.{w32}
 use mir.Val.{toZ, ofZ}
 use mir.Facts.{toZ-ofZ}
-use borrow.Author.Needs.{needs}
 use Rattle.text.specs.Text.{decimal, least-magnitude, question-line}
 use Rattle.text.proofs.Lines.{parts, question-parts, ended-length}
 use Rattle.text.proofs.Writing.{then}

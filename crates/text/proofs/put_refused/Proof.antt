@@ -1,7 +1,6 @@
 -- `text::put_refused` meets its contract: the word `refused`, then the number.
 -- Assumes nothing.
-use native.Mathlib.Omega.{arith}
-use borrow.Author.Needs.{needs}
+use Rattle.basics.proofs.Kit.{arith, needs}
 use Rattle.text.specs.Text.{refused-line, line, refused-word}
 use Rattle.text.specs.Within.{ended}
 use Rattle.text.proofs.Writing.{then}

@@ -1,15 +1,10 @@
 -- `text::put_sign` meets its contract: a dash below zero, else nothing.
 -- Assumes nothing.
-use mathlib.Core.Path.{_≡_}
-use mathlib.Core.Bool.{cond}
-use mathlib.Core.List.{[], _∷_}
-use native.Mathlib.Omega.{arith}
-use lib.IntN.{pos}
+use Rattle.basics.proofs.Kit.{_≡_, cond, [], _∷_, arith, needs, pos}
 use lib.Signed.{ltZ}
 use mir.Syntax.{w32}
 use mir.Val.{toZ, ofZ}
 use mir.Facts.{toZ-ofZ}
-use borrow.Author.Needs.{needs}
 use Rattle.text.specs.Text.{sign}
 use Rattle.text.proofs.Fields.{sign-is}
 use Rattle.text.proofs.Writing.{nothing}

@@ -1,10 +1,8 @@
 -- `text::put_signed` meets its contract: the sign, then the digits of the size.
 -- Assumes nothing.
-use mathlib.Core.Path.{refl}
-use native.Mathlib.Omega.{arith}
+use Rattle.basics.proofs.Kit.{refl, arith, needs}
 use lib.ListN.{length-append}
 use mir.Facts.{toZ-ofZ}
-use borrow.Author.Needs.{needs}
 use Rattle.text.proofs.Fields.{signed-parts}
 use Rattle.text.proofs.Writing.{then}
 use Rattle.text.proofs.put_signed.Statement.{statement}

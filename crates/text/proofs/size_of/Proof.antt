@@ -1,10 +1,7 @@
 -- `text::size_of` meets its contract: 32 bits hold every 16-bit number, and 16 its size.
 -- Assumes nothing.
-use mathlib.Core.Path.{_≡_}
-use native.Mathlib.Omega.{arith}
-use lib.IntN.{natAbs}
+use Rattle.basics.proofs.Kit.{_≡_, arith, needs, natAbs}
 use mir.Facts.{toZ-ofZ}
-use borrow.Author.Needs.{needs}
 use Rattle.text.proofs.Fields.{wider, size-small}
 use Rattle.text.proofs.size_of.Statement.{statement}
 use Rattle.text.proofs.size_of.Tie as tie

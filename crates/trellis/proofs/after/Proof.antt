@@ -3,11 +3,7 @@
 use Rattle.trellis.proofs.Traces.{not-zero}
 use Rattle.field.proofs.Xor as X
 use Rattle.field.specs.Field.{xor}
-use lib.ListN.{length}
-use native.Mathlib.Omega.{arith}
-use Prim.Native.Nat.{ℕ, suc, _<_, _≤_, _-_, _+_, _*_}
-use mathlib.Core.List.{List}
-use mathlib.Core.Path.{_≡_, sym, ap, ap₂, _∙_, subst, refl}
+use Rattle.basics.proofs.Kit.{sym, _-_}
 use Rattle.trellis.proofs.after.Statement.{statement}
 use Rattle.trellis.proofs.after.Tie as tie
 

@@ -3,12 +3,7 @@
 use Rattle.trellis.specs.Trellis.{choice}
 use borrow.Author.Tests.{le-leb, lt-leb}
 use Rattle.field.specs.Field.{xor}
-use lib.ListN.{length}
-use native.Mathlib.Omega.{arith}
-use Prim.Native.Nat.{ℕ, suc, _<_, _≤_, _-_, _+_, _*_}
-use mathlib.Core.List.{List}
-use mathlib.Core.Path.{_≡_, sym, ap, ap₂, _∙_, subst, refl}
-use borrow.Author.Needs.{needs}
+use Rattle.basics.proofs.Kit.{_-_, arith, needs}
 use Rattle.trellis.proofs.bit_of.Statement.{statement}
 use Rattle.trellis.proofs.bit_of.Tie as tie
 

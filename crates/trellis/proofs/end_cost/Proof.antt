@@ -1,7 +1,6 @@
 -- `trellis::end_cost` meets its contract.
 -- Assumes nothing.
 use Rattle.trellis.proofs.Tables.{end-cost}
-use borrow.Author.Needs.{needs}
 use Rattle.trellis.proofs.end_cost.Statement.{statement}
 use Rattle.trellis.proofs.end_cost.Tie as tie
 

@@ -2,10 +2,7 @@
 -- Assumes nothing.
 use Rattle.trellis.proofs.Tables.{end-more}
 use Rattle.trellis.specs.Rows.{Ended}
-use native.Mathlib.Omega.{arith}
-use Prim.Native.Nat.{ℕ, _<_, _≤_, _-_, _+_}
-use mathlib.Core.List.{List}
-use mathlib.Core.Path.{_≡_, sym, ap, ap₂, _∙_, refl}
+use Rattle.basics.proofs.Kit.{_≡_, _-_, _≤_, arith}
 use Rattle.trellis.proofs.end_table.Statement.{statement}
 use Rattle.trellis.proofs.end_table.Tie as tie
 

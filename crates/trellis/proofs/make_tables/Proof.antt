@@ -2,12 +2,8 @@
 -- Assumes nothing.
 use Rattle.trellis.proofs.Tables.{tables-start, inside, relax-ok, tables-more}
 use Rattle.trellis.proofs.Parts.{part-long}
-use native.Mathlib.Omega.{arith}
-use Prim.Native.Nat.{ℕ, suc, _<_, _≤_, _-_, _+_, _*_}
-use mathlib.Core.List.{List}
-use mathlib.Core.Path.{_≡_, sym, ap, ap₂, _∙_, subst}
-use Prim.Native.Nat.{_≤_}
-use lib.ListN.{length}
+use Rattle.basics.proofs.Kit.{_≡_, ℕ, suc, _+_, _-_, _*_, _≤_, _<_, arith, length}
+use mathlib.Core.Path.{subst}
 use Rattle.trellis.specs.Rows.{Made}
 use Rattle.trellis.proofs.make_tables.Statement.{statement}
 use Rattle.trellis.proofs.make_tables.Tie as tie

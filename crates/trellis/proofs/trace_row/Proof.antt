@@ -1,15 +1,9 @@
 -- `trellis::trace_row` meets its contract.
 -- Assumes nothing.
 use Rattle.trellis.specs.Trellis.{pick}
-use lib.ListN.{getD}
+use Rattle.basics.proofs.Kit.{ap, _∙_, ℕ, _-_, arith, needs, getD}
 use Rattle.trellis.proofs.Traces.{bit-asks, symbol-same, four-same}
 use Rattle.field.specs.Field.{xor}
-use lib.ListN.{length}
-use native.Mathlib.Omega.{arith}
-use Prim.Native.Nat.{ℕ, suc, _<_, _≤_, _-_, _+_, _*_}
-use mathlib.Core.List.{List}
-use mathlib.Core.Path.{_≡_, sym, ap, ap₂, _∙_, subst, refl}
-use borrow.Author.Needs.{needs}
 use Rattle.trellis.proofs.trace_row.Statement.{statement}
 use Rattle.trellis.proofs.trace_row.Tie as tie
 

@@ -1,11 +1,7 @@
 -- `trellis::trace_word` meets its contract.
 -- Assumes nothing.
 use Rattle.trellis.proofs.Traces.{Tracing, trace-start, trace-inside, trace-ok, trace-more, trace-end}
-use lib.ListN.{length}
-use native.Mathlib.Omega.{arith}
-use Prim.Native.Nat.{ℕ, suc, _<_, _≤_, _-_, _+_, _*_}
-use mathlib.Core.List.{List}
-use mathlib.Core.Path.{_≡_, sym, ap, ap₂, _∙_, subst, refl}
+use Rattle.basics.proofs.Kit.{_≡_, suc, _+_, _-_, _*_, _≤_, arith, length}
 use Rattle.trellis.proofs.trace_word.Statement.{statement}
 use Rattle.trellis.proofs.trace_word.Tie as tie
 

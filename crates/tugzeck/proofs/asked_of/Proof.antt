@@ -1,7 +1,6 @@
 -- `tugzeck::asked_of` meets its contract, case by case.
 -- Assumes nothing.
-use mathlib.Core.Path.{ap, sym, _∙_}
-use borrow.Author.Needs.{needs}
+use Rattle.basics.proofs.Kit.{sym, ap, _∙_, needs}
 use Rattle.tugzeck.specs.Calls.{asked}
 use Rattle.tugzeck.proofs.asked_of.Statement.{statement}
 use Rattle.tugzeck.proofs.asked_of.Tie as tie

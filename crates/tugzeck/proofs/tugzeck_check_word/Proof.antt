@@ -1,7 +1,6 @@
 -- `tugzeck::tugzeck_check_word` meets its contract: the number of the answer that the codeword test promises.
 -- Assumes nothing.
-use mathlib.Core.Path.{ap, _∙_}
-use borrow.Author.Needs.{needs}
+use Rattle.basics.proofs.Kit.{ap, _∙_, needs}
 use Rattle.code.specs.Calls.{number-of}
 use Rattle.tugzeck.proofs.tugzeck_check_word.Statement.{statement}
 use Rattle.tugzeck.proofs.tugzeck_check_word.Tie as tie

@@ -1,7 +1,6 @@
 -- `tugzeck::tugzeck_judge_sheet` meets its contract.
 -- Assumes nothing.
-use denote.Ref.{now}
-use borrow.Author.Needs.{needs}
+use Rattle.basics.proofs.Kit.{needs, now}
 use Rattle.tugzeck.proofs.Judging.{refused, accepted}
 use Rattle.tugzeck.proofs.tugzeck_judge_sheet.Statement.{statement}
 use Rattle.tugzeck.proofs.tugzeck_judge_sheet.Tie as tie

@@ -1,7 +1,6 @@
 -- `field::Element::inverse` meets its contract.
 -- Assumes nothing.
-use mathlib.Core.Path.{sym, _∙_}
-use borrow.Author.Needs.{needs}
+use Rattle.basics.proofs.Kit.{sym, _∙_, needs}
 use Rattle.field.specs.Answers.{inverse-of}
 use Rattle.field.proofs.Refusals.{refused, found, one-good}
 use Rattle.field.proofs.Element.inverse.Statement.{statement}

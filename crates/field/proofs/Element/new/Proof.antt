@@ -1,7 +1,6 @@
 -- `field::Element::new` meets its contract.
 -- Assumes nothing.
-use mathlib.Core.Path.{refl}
-use borrow.Author.Needs.{needs}
+use Rattle.basics.proofs.Kit.{refl, needs}
 use Rattle.field.specs.Answers.{made}
 use Rattle.field.proofs.Refusals.{refused, found}
 use Rattle.field.proofs.Element.new.Statement.{statement}

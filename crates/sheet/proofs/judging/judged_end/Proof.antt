@@ -1,11 +1,8 @@
 -- `sheet::judged_end` meets its contract.
 -- Assumes nothing.
-use mathlib.Core.Path.{sym, ap, _∙_}
-use Prim.Native.Nat.{ℕ}
-use lib.Dec.{eqb}
+use Rattle.basics.proofs.Kit.{sym, ap, _∙_, ℕ, needs, eqb}
 use Rattle.refusal.proofs.Tests.{link}
 use Rattle.sheet.proofs.Turns.{end-judged}
-use borrow.Author.Needs.{needs}
 use Rattle.sheet.proofs.judging.judged_end.Statement.{statement}
 use Rattle.sheet.proofs.judging.judged_end.Tie as tie
 

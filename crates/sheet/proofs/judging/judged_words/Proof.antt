@@ -1,12 +1,9 @@
 -- `sheet::judged_words` meets its contract.
 -- Assumes nothing.
-use mathlib.Core.Path.{_≡_, refl, sym, ap, _∙_}
-use mathlib.Core.List.{List}
-use Prim.Native.Nat.{ℕ, _+_, _-_, _/_, _<_, _≤_}
+use Rattle.basics.proofs.Kit.{_≡_, refl, sym, ap, _∙_, List, ℕ, _+_, _-_, _/_, _≤_, _<_, arith, needs, length, getD, drop, now}
 use lib.Dec.{lit≤}
-use lib.ListN.{length, getD, drop, drop-of-length-le}
+use lib.ListN.{drop-of-length-le}
 use native.Mathlib.Nat.{sub-le}
-use denote.Ref.{now}
 use mir.Syntax.{w64}
 use mir.Val.{Fits}
 use Rattle.code.specs.Code.{width}
@@ -16,8 +13,6 @@ use Rattle.sheet.specs.Calls.{judgement}
 use Rattle.sheet.proofs.Forms.{question-long-le, at-most, next-in, few-fits, past-fits}
 use Rattle.sheet.proofs.Bytes.{as-words-length}
 use Rattle.sheet.proofs.Turns.{judged-none, head-here, turn-end, turn-refused, turn-more}
-use borrow.Author.Needs.{needs}
-use native.Mathlib.Omega.{arith}
 use Rattle.sheet.proofs.judging.judged_words.Statement.{statement}
 use Rattle.sheet.proofs.judging.judged_words.Tie as tie
 

@@ -1,11 +1,6 @@
 -- `sheet::refused_head` meets its contract.
 -- Assumes nothing.
-use mathlib.Core.Path.{refl, ap, _∙_}
-use Prim.Native.Nat.{ℕ}
-use lib.Dec.{eqb}
-use lib.ListN.{drop}
-use denote.Ref.{now}
-use borrow.Author.Needs.{needs}
+use Rattle.basics.proofs.Kit.{refl, ap, _∙_, ℕ, needs, drop, eqb, now}
 use Rattle.refusal.proofs.Tests.{link}
 use Rattle.sheet.specs.Sheet.{as-words, head-kind, question-refusal, head-refusal}
 use Rattle.sheet.proofs.judging.refused_head.Statement.{statement}

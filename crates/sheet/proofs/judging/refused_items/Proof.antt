@@ -1,17 +1,12 @@
 -- `sheet::refused_items` meets its contract.
 -- Assumes nothing.
-use mathlib.Core.Path.{_≡_, refl, sym, _∙_}
-use Prim.Native.Nat.{ℕ, _+_, _-_}
-use lib.ListN.{drop}
-use denote.Ref.{now}
+use Rattle.basics.proofs.Kit.{_≡_, refl, sym, _∙_, ℕ, _+_, _-_, arith, needs, drop, now}
 use Rattle.refusal.specs.Refusal.{first}
 use Rattle.refusal.proofs.Tests.{first-refuses, first-passes}
 use Rattle.sheet.specs.Sheet.{as-words, count, items-refusal}
 use Rattle.sheet.specs.Within.{outside}
 use Rattle.sheet.proofs.Bytes.{as-words-length}
 use Rattle.sheet.proofs.Turns.{items-none, items-out, items-step}
-use borrow.Author.Needs.{needs}
-use native.Mathlib.Omega.{arith}
 use Rattle.sheet.proofs.judging.refused_items.Statement.{statement}
 use Rattle.sheet.proofs.judging.refused_items.Tie as tie
 

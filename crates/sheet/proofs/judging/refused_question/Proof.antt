@@ -1,12 +1,7 @@
 -- `sheet::refused_question` meets its contract.
 -- Assumes nothing.
-use mathlib.Core.Path.{_≡_, sym, ap, ap₂, _∙_}
-use mathlib.Core.List.{List}
-use Prim.Native.Nat.{ℕ, _+_, _/_, _^_}
-use lib.ListN.{drop}
+use Rattle.basics.proofs.Kit.{_≡_, sym, ap, ap₂, _∙_, List, ℕ, _+_, _/_, _^_, arith, needs, drop, now}
 use lib.Seq.{drop-drop}
-use denote.Ref.{now}
-use native.Mathlib.Omega.{arith}
 use Rattle.refusal.specs.Refusal.{first}
 use Rattle.code.specs.Code.{long}
 use Rattle.code.specs.Bits.{row-long}
@@ -16,7 +11,6 @@ use Rattle.sheet.specs.Sheet.{symbols, as-words, count, after-row, row-w
 use Rattle.sheet.specs.Within.{Row-form, outside}
 use Rattle.sheet.proofs.Forms.{count-le, bits-le}
 use Rattle.sheet.proofs.Turns.{row-judged, symbols-judged}
-use borrow.Author.Needs.{needs}
 use Rattle.sheet.proofs.judging.refused_question.Statement.{statement}
 use Rattle.sheet.proofs.judging.refused_question.Tie as tie
 

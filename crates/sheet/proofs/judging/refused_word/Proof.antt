@@ -1,9 +1,6 @@
 -- `sheet::refused_word` meets its contract.
 -- Assumes nothing.
-use mathlib.Core.Path.{refl, ap}
-use Prim.Native.Nat.{ℕ}
-use lib.Dec.{eqb}
-use borrow.Author.Needs.{needs}
+use Rattle.basics.proofs.Kit.{refl, ap, ℕ, needs, eqb}
 use Rattle.refusal.proofs.Tests.{link}
 use Rattle.sheet.specs.Sheet.{used, items, unused, word-refusal}
 use Rattle.sheet.proofs.Turns.{scan-is}

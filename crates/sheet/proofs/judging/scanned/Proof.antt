@@ -1,8 +1,7 @@
 -- `sheet::scanned` meets its contract.
 -- Assumes nothing.
-use mathlib.Core.Path.{refl}
+use Rattle.basics.proofs.Kit.{refl, needs}
 use Rattle.sheet.proofs.Turns.{Scanned, digit, digits-done}
-use borrow.Author.Needs.{needs}
 use Rattle.sheet.proofs.judging.scanned.Statement.{statement}
 use Rattle.sheet.proofs.judging.scanned.Tie as tie
 

@@ -1,9 +1,6 @@
 -- `sheet::scanned_body` meets its contract.
 -- Assumes nothing.
-use mathlib.Core.Path.{_≡_, refl}
-use Prim.Native.Nat.{min}
-use native.Mathlib.Omega.{arith}
-use borrow.Author.Needs.{needs}
+use Rattle.basics.proofs.Kit.{_≡_, refl, min, arith, needs}
 use Rattle.sheet.proofs.Turns.{scan-is}
 use Rattle.sheet.proofs.judging.scanned_body.Statement.{statement}
 use Rattle.sheet.proofs.judging.scanned_body.Tie as tie

@@ -1,8 +1,7 @@
 -- `sheet::count_of` meets its contract.
 -- Assumes nothing.
-use mathlib.Core.Path.{refl}
+use Rattle.basics.proofs.Kit.{refl, needs}
 use Rattle.sheet.specs.Sheet.{count}
-use borrow.Author.Needs.{needs}
 use Rattle.sheet.proofs.words.count_of.Statement.{statement}
 use Rattle.sheet.proofs.words.count_of.Tie as tie
 

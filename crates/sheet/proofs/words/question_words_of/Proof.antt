@@ -1,14 +1,11 @@
 -- `sheet::question_words_of` meets its contract.
 -- Assumes nothing.
-use mathlib.Core.Path.{_≡_, ap₂, _∙_}
-use Prim.Native.Nat.{ℕ, _+_}
+use Rattle.basics.proofs.Kit.{_≡_, ap₂, _∙_, ℕ, _+_, arith, needs}
 use Rattle.code.specs.declared.Shape.{Shape}
 use Rattle.code.specs.Within.{Coded}
 use Rattle.sheet.specs.declared.Form.{Form}
 use Rattle.sheet.specs.Sheet.{symbols, count, row-words, symbol-words, question-long}
 use Rattle.sheet.proofs.Forms.{symbols-fine, count-le, bits-le, n-le}
-use native.Mathlib.Omega.{arith}
-use borrow.Author.Needs.{needs}
 use Rattle.sheet.proofs.words.question_words_of.Statement.{statement}
 use Rattle.sheet.proofs.words.question_words_of.Tie as tie
 

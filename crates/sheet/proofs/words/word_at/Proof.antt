@@ -1,10 +1,7 @@
 -- `sheet::word_at` meets its contract.
 -- Assumes nothing.
-use mathlib.Core.Path.{sym, _∙_}
-use native.Mathlib.Omega.{arith}
-use denote.Ref.{now}
+use Rattle.basics.proofs.Kit.{sym, _∙_, arith, needs, now}
 use Rattle.sheet.proofs.Bytes.{no-word, word-at}
-use borrow.Author.Needs.{needs}
 use Rattle.sheet.proofs.words.word_at.Statement.{statement}
 use Rattle.sheet.proofs.words.word_at.Tie as tie
 

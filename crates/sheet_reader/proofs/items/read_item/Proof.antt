@@ -1,8 +1,6 @@
 -- `sheet_reader::read_item` meets its contract.
 -- Assumes nothing.
-use mathlib.Core.Path.{ap, _∙_}
-use borrow.Author.Needs.{needs}
-use lib.ListN.{set}
+use Rattle.basics.proofs.Kit.{ap, _∙_, needs, set}
 use mir.Facts.{toZ-ofZ}
 use Rattle.sheet_reader.proofs.items.read_item.Statement.{statement}
 use Rattle.sheet_reader.proofs.items.read_item.Tie as tie

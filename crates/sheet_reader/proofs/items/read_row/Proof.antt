@@ -1,17 +1,10 @@
 -- `sheet_reader::read_row` meets its contract.
 -- Assumes nothing.
-use mathlib.Core.Path.{_≡_, refl, ap, _∙_}
-use mathlib.Core.List.{List}
-use Prim.Native.Nat.{ℕ, _+_, _-_, _<_}
-use native.Mathlib.Omega.{arith}
-use borrow.Author.Needs.{needs}
-use lib.ListN.{length, drop}
-use lib.IntN.{ℤ}
-use denote.Ref.{now}
+use Rattle.basics.proofs.Kit.{_≡_, refl, ap, _∙_, List, ℕ, _+_, _-_, _<_, arith, length, drop, ℤ, now}
 use Rattle.sheet.specs.Sheet.{as-words, row-of}
 use Rattle.sheet_reader.specs.declared.items.Spot.{Spot}
 use Rattle.sheet_reader.specs.Within.{items-from}
-use Rattle.sheet_reader.proofs.Reading.{filled-all, row-length, Rowed, row-none, row-long, row-more, row-again}
+use Rattle.sheet_reader.proofs.Reading.{filled-all, Rowed, row-none, row-long, row-more, row-again}
 use Rattle.sheet_reader.proofs.items.read_row.Statement.{statement}
 use Rattle.sheet_reader.proofs.items.read_row.Tie as tie
 

@@ -1,15 +1,10 @@
 -- `sheet_reader::read_symbols` meets its contract.
 -- Assumes nothing.
-use mathlib.Core.Path.{_≡_, sym, _∙_}
-use Prim.Native.Nat.{ℕ, _-_, _<_}
-use native.Mathlib.Omega.{arith}
-use lib.ListN.{length, drop}
-use denote.Ref.{now}
+use Rattle.basics.proofs.Kit.{_≡_, sym, _∙_, ℕ, _-_, _<_, arith, needs, length, drop, now}
 use Rattle.sheet.specs.Sheet.{symbols, as-words}
 use Rattle.sheet.proofs.Forms.{symbols-fine}
 use Rattle.sheet_reader.specs.Within.{items-from}
 use Rattle.sheet_reader.proofs.Reading.{items-from-length, Reading, reading-first, reading-more, item-is, Filled, filled-none, filled-more, filled-all}
-use borrow.Author.Needs.{needs}
 use Rattle.sheet_reader.proofs.items.read_symbols.Statement.{statement}
 use Rattle.sheet_reader.proofs.items.read_symbols.Tie as tie
 

@@ -1,9 +1,8 @@
 -- `sheet_reader::taken` meets its contract.
 -- Assumes nothing.
-use mathlib.Core.Path.{ap, _∙_}
+use Rattle.basics.proofs.Kit.{ap, _∙_, needs}
 use Rattle.sheet.specs.Sheet.{body}
 use Rattle.sheet_reader.proofs.Reading.{taken-new, taken-on}
-use borrow.Author.Needs.{needs}
 use Rattle.sheet_reader.proofs.items.taken.Statement.{statement}
 use Rattle.sheet_reader.proofs.items.taken.Tie as tie
 

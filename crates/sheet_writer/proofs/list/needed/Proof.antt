@@ -1,16 +1,11 @@
 -- `sheet_writer::needed` meets its contract.
 -- Assumes nothing.
-use mathlib.Core.Path.{_≡_, sym, _∙_}
-use mathlib.Core.List.{List}
-use Prim.Native.Nat.{ℕ, _+_, _-_, _≤_}
-use lib.ListN.{length, getD, drop, length-drop}
+use Rattle.basics.proofs.Kit.{_≡_, sym, _∙_, List, ℕ, _+_, _-_, _≤_, arith, needs, length, getD, drop, now}
+use lib.ListN.{length-drop}
 use lib.Seq.{drop-length}
-use denote.Ref.{now}
 use Rattle.sheet.proofs.Forms.{question-long-le}
 use Rattle.sheet_writer.specs.Within.{words-needed}
 use Rattle.sheet_writer.proofs.Lists.{needed-step, needed-le}
-use borrow.Author.Needs.{needs}
-use native.Mathlib.Omega.{arith}
 use Rattle.sheet_writer.proofs.list.needed.Statement.{statement}
 use Rattle.sheet_writer.proofs.list.needed.Tie as tie
 

@@ -1,12 +1,10 @@
 -- `sheet_writer::refused_list` meets its contract.
 -- Assumes nothing.
-use mathlib.Core.Path.{_≡_, refl, sym, ap, ap₂, _∙_}
-use Prim.Native.Nat.{ℕ, _+_, _-_, _<_, _≤_}
+use Rattle.basics.proofs.Kit.{_≡_, refl, sym, ap, ap₂, _∙_, ℕ, _+_, _-_, _≤_, _<_, needs, length, getD, drop, eqb, now}
 use native.Mathlib.Nat.{le-refl, le-trans}
-use lib.Dec.{eqb, lit≤}
-use lib.ListN.{length, getD, drop, length-drop}
+use lib.Dec.{lit≤}
+use lib.ListN.{length-drop}
 use lib.Seq.{drop-drop}
-use denote.Ref.{now}
 use Rattle.refusal.specs.Refusal.{first}
 use Rattle.refusal.proofs.Tests.{link, first-refuses, first-passes}
 use Rattle.code.specs.Code.{width, long}
@@ -16,7 +14,7 @@ use Rattle.sheet_writer.specs.Calls.{asked-refusal, list-refusal}
 use Rattle.sheet_writer.proofs.Lists.{rest-is, next-less, other-in, further-in, row-fits, length-fits, further-fits, list-step, list-end}
 use Rattle.sheet_writer.proofs.Writing.{room}
 use mir.Facts.{fits-le}
-use borrow.Author.Needs.{needs, scaled-fits}
+use borrow.Author.Needs.{scaled-fits}
 use Rattle.sheet_writer.proofs.list.refused_list.Statement.{statement}
 use Rattle.sheet_writer.proofs.list.refused_list.Tie as tie
 

@@ -1,15 +1,12 @@
 -- `sheet_writer::refused_parts` meets its contract.
 -- Assumes nothing.
-use mathlib.Core.Path.{sym, ap, _∙_}
-use native.Mathlib.Omega.{arith}
+use Rattle.basics.proofs.Kit.{sym, ap, _∙_, arith, needs, now}
 use lib.Seq.{length-take-le}
-use denote.Ref.{now}
 use Rattle.code.specs.Code.{symbols-good}
 use Rattle.metric.specs.Row.{row-good}
 use Rattle.sheet.specs.Sheet.{sheet-bound}
 use Rattle.sheet_writer.specs.Calls.{fits}
 use Rattle.sheet_writer.proofs.Lists.{take-least, parts-is}
-use borrow.Author.Needs.{needs}
 use Rattle.sheet_writer.proofs.list.refused_parts.Statement.{statement}
 use Rattle.sheet_writer.proofs.list.refused_parts.Tie as tie
 

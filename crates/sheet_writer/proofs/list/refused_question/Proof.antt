@@ -1,14 +1,11 @@
 -- `sheet_writer::refused_question` meets its contract.
 -- Assumes nothing.
-use mathlib.Core.Path.{refl}
-use lib.Dec.{ltb}
-use denote.Ref.{now}
+use Rattle.basics.proofs.Kit.{refl, needs, ltb, now}
 use Rattle.refusal.specs.Refusal.{unless}
 use Rattle.refusal.proofs.Tests.{link}
 use Rattle.code.proofs.Promise.{chosen-refusal}
 use Rattle.sheet.specs.Sheet.{numbers}
 use Rattle.sheet_writer.specs.Calls.{parts-refusal, asked-refusal}
-use borrow.Author.Needs.{needs}
 use Rattle.sheet_writer.proofs.list.refused_question.Statement.{statement}
 use Rattle.sheet_writer.proofs.list.refused_question.Tie as tie
 

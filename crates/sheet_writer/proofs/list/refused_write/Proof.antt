@@ -1,14 +1,7 @@
 -- `sheet_writer::refused_write` meets its contract.
 -- Assumes nothing.
-use mathlib.Core.Path.{_≡_, refl, sym, ap, ap₂, _∙_}
-use mathlib.Core.Bool.{true, false, _&&_}
-use mathlib.Core.List.{List}
-use Prim.Native.Nat.{ℕ, _+_, _*_, _≤_}
+use Rattle.basics.proofs.Kit.{_≡_, refl, sym, ap, ap₂, _∙_, true, false, _&&_, List, ℕ, _+_, _*_, _≤_, arith, needs, length, eqb, leb, ℤ, now}
 use borrow.Author.Tests.{not-true, not-false, leb-true, eqb-true}
-use lib.Dec.{leb, eqb}
-use lib.ListN.{length}
-use lib.IntN.{ℤ}
-use denote.Ref.{now}
 use Rattle.refusal.specs.Refusal.{unless, first}
 use Rattle.refusal.proofs.Tests.{link}
 use Rattle.sheet.specs.declared.Form.{Form}
@@ -19,8 +12,6 @@ use Rattle.sheet_writer.specs.Calls.{list-refusal, write-refusal}
 use Rattle.sheet_writer.specs.Within.{words-needed}
 use Rattle.sheet_writer.proofs.Lists.{needed-le}
 use Rattle.sheet_writer.proofs.Writing.{sheet-long}
-use native.Mathlib.Omega.{arith}
-use borrow.Author.Needs.{needs}
 use Rattle.sheet_writer.proofs.list.refused_write.Statement.{statement}
 use Rattle.sheet_writer.proofs.list.refused_write.Tie as tie
 

@@ -1,12 +1,6 @@
 -- `sheet_writer::item_of` meets its contract.
 -- Assumes nothing.
-use mathlib.Core.Path.{_≡_, sym, ap, _∙_}
-use mathlib.Core.List.{List}
-use Prim.Native.Nat.{ℕ, _<_}
-use native.Mathlib.Omega.{arith}
-use lib.ListN.{length, getD}
-use lib.IntN.{ℤ, pos}
-use denote.Ref.{now}
+use Rattle.basics.proofs.Kit.{_≡_, sym, ap, _∙_, List, ℕ, _<_, arith, needs, length, getD, ℤ, pos, now}
 use mir.Syntax.{w16}
 use mir.Val.{toZ, ofZ}
 use mir.Facts.{toZ-ofZ}
@@ -17,7 +11,6 @@ use Rattle.sheet.proofs.Forms.{row-items-length}
 use Rattle.sheet_writer.specs.Within.{items-of}
 use Rattle.sheet_writer.proofs.Packing.{row-items-at}
 use Rattle.sheet_writer.proofs.Questions.{items-symbols, items-row}
-use borrow.Author.Needs.{needs}
 use Rattle.sheet_writer.proofs.pack.item_of.Statement.{statement}
 use Rattle.sheet_writer.proofs.pack.item_of.Tie as tie
 

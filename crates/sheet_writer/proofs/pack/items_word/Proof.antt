@@ -1,17 +1,13 @@
 -- `sheet_writer::items_word` meets its contract.
 -- Assumes nothing.
-use mathlib.Core.Path.{_≡_, sym, ap, _∙_, subst}
-use mathlib.Core.List.{List}
-use Prim.Native.Nat.{ℕ, _+_, _*_, _-_, _<_, _≤_}
-use native.Mathlib.Omega.{arith}
-use lib.ListN.{length, getD, take, drop, length-take, length-drop}
-use denote.Ref.{now}
+use Rattle.basics.proofs.Kit.{_≡_, sym, ap, _∙_, List, ℕ, _+_, _-_, _*_, _≤_, _<_, arith, needs, length, getD, take, drop, now}
+use mathlib.Core.Path.{subst}
+use lib.ListN.{length-take, length-drop}
 use Rattle.sheet.specs.declared.Form.{Form}
 use Rattle.sheet.specs.Sheet.{packed, worded}
 use Rattle.sheet_writer.specs.Within.{items-of}
 use Rattle.sheet_writer.proofs.Packing.{packed-end}
 use Rattle.sheet_writer.proofs.Questions.{packed-fits, packed-more}
-use borrow.Author.Needs.{needs}
 use Rattle.sheet_writer.proofs.pack.items_word.Statement.{statement}
 use Rattle.sheet_writer.proofs.pack.items_word.Tie as tie
 

@@ -1,10 +1,8 @@
 -- `sheet_writer::put_word` meets its contract.
 -- Assumes nothing.
-use native.Mathlib.Omega.{arith}
+use Rattle.basics.proofs.Kit.{arith, needs, now}
 use lib.ListN.{length-set}
-use denote.Ref.{now}
 use Rattle.sheet_writer.proofs.Packing.{four-stores}
-use borrow.Author.Needs.{needs}
 use Rattle.sheet_writer.proofs.pack.put_word.Statement.{statement}
 use Rattle.sheet_writer.proofs.pack.put_word.Tie as tie
 

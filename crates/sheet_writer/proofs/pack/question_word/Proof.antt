@@ -1,12 +1,8 @@
 -- `sheet_writer::question_word` meets its contract.
 -- Assumes nothing.
-use mathlib.Core.Path.{_≡_, refl, sym, ap, _∙_}
-use Prim.Native.Nat.{ℕ, _-_, _<_}
+use Rattle.basics.proofs.Kit.{_≡_, refl, sym, ap, _∙_, ℕ, _-_, _<_, arith, needs, length, now}
 use native.Mathlib.Nat.{pos-of-ne-zero}
-use native.Mathlib.Omega.{arith}
 use lib.Pow.{pow-mono}
-use lib.ListN.{length}
-use denote.Ref.{now}
 use Rattle.code.specs.Code.{width}
 use Rattle.code.proofs.Accepted.{width-fine}
 use Rattle.sheet.specs.Sheet.{question, symbols, count, row-words, symbol-words, question-long}
@@ -14,7 +10,6 @@ use Rattle.sheet.proofs.Forms.{symbols-fine, row-items-length, row-long-le, cou
 use Rattle.sheet.proofs.Longest.{question-length}
 use Rattle.sheet.proofs.Trips.{Good, good-parts, code-lt, width-le}
 use Rattle.sheet_writer.proofs.Questions.{items-word, word-head, word-row, word-symbol, items-row, items-symbols}
-use borrow.Author.Needs.{needs}
 use Rattle.sheet_writer.proofs.pack.question_word.Statement.{statement}
 use Rattle.sheet_writer.proofs.pack.question_word.Tie as tie
 
