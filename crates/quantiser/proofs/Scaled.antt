@@ -7,7 +7,7 @@ use Prim.Native.Nat.{compare}
 use native.Mathlib.Nat.{le-of-eq, le-of-suc-le-suc, le-trans, lt-of-lt-of-le, lt-of-not-le, min-eq-right, not-le-of-lt, le-div-iff-mul-le, le-of-mul-le-mul-right, lt-of-mul-lt-mul-right, mul-assoc, mul-div-cancel, mul-le-mul-right, mul-lt-mul-of-pos-right, mul-one, mul-pos, mul-right-comm, one-mul, zero-mul}
 use lib.Dec.{T, lit<, lit≤, leb→le, ltb→lt, eqb→eq, not-T}
 use lib.Pow.{pow-add, pow-pos, pow-lt}
-use lib.Ieee.{Float, nan, inf, fin, up, down, binary32, mul, round, units, odd, fits, isNan, unlike, size}
+use lib.Ieee.{Float, nan, inf, fin, up, down, binary32, mul, round, units, odd, fits, isNan, unlike, size, nearest as to-even}
 use lib.Ieee.Bits.{cond-no}
 use lib.Ieee.Digits.{back, size-le}
 use lib.Ieee.Exact.{HasValue, round-exact}
