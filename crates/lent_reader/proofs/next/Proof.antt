@@ -1,10 +1,12 @@
 -- `lent_reader::next` meets its contract: a walk of its MIR, by hand. The struct is taken apart, and `yield_at` is called on the slice, the number and the lent outputs. All that the proof knows of `yield_at` is that it meets its contract.
 -- The outputs go to it at their own lifetimes, shares and ghost names, and are given up for good: what it says of their last lists is what `next` says.
 -- Assumes nothing.
-use Rattle.lent_reader.proofs.Walking.{_≡_, refl, List, [], _∷_, ℕ, _<_, _^_, length, ℤ, URA, named, w64, Val, WT, hasTy, vint, SProp, ent, sep, emp, via, fst∗, id⊢, Fml, Memory, Routine, Heap, Calls, Loops, WpFn, Atoms, sem, Lfts, Shares, Fun, fact, givenOf, tables, tablesOf, Given, ‵, raw, _⊛_, given, ⋆, some, later, _$_, _∵_, !, qed, by, move, keep, drop, use1, use2, split, join, learn, pick, fsplit, fjoin, feqL, suffices, frame, await, done, agg, whole, sub, look-in}
+use Rattle.lent_reader.proofs.Walking.{_≡_, refl, List, [], _∷_, ℕ, _<_, _^_, length, ℤ, URA, named, w64, Val, WT, hasTy, vint, SProp, ent, sep, emp, via, fst∗, id⊢, Fml, Memory, Routine, Heap, Calls, Loops, WpFn, Atoms, sem, Lfts, Shares, Fun, fact, givenOf, tables, tablesOf}
+use Rattle.lent_reader.proofs.Walking.{Given, ‵, raw, _⊛_, given, ⋆, some, later, _$_, _∵_, !, qed, by, move, keep, drop, use1, use2, split, join, learn, pick, fsplit, fjoin, feqL, suffices, frame, await, done, agg, whole, sub, look-in}
 use Rattle.lent_reader.proofs.Walking.{look, init, forget, stop, hop, fld, from, load, addr, of-opd, and-then, no-more, assigns, land, returns, enter, alloc1, alloc0, params1, pass1, pass0, free1, free0, FmC, fmOf, WpFn-mono, RattleType, owns, Is, shows, uint-makes, u8, i16, usize, RefT, now, plain, namedLft}
 use Rattle.lent_reader.proofs.Walking.{ShrSlice, MutSlice, Room, finally, slice-vals, mut-slice-tells, owned, peeks, heard, nothing, Declared, all-own, ownAt, rest, own-open, own-out, Values, Contract, Triple, calls-at, ensured, lasts, Vals, onEntry, tripleOf, entered, cited}
 use Rattle.lent_reader.proofs.Walking.{says, Stays, stay-none, gave-slice, walkOf, goes-none, goes-gave-slice, ends-at, walked, walk-meets, yes, Reader, value, tokens}
+use lib.Dec.{T as Holds}
 use denote.Struct.Laws as LL
 use Rattle.sheet_reader.specs.declared.Step.{Step}
 use Rattle.sheet_reader.proofs.Step as S
@@ -14,7 +16,9 @@ use Rattle.lent_reader.proofs.Reader as T
 use Rattle.lent_reader.proofs.Reader.Laws as T′
 use Rattle.lent_reader.proofs.yield_at as yield-at
 use Rattle.lent_reader.proofs.yield_at.Symbol as yield-at-def
+use Rattle.lent_reader.proofs.yield_at.Symbol.{name as #lent-reader·yield-at}
 use Rattle.lent_reader.proofs.yield_at.Met as yield-at-thm
+use Rattle.lent_reader.proofs.next.Key.{name as #lent-reader·next}
 use Rattle.lent_reader.proofs.next as next
 use Rattle.lent_reader.proofs.next.Statement as stated
 use Rattle.lent_reader.proofs.next.Code as code

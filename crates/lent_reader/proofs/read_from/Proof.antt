@@ -1,7 +1,8 @@
 -- `lent_reader::read_from` meets its contract: a walk of its MIR, by hand. A `Reader` is made in a local of the slice and the number, and `next` is called on it and the lent outputs. All that the proof knows of `next` is that it meets its contract.
 -- The outputs are given up for good to `next`, at their own lifetimes, shares and ghost names.
 -- Assumes nothing.
-use Rattle.lent_reader.proofs.Walking.{_≡_, refl, List, [], _∷_, ℕ, _<_, _^_, length, ℤ, URA, named, w64, Val, vint, SProp, ent, sep, emp, via, fst∗, id⊢, Fml, Memory, Routine, Heap, Calls, Loops, WpFn, Atoms, sem, Lfts, Shares, Fun, fact, givenOf, tables, tablesOf, Given, ‵, raw, _⊛_, ⋆, some, later, _$_, _∵_, !, qed, by, move, keep, drop, use1, use2, split, join, pick, fsplit, fjoin, feqL, suffices, frame, await, done, agg, whole, sub, look-in}
+use Rattle.lent_reader.proofs.Walking.{_≡_, refl, List, [], _∷_, ℕ, _<_, _^_, length, ℤ, URA, named, w64, Val, vint, SProp, ent, sep, emp, via, fst∗, id⊢, Fml, Memory, Routine, Heap, Calls, Loops, WpFn, Atoms, sem, Lfts, Shares, Fun, fact, givenOf, tables, tablesOf}
+use Rattle.lent_reader.proofs.Walking.{Given, ‵, raw, _⊛_, ⋆, some, later, _$_, _∵_, !, qed, by, move, keep, drop, use1, use2, split, join, pick, fsplit, fjoin, feqL, suffices, frame, await, done, agg, whole, sub, look-in}
 use Rattle.lent_reader.proofs.Walking.{look, init, forget, stop, hop, fld, from, load, addr, and-then, no-more, assigns, land, returns, enter, alloc1, alloc0, params1, pass1, pass0, free1, free0, FmC, fmOf, WpFn-mono, RattleType, owns, Is, shows, uint-makes, uint-vals, uint-tells, u8, i16, usize, RefT, now, plain, namedLft}
 use Rattle.lent_reader.proofs.Walking.{ShrSlice, MutSlice, Room, finally, slice-vals, shr-slice-tells, shr-slice-lawful, shr-slice-copy, mut-slice-tells, owned, peeks, heard, nothing, own-shut, Contract, Triple, calls-at, ensured, lasts, Vals, onEntry, tripleOf, entered, cited}
 use Rattle.lent_reader.proofs.Walking.{says, Stays, stay-none, stay-none-slice, gave-slice, walkOf, goes-none, goes-none-slice, goes-gave-slice, ends-at, walked, walk-meets, yes, Reader, value, tokens}
@@ -14,7 +15,9 @@ use Rattle.lent_reader.proofs.Reader as T
 use Rattle.lent_reader.proofs.Reader.Laws as T′
 use Rattle.lent_reader.proofs.next as next
 use Rattle.lent_reader.proofs.next.Symbol as next-def
+use Rattle.lent_reader.proofs.next.Symbol.{name as #lent-reader·next}
 use Rattle.lent_reader.proofs.next.Met as next-thm
+use Rattle.lent_reader.proofs.read_from.Key.{name as #lent-reader·read-from}
 use Rattle.lent_reader.proofs.read_from as read-from
 use Rattle.lent_reader.proofs.read_from.Statement as stated
 use Rattle.lent_reader.proofs.read_from.Code as code
