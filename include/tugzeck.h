@@ -64,7 +64,17 @@ enum tugzeck_refusal {
     TUGZECK_KIND = 10,        /* wrong kind at this word of a sheet */
     TUGZECK_UNUSED_BITS = 11, /* unused bits of a sheet are not zero */
     TUGZECK_COUNT = 12,       /* a 201st question, or a count that differs */
-    TUGZECK_AFTER_END = 13    /* words after the end of a sheet */
+    TUGZECK_AFTER_END = 13,   /* words after the end of a sheet */
+    TUGZECK_SYMBOL_KIND = 14, /* a received symbol's kind is above 3 */
+    TUGZECK_FILL = 15         /* received symbols and samples do not fill the row exactly */
+};
+
+/* The kinds of received symbols, a byte each. */
+enum tugzeck_received {
+    TUGZECK_LOST_ONE = 0, /* lost, one bit */
+    TUGZECK_LOST_TWO = 1, /* lost, two bits */
+    TUGZECK_SINGLE = 2,   /* one bit, by one sample */
+    TUGZECK_PAIR = 3      /* two bits, by an in-phase sample and then a quadrature sample */
 };
 
 enum tugzeck_verdict { TUGZECK_NONE = 0, TUGZECK_SHORT = 1, TUGZECK_BEST = 2 };
@@ -124,6 +134,12 @@ struct tugzeck_splitting tugzeck_split(uint32_t code, const uint8_t *word, size_
 /* Turns the n*m samples of a row into reliabilities, in the n*m places of `row`: each the nearest whole number to 32 times the sample,
  * halves away from zero, clipped to -127 or 127. Answers 0, or refuses by 1, 2 (`samples`), 4 (`row`), 7. */
 uint32_t tugzeck_quantise(uint32_t code, const float *samples, size_t samples_count, int16_t *row, size_t row_count);
+
+/* Turns received symbols into the n*m reliabilities of `row`, one symbol after another: `kinds` has a byte for each (enum tugzeck_received),
+ * and a symbol takes the samples that come next. A lost bit gives 0, a sample what tugzeck_quantise gives it, a pair in-phase first. Answers 0, or
+ * refuses by 1, 4 (`row`), 14, 15 (the symbols have more or fewer than n*m bits, or take more or fewer samples than there are), 7. */
+uint32_t tugzeck_receive(uint32_t code, const uint8_t *kinds, size_t kinds_count, const float *samples, size_t samples_count, int16_t *row,
+                         size_t row_count);
 
 /* Decodes a row of n*m reliabilities: 0 and the best metric, in the n places of `word` a codeword that has it, and in the n*m places of `soft`
  * the soft outputs: the greatest metric of a codeword with 0 at that bit less the greatest with 1. Where several words tie, any one of them.

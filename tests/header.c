@@ -66,6 +66,21 @@ int main(void) {
     samples[20] = samples[3] / samples[3];
     SAME(tugzeck_quantise(1, samples, 21, row, 21), TUGZECK_SAMPLE);
 
+    static const uint8_t kinds[13] = {TUGZECK_PAIR, TUGZECK_LOST_TWO, TUGZECK_SINGLE, TUGZECK_LOST_ONE, 1, 1, 1, 1, 1, 1, 1, 0, 0},
+                         kind_4[1] = {4};
+    static const float received[4] = {1.0f, -1.0f / 64, 3.984375f, 0};
+    SAME(tugzeck_receive(1, kinds, 11, received, 3, row, 21), TUGZECK_FILL);
+    SAME(tugzeck_receive(1, kinds, 13, received, 3, row, 21), TUGZECK_FILL);
+    SAME(tugzeck_receive(1, kinds, 12, received, 2, row, 21), TUGZECK_FILL);
+    SAME(tugzeck_receive(1, kinds, 12, received, 4, row, 21), TUGZECK_FILL);
+    SAME(tugzeck_receive(1, kinds, 12, received, 3, row, 21), 0);
+    SAME(row[0], 32);
+    SAME(row[1], -1);
+    SAME(row[2] | row[3], 0);
+    SAME(row[4], 127);
+    SAME(tugzeck_receive(1, kind_4, 1, received, 3, row, 21), TUGZECK_SYMBOL_KIND);
+    SAME(tugzeck_receive(1, kind_4, 1, received, 3, row, 20), TUGZECK_OUTPUT);
+
     for (int i = 0; i < TUGZECK_MOST_ROW; i++)
         row[i] = -10;
     struct tugzeck_decoding d = tugzeck_decode(1, row, 21, word, 7, soft, 21);
@@ -141,6 +156,6 @@ int main(void) {
     SAME(l.number, TUGZECK_OUTPUT);
     SAME(l.length, 0);
 
-    printf("compared: %u answers of all eleven calls through the header\n", compared);
+    printf("compared: %u answers of all twelve calls through the header\n", compared);
     return 0;
 }

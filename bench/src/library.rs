@@ -59,4 +59,4 @@ pub fn sheet(code: u32, questions: &[(Vec<i16>, Vec<u8>)]) -> Vec<u8> {
     output
 }
 
-pub use package::{list, LISTING};
+pub use package::{list, quantise, receive, LISTING};

@@ -4,9 +4,11 @@
 //!     bench call WHICH CALL CODE N    N calls on rows of one pool, for a count of instructions
 //!     bench time WHICH CALL CODE N    nanoseconds a call, the least of five runs of N calls
 //!
-//! WHICH is library, plain or wolf; CALL is decode or mark, or for the library list: a listing of the whole pool.
+//! WHICH is library, plain or wolf; CALL is decode or mark, for library and plain also quantise or receive, for the library alone list: a
+//! listing of the whole pool.
 
 mod codes;
+mod front;
 mod library;
 mod plain;
 mod wolf;
@@ -48,6 +50,56 @@ impl Decoders {
             _ => usage(),
         }
     }
+}
+
+/// A row as samples, and as received symbols: kinds drawn until they fill it, with samples where they are not lost.
+struct Front {
+    bits: usize,
+    samples: Vec<Vec<f32>>,
+    received: Vec<(Vec<u8>, Vec<f32>)>,
+}
+
+impl Front {
+    fn new(bits: usize) -> Front {
+        let mut rows = Rows::new(bits);
+        let samples: Vec<Vec<f32>> = (0..POOL).map(|_| rows.within(150).iter().map(|r| f32::from(*r) / 32.0 + 0.01).collect()).collect();
+        let received = samples.iter().map(|all| symbols(&mut rows, bits, all)).collect();
+        Front { bits, samples, received }
+    }
+
+    fn quantise(&self, which: &str, code: u32, k: usize, row: &mut [i16]) {
+        let samples = black_box(&self.samples[k % POOL]);
+        let done = match which {
+            "library" => library::quantise(code, samples, row).ok(),
+            "plain" => front::quantise(self.bits, samples, row),
+            _ => usage(),
+        };
+        done.expect("samples of a row");
+    }
+
+    fn receive(&self, which: &str, code: u32, k: usize, row: &mut [i16]) {
+        let (kinds, samples) = black_box(&self.received[k % POOL]);
+        let done = match which {
+            "library" => library::receive(code, kinds, samples, row).ok(),
+            "plain" => front::receive(self.bits, kinds, samples, row),
+            _ => usage(),
+        };
+        done.expect("symbols of a row");
+    }
+}
+
+fn symbols(rows: &mut Rows, bits: usize, samples: &[f32]) -> (Vec<u8>, Vec<f32>) {
+    let (mut kinds, mut held, mut at) = (vec![], vec![], 0);
+    while at < bits {
+        let kind = rows.draw() as u8 % 4;
+        let has = 1 + usize::from(kind % 2);
+        if at + has <= bits {
+            kinds.push(kind);
+            held.extend(samples[at..at + has].iter().filter(|_| kind > 1));
+            at += has;
+        }
+    }
+    (kinds, held)
 }
 
 fn usage() -> ! {
@@ -101,8 +153,17 @@ fn calls(which: &str, call: &str, decoders: &mut Decoders, pool: &[(Vec<i16>, Ve
     let mut soft = vec![0; code.bits()];
     let sheet = library::sheet(decoders.number, pool);
     let mut text = vec![0; library::LISTING];
-    for (row, handed) in pool.iter().cycle().take(n) {
+    let front = Front::new(code.bits());
+    for (k, (row, handed)) in pool.iter().cycle().take(n).enumerate() {
         match call {
+            "quantise" => {
+                front.quantise(which, decoders.number, k, &mut soft);
+                black_box(&soft);
+            }
+            "receive" => {
+                front.receive(which, decoders.number, k, &mut soft);
+                black_box(&soft);
+            }
             "list" => {
                 black_box(library::list(black_box(&sheet), &mut text).expect("a listing"));
             }
@@ -147,6 +208,16 @@ fn check(number: u32, count: usize) {
                 handed = word;
             }
         }
+    }
+    let front = Front::new(code.bits());
+    for k in 0..POOL {
+        let rows = ["library", "plain"].map(|which| {
+            let (mut quantised, mut received) = (vec![0; code.bits()], vec![0; code.bits()]);
+            front.quantise(which, number, k, &mut quantised);
+            front.receive(which, number, k, &mut received);
+            (quantised, received)
+        });
+        assert_eq!(rows[0], rows[1], "quantised and received, row {k}");
     }
     let [none, short, best] = verdicts;
     println!("code {number}: all three agree on {count} rows and on marks of {best} best, {short} short and {none} other words");

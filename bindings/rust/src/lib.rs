@@ -32,6 +32,18 @@ pub const MOST_SHEET: usize = 19_204;
 /// How long the output of [`list`] is: room for the longest listing.
 pub const LISTING: usize = 19_058;
 
+/// The kind of a received symbol that is lost, with one bit.
+pub const LOST_ONE: u8 = 0;
+
+/// The kind of a received symbol that is lost, with two bits.
+pub const LOST_TWO: u8 = 1;
+
+/// The kind of a received symbol of one bit, by one sample.
+pub const SINGLE: u8 = 2;
+
+/// The kind of a received symbol of two bits, by an in-phase sample and then a quadrature sample.
+pub const PAIR: u8 = 3;
+
 /// Symbols to a word (n). Codes are 1 to 3; of other numbers this says nothing.
 pub const fn word_length(code: u32) -> usize {
     if code == 3 {
@@ -94,11 +106,15 @@ pub enum Refusal {
     Count = 12,
     /// Words after the end of a sheet.
     AfterEnd = 13,
+    /// A received symbol's kind is above 3.
+    SymbolKind = 14,
+    /// Received symbols and samples do not fill the row exactly.
+    Fill = 15,
 }
 
 impl Refusal {
     /// Every refusal, by its number.
-    pub const ALL: [Refusal; 13] = [
+    pub const ALL: [Refusal; 15] = [
         Refusal::Code,
         Refusal::RowLength,
         Refusal::WordLength,
@@ -112,6 +128,8 @@ impl Refusal {
         Refusal::UnusedBits,
         Refusal::Count,
         Refusal::AfterEnd,
+        Refusal::SymbolKind,
+        Refusal::Fill,
     ];
 
     /// The number that the library answers.
@@ -136,6 +154,8 @@ impl fmt::Display for Refusal {
             Refusal::UnusedBits => "unused bits that are not zero",
             Refusal::Count => "too many questions, or a count that differs",
             Refusal::AfterEnd => "words after the end of a sheet",
+            Refusal::SymbolKind => "a received symbol of no kind",
+            Refusal::Fill => "received symbols that do not fill the row exactly",
         };
         write!(f, "refused by {}: {met}", self.number())
     }
@@ -204,6 +224,25 @@ pub fn split(code: u32, word: &[u8], bch: &mut [u8]) -> Result<[u16; 4], Refusal
 pub fn quantise(code: u32, samples: &[f32], row: &mut [i16]) -> Result<(), Refusal> {
     // SAFETY: both are slices, and the output is borrowed alone.
     let number = unsafe { raw::tugzeck_quantise(code, samples.as_ptr(), samples.len(), row.as_mut_ptr(), row.len()) };
+    unless_refused(number, ())
+}
+
+/// Turns received symbols into the n·m reliabilities of a row, one symbol after another. Each has a kind ([`LOST_ONE`], [`LOST_TWO`], [`SINGLE`] or
+/// [`PAIR`]) and takes the samples that come next. A lost bit gives 0, a sample what [`quantise`] gives it, a pair in-phase first. Refuses by 1,
+/// 4, 14, 15 (the symbols have more or fewer than n·m bits, or take more or fewer samples than there are), 7.
+///
+/// ```
+/// use tugzeck::{LOST_ONE, LOST_TWO, PAIR, SINGLE};
+/// let kinds = [PAIR, LOST_TWO, SINGLE, PAIR, PAIR, PAIR, PAIR, PAIR, PAIR, PAIR, LOST_ONE, LOST_ONE];
+/// let mut row = [0; 21];
+/// assert_eq!(tugzeck::receive(1, &kinds, &[1.0; 17], &mut row), Ok(()));
+/// assert_eq!(row[..6], [32, 32, 0, 0, 32, 32]);
+/// assert_eq!(tugzeck::receive(1, &kinds, &[1.0; 16], &mut row), Err(tugzeck::Refusal::Fill));
+/// ```
+pub fn receive(code: u32, kinds: &[u8], samples: &[f32], row: &mut [i16]) -> Result<(), Refusal> {
+    // SAFETY: all are slices, and the output is borrowed alone.
+    let number =
+        unsafe { raw::tugzeck_receive(code, kinds.as_ptr(), kinds.len(), samples.as_ptr(), samples.len(), row.as_mut_ptr(), row.len()) };
     unless_refused(number, ())
 }
 

@@ -45,6 +45,15 @@ extern "C" {
     pub fn tugzeck_check_word(code: u32, word: *const u8, word_count: usize) -> u32;
     pub fn tugzeck_split(code: u32, word: *const u8, word_count: usize, bch: *mut u8, bch_count: usize) -> Splitting;
     pub fn tugzeck_quantise(code: u32, samples: *const f32, samples_count: usize, row: *mut i16, row_count: usize) -> u32;
+    pub fn tugzeck_receive(
+        code: u32,
+        kinds: *const u8,
+        kinds_count: usize,
+        samples: *const f32,
+        samples_count: usize,
+        row: *mut i16,
+        row_count: usize,
+    ) -> u32;
     pub fn tugzeck_decode(
         code: u32,
         row: *const i16,

@@ -7,17 +7,17 @@ use native.Mathlib.Numerals.{add-one}
 use lib.ListN.{length-drop, drop-of-length-le}
 use lib.Seq.{take-all, set-split, take-set-le, drop-at, length-take-le}
 
-module _ (l : List ℕ) (a : ℕ) where
+module _ {A : Type 0} (l : List A) (a : ℕ) where
   pub tail-is : take (length l - a) (drop a l) ≡ drop a l
   tail-is = take-all (length l - a) (drop a l) (omega (arith, length-drop a l))
 
   pub tail-long : length (take (length l - a) (drop a l)) ≡ length l - a
   tail-long = ap length tail-is ∙ length-drop a l
 
-  pub put-tail : (p : List ℕ) → take a l ++ (p ++ drop (length l - a) (drop a l)) ≡ take a l ++ p
+  pub put-tail : (p : List A) → take a l ++ (p ++ drop (length l - a) (drop a l)) ≡ take a l ++ p
   put-tail p =
       let h : length (drop a l) ≤ length l - a = omega (arith, length-drop a l) in
-      ap (λ (r : List ℕ). take a l ++ r) (ap (λ (r : List ℕ). p ++ r) (drop-of-length-le (drop a l) h) ∙ append-nil p)
+      ap (λ (r : List A). take a l ++ r) (ap (λ (r : List A). p ++ r) (drop-of-length-le (drop a l) h) ∙ append-nil p)
 
 -- a list with a zero put at a place, and its part from there on
 module _ (l : List ℕ) (a : ℕ) (h : a < length l) where

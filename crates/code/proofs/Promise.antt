@@ -5,8 +5,9 @@ use native.Mathlib.Nat.{not-suc-le-zero}
 use lib.Dec.{leb→le, lit<, lit≤}
 use lib.ListN.{length-drop}
 use Rattle.field.specs.Field.{width-good}
-use Rattle.field.proofs.Tests.{and-l, and-r, to-T}
+use Rattle.field.proofs.Tests.{and-l, and-r, to-T, widths}
 use Rattle.code.specs.Code.{code-good, number-refusal, width, roots, long, message-long, symbols-good, is-codeword, message}
+use Rattle.code.specs.Bits.{row-long}
 use Rattle.code.specs.Promise.{Codes-inside, Encodes-once, Message-good, Encoded-read, Read-encoded}
 use Rattle.code.proofs.Words.{good, drop-below, Codeword-parts, codeword-parts}
 use Rattle.refusal.specs.Refusal.{first}
@@ -83,6 +84,11 @@ chosen-refusal X s e f = go e (s .number-is) f (s .m-is) (s .r-is)
   where
     go : {n p p′ b m m′ r r′ : ℕ} → n ≡ first p b → p ≡ p′ → b ≡ X m r → m ≡ m′ → r ≡ r′ → n ≡ first p′ (X m′ r′)
     go e p f m r = rw (← p, ← m, ← r, ← f) e
+
+-- a row has at most 60 entries
+pub row-small : (m : ℕ) → width-good m ≡ true → row-long m ≤ 60
+unfolding row-long long
+row-small = widths (λ (m : ℕ). row-long m ≤ 60) (lit≤ tt) (lit≤ tt)
 
 pub codes-inside : Codes-inside
 unfolding Codes-inside width roots long width-good

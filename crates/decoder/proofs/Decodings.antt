@@ -7,6 +7,7 @@ use Rattle.field.proofs.Tests.{widths}
 use Rattle.code.specs.declared.Shape.{Shape}
 use Rattle.code.specs.Code.{is-codeword}
 use Rattle.code.specs.Bits.{row-long}
+use Rattle.code.proofs.Promise.{row-small}
 use Rattle.metric.specs.Row.{row-bound}
 use Rattle.metric.specs.Metric.{Decoded}
 use Rattle.metric.specs.Cost.{weight-of, top, Least-with}
@@ -15,7 +16,6 @@ use Rattle.metric.proofs.Bounds.{weight-le, cost-le}
 use Rattle.soft.specs.Pass.{folded}
 use Rattle.search.specs.Within.{Input}
 use Rattle.decoder.specs.Within.{Best, Softs, Softs-within, Softened}
-use Rattle.split.proofs.Whole.{row-small}
 
 module _ {s : Shape} {row : List ℤ} (z : Input s row) where
   pub row-60 : length row ≤ 60

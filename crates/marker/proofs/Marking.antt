@@ -1,13 +1,12 @@
 -- A mark is right: what a codeword costs more than the least is what it lacks.
 -- Assumes nothing.
 use Rattle.basics.proofs.Kit.{_≡_, sym, ap, _∙_, true, List, ℕ, _-_, _*_, _^_, _≤_, _<_, arith, length, ℤ, pos, natAbs, _-ℤ_}
-use lib.Dec.{lit≤}
 use mir.Syntax.{w32}
 use mir.Val.{SFits}
-use Rattle.field.proofs.Tests.{widths}
 use Rattle.code.specs.declared.Shape.{Shape}
-use Rattle.code.specs.Code.{long, is-codeword}
+use Rattle.code.specs.Code.{is-codeword}
 use Rattle.code.specs.Bits.{row-long}
+use Rattle.code.proofs.Promise.{row-small}
 use Rattle.code.specs.Within.{Coded, Word-within}
 use Rattle.code.proofs.Words.{Codeword-parts, codeword-parts}
 use Rattle.metric.specs.Metric.{metric, Greatest, Marked}
@@ -57,15 +56,10 @@ module _ {s : Shape} {row : List ℤ} {word hs zs os t : List ℕ} (j : Judged s
     pub excess-ok : Short (s .m) (s .r) row word (own - least)
     excess-ok = record { least = least; is-least = is-least; own = omega (arith, own-is, excess-fits) }
 
--- a row has at most 60 entries
-row-le : {s : Shape} → Coded s → row-long (s .m) ≤ 60
-unfolding row-long long
-row-le {s} z = widths (λ (m : ℕ). row-long m ≤ 60) (lit≤ tt) (lit≤ tt) (s .m) (z .width-is)
-
 module _ {s : Shape} {row : List ℤ} {word : List ℕ} (j : Judged s row word) {x : ℕ} (h : Short (s .m) (s .r) row word x) where
   -- small enough to be doubled
   pub excess-small : x < 2 ^ 30
-  excess-small = omega (arith, h .own, cost-le (s .m) row word, weight-le row-bound row (j .input .good-row), j .input .length-row, row-le (j .input .coded))
+  excess-small = omega (arith, h .own, cost-le (s .m) row word, weight-le row-bound row (j .input .good-row), j .input .length-row, row-small (s .m) (j .input .coded .width-is))
 
   -- twice what it costs more than the least is what its metric lacks of the greatest
   pub excess-lacks : {d : ℤ} → d ≡ pos (2 * x) → Lacking (s .m) (s .r) row word d
@@ -98,7 +92,7 @@ module _ {s : Shape} {rs : List ℤ} {ws : List ℕ} (z : Coded s) (t : Mark-tak
   judged cw = record { input = record { coded = z; length-row = t .long-row; good-row = t .good-row }; codeword = cw }
 
   few-entries : length rs ≤ 60
-  few-entries = omega (arith, t .long-row, row-le z)
+  few-entries = omega (arith, t .long-row, row-small (s .m) (z .width-is))
 
   pub word-with : Word-with (s .m) rs (length ws)
   unfolding row-long

@@ -23,7 +23,7 @@ pub next : (xs : List Float) (i : ℕ) → i < length xs → has-nan (drop i xs)
 unfolding has-nan
 next xs i h = rw (drop-cons xs i nan h, add-one)
 
-neither : (a b : Bool) → (a || b) ≡ false → (a ≡ false) × (b ≡ false)
+pub neither : (a b : Bool) → (a || b) ≡ false → (a ≡ false) × (b ≡ false)
 neither true b e = absurd (false≢true (sym e))
 neither false b e = (refl, e)
 

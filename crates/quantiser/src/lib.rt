@@ -1,5 +1,6 @@
 // The quantiser: 32-bit float samples to the reliabilities of a row.
 // `quantise` is offered to callers: it takes any input and promises what specs/Calls.antt says, each sample by specs/Quantise.antt.
+// For the crates above: `quantise_one` of a sample that is a number, and `any_nan`.
 // What a code is, and how long its row, is left to the crate `code`.
 use code::Shape;
 ghost use mathlib.Core.Path.{_≡_};
@@ -63,7 +64,7 @@ fn round_clipped(y: f32) -> i16
 }
 
 // A sample quantised. The product by a power of two is exact; where the sample is 2^123 or more it is an infinity, which is clipped too.
-fn quantise_one(x: f32) -> i16
+pub fn quantise_one(x: f32) -> i16
     requires { ⌜ isNan x ≡ false ⌝ }
     ensures { λ r. ⌜ r ≡ quantised x ⌝ }
 {
@@ -78,7 +79,7 @@ fn is_nan(x: f32) -> bool
 }
 
 // Whether some sample is not a number.
-fn any_nan(samples: &[f32]) -> bool
+pub fn any_nan(samples: &[f32]) -> bool
     ensures { λ r. ⌜ r ≡ has-nan (now (samples .entry)) ⌝ }
 {
     let mut i = 0;

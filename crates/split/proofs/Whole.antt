@@ -7,9 +7,6 @@ use lib.ListN.{replicate, length-append, length-take, length-drop, List·getD-ap
 use lib.Seq.{take-at, drop-at, drop-append-add, take-add, drop-drop, length-take-le}
 use borrow.Rule.Slice.PartMut.{putMid}
 use Rattle.code.specs.Code.{code-good, width, roots, long}
-use Rattle.field.specs.Field.{width-good}
-use Rattle.field.proofs.Tests.{widths}
-use lib.Dec.{lit≤}
 use Rattle.code.specs.Bits.{bits-of, row-long}
 use Rattle.code.specs.Promise.{Codes-inside}
 use Rattle.split.specs.Split.{layer, syndrome, syndromes, cosets, padded, Binary, Leader, sum}
@@ -126,10 +123,6 @@ whole-room m k n o e r l = e ∙ mul-comm m n ∙ ap (λ (x : ℕ). x * m) l ∙
 
 pub all-written : (k m n j at : ℕ) → k ≡ m * n → m ≤ j → at ≡ j * n → k ≤ at
 all-written k m n j at e h g = rw (e, g) (mul-le-mul-right n h)
-
-pub row-small : (m : ℕ) → width-good m ≡ true → row-long m ≤ 60
-unfolding row-long long
-row-small = widths (λ (m : ℕ). row-long m ≤ 60) (lit≤ tt) (lit≤ tt)
 
 -- each part is a layer plus a leader
 module _ (m r : ℕ) (ws tuple out : List ℕ) (n : length ws ≡ long m) (p : Split-right m r ws tuple out) where

@@ -14,6 +14,7 @@ ghost use Rattle.split.specs.Calls.{Split-says};
 ghost use Rattle.decoder.specs.Calls.{Decode-says};
 ghost use Rattle.marker.specs.Calls.{Mark-says};
 ghost use Rattle.quantiser.specs.Calls.{Quantise-says};
+ghost use Rattle.receiver.specs.Calls.{Receive-says};
 ghost use Rattle.sheet_writer.specs.Calls.{Write-says};
 ghost use Rattle.report.specs.Calls.{List-says};
 ghost use Rattle.tugzeck.specs.Calls.{Judge-says, none-found, asked, Question-says};
@@ -107,6 +108,15 @@ pub extern "C" fn tugzeck_quantise(code: u32, samples: &[f32], row: &mut [i16]) 
     ensures { λ r. ⌜ Quantise-says code (now (samples .entry)) r (now (row .entry)) (now (row .exit)) ⌝ }
 {
     quantiser::quantise(code, samples, row)
+}
+
+// Turns received symbols, by their kinds and samples, into the n·m reliabilities of a row. Answers 0, or refuses by 1, 4, 14, 15 or 7 and
+// writes nothing.
+#[no_mangle]
+pub extern "C" fn tugzeck_receive(code: u32, kinds: &[u8], samples: &[f32], row: &mut [i16]) -> u32
+    ensures { λ r. ⌜ Receive-says code (now (kinds .entry)) (now (samples .entry)) r (now (row .entry)) (now (row .exit)) ⌝ }
+{
+    receiver::receive(code, kinds, samples, row)
 }
 
 // Judges a whole sheet: 0 with the count of its questions. Or it refuses by 1, 5, 6 or 9 to 13 with the count 0.

@@ -15,6 +15,7 @@ mod every;
 mod order;
 mod paper;
 mod raw_results;
+mod received;
 mod rows;
 mod sheets;
 mod threads;

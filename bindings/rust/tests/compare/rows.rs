@@ -126,7 +126,7 @@ fn recorded_rows() {
 }
 
 /// 32 times an f32 is exact in an f64, and `round` takes halves away from zero.
-fn by_f64(x: f32) -> i16 {
+pub fn by_f64(x: f32) -> i16 {
     (f64::from(x) * 32.0).round().clamp(-127.0, 127.0) as i16
 }
 

@@ -20,6 +20,7 @@ fn results(seed: u64) -> Vec<String> {
             let mut sheet = vec![0; tugzeck::sheet_length(&[code])];
             let answers = (
                 tugzeck::quantise(code, &samples, &mut row),
+                tugzeck::receive(code, &vec![2; bits], &samples, &mut row),
                 tugzeck::decode(code, &row, &mut word, &mut soft),
                 tugzeck::check_word(code, &word),
                 tugzeck::read_word(code, &word, &mut message),

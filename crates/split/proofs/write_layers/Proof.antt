@@ -11,7 +11,8 @@ use Rattle.code.proofs.Promise.{Numbered-as, numbered, of-shape, of-number}
 use Rattle.split.specs.Split.{cosets, syndromes, padded, Leader}
 use Rattle.split.proofs.Layers as L
 use Rattle.split.proofs.Steps.{copied}
-use Rattle.split.proofs.Whole.{whole, whole-length, whole-right, its-coset, piece, right-as, turn, fits, whole-room, all-written, row-small}
+use Rattle.code.proofs.Promise.{row-small}
+use Rattle.split.proofs.Whole.{whole, whole-length, whole-right, its-coset, piece, right-as, turn, fits, whole-room, all-written}
 use Rattle.split.proofs.write_layers.Statement.{statement}
 use Rattle.split.proofs.write_layers.Tie as tie
 

@@ -1,0 +1,4 @@
+pub mod Symbols
+pub mod Outcomes
+pub mod Filling
+pub mod Laws

@@ -1,0 +1,4 @@
+pub mod Receive
+pub mod Calls
+pub mod Laws
+pub mod Within
