@@ -28,7 +28,7 @@ bits-is (suc (suc (suc k))) xs = refl
 
 -- a kind that is none of the first three is that of a pair
 pub pair-bits : (k : ℕ) → (k ≡ 0 → ⊥) → (k ≡ 1 → ⊥) → (k ≡ 2 → ⊥) → 2 ≡ bits k
-unfolding bits
+unfolding bits symbol reliabilities-of
 pair-bits = beyond-two (λ k. 2 ≡ bits k) (λ k. refl)
 
 pub pair-taken : (k : ℕ) → (k ≡ 0 → ⊥) → (k ≡ 1 → ⊥) → (k ≡ 2 → ⊥) → 2 ≡ taken k
@@ -48,7 +48,7 @@ row-bits (k ∷ ks) xs = length-append (reliabilities-of (symbol k xs)) _ ∙ ap
 
 -- a symbol has one or two bits, and at most two samples
 pub bits-few : (k : ℕ) → (1 ≤ bits k) × (bits k ≤ 2)
-unfolding bits
+unfolding bits symbol reliabilities-of
 bits-few zero = (omega arith, omega arith)
 bits-few (suc zero) = (omega arith, omega arith)
 bits-few (suc (suc zero)) = (omega arith, omega arith)

@@ -8,7 +8,8 @@ use Rattle.quantiser.specs.Quantise.{quantised}
 use Rattle.receiver.specs.declared.Received.{Received}
 use Rattle.receiver.specs.declared.Received.the-variants.{LostOne, LostTwo, Single, Paired}
 
--- the symbol of a kind: 'lost with one bit, lost with two, a single sample, or an in-phase and quadrature pair', 0 to 3, of the first samples
+-- the symbol of a kind: 'lost with one bit, lost with two, a single sample, or an in-phase and quadrature pair', 0 to 3, of the first samples. What
+-- stands for a kind above 3, or for a sample that is missing, is never an answer: 14 and 15 refuse them
 unfoldable pub symbol : (kind : ℕ) → (samples : List Float) → Received
 symbol zero xs = LostOne
 symbol (suc zero) xs = LostTwo

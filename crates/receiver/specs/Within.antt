@@ -2,21 +2,18 @@
 use mathlib.Core.Path.{_≡_}
 use mathlib.Core.Bool.{false}
 use mathlib.Core.List.{List, [], _∷_, _++_}
-use Prim.Native.Nat.{ℕ, zero, suc, _≤_}
+use Prim.Native.Nat.{ℕ, _≤_}
 use lib.IntN.{ℤ}
 use lib.ListN.{length, drop}
 use lib.Ieee.{Float}
 use Rattle.quantiser.specs.Calls.{has-nan}
 use Rattle.receiver.specs.declared.Received.{Received}
 use Rattle.receiver.specs.declared.Received.the-variants.{LostOne, LostTwo, Single, Paired}
-use Rattle.receiver.specs.Receive.{taken, total, received, reliabilities-of, received-row}
+use Rattle.receiver.specs.Receive.{symbol, taken, total, received, reliabilities-of, received-row}
 
--- how many bits a symbol of a kind has
+-- how many bits a symbol of a kind has, whatever its samples
 unfoldable pub bits : (kind : ℕ) → ℕ
-bits zero = 1
-bits (suc zero) = 2
-bits (suc (suc zero)) = 1
-bits (suc (suc (suc k))) = 2
+bits k = length (reliabilities-of (symbol k []))
 
 -- the samples that a symbol holds
 unfoldable pub held : Received → List Float

@@ -87,7 +87,7 @@ fn kinds_good(kinds: &[u8]) -> bool
 
 // How many bits and samples the symbols of some kinds have.
 fn counted(kinds: &[u8]) -> Counts
-    requires { ⌜ length (now kinds) ≤ 1000 ⌝ }
+    requires { ⌜ length (now kinds) ≤ 60 ⌝ }
     ensures { λ r. ⌜ (r .bits ≡ total bits (now (kinds .entry))) × (r .samples ≡ total taken (now (kinds .entry))) ⌝ }
 {
     let mut bits = 0;
@@ -104,7 +104,7 @@ fn counted(kinds: &[u8]) -> Counts
 
 // Whether kinds and samples fill so many bits exactly. A symbol has a bit at least, so that more kinds than bits need not be counted.
 fn fills(bits: usize, kinds: &[u8], samples: &[f32]) -> bool
-    requires { ⌜ bits ≤ 1000 ⌝ }
+    requires { ⌜ bits ≤ 60 ⌝ }
     ensures { λ r. ⌜ r ≡ fills bits (now (kinds .entry)) (now (samples .entry)) ⌝ }
 {
     if kinds.len() > bits {

@@ -65,10 +65,13 @@ impl Counts {
         }
         expected
     }
+}
 
-    fn said(&self, what: &str) {
-        println!("compared: {what}: {} rows received, {} calls refused", self.taken, self.refused);
-    }
+/// A test of every code, by its number and the length of its rows.
+fn every_code(seed: u64, what: &str, mut test: impl FnMut(&mut Draw, &mut Counts, u32, usize)) {
+    let (mut draw, mut counts) = (Draw::new(seed), Counts::default());
+    CODES.iter().for_each(|code| test(&mut draw, &mut counts, *code, tugzeck::row_length(*code)));
+    println!("compared: {what}: {} rows received, {} calls refused", counts.taken, counts.refused);
 }
 
 /// Kinds that fill so many bits.
@@ -96,47 +99,46 @@ fn samples(draw: &mut Draw, count: usize) -> Vec<f32> {
         .collect()
 }
 
+/// Symbols that fill so many bits: their kinds, and the samples that they take.
+fn symbols(draw: &mut Draw, bits: usize) -> (Vec<u8>, Vec<f32>) {
+    let kinds = filling(draw, bits);
+    let samples = samples(draw, total(SAMPLES, &kinds));
+    (kinds, samples)
+}
+
 #[test]
 fn rows_received() {
-    let mut draw = Draw::new(50);
-    let mut counts = Counts::default();
-    for code in CODES {
-        let bits = tugzeck::row_length(code);
+    every_code(50, "symbols of every kind at every place", |draw, counts, code, bits| {
         for _ in 0..5_000 {
-            let kinds = filling(&mut draw, bits);
-            let samples = samples(&mut draw, total(SAMPLES, &kinds));
+            let (kinds, samples) = symbols(draw, bits);
             assert_eq!(counts.call(code, bits, &kinds, &samples, bits), 0);
         }
         // every kind at every place of the row, among symbols of every other kind
         for kind in 0..4u8 {
             for before in (0..4u8).flat_map(|other| (0..=bits).map(move |count| vec![other; count])) {
                 let Some(behind) = bits.checked_sub(total(BITS, &before) + BITS[usize::from(kind)]) else { continue };
-                let kinds = [before, vec![kind], filling(&mut draw, behind)].concat();
-                let samples = samples(&mut draw, total(SAMPLES, &kinds));
+                let kinds = [before, vec![kind], filling(draw, behind)].concat();
+                let samples = samples(draw, total(SAMPLES, &kinds));
                 assert_eq!(counts.call(code, bits, &kinds, &samples, bits), 0);
             }
         }
         // single samples are quantised
         for _ in 0..1_000 {
-            let samples = samples(&mut draw, bits);
+            let samples = samples(draw, bits);
             let mut row = Output::new(bits);
             assert_eq!(tugzeck::quantise(code, &samples, row.lent()), Ok(()));
             assert_eq!(row.left(), row_of(&vec![2; bits], &samples));
-            counts.call(code, bits, &vec![2; bits], &samples, bits);
+            assert_eq!(counts.call(code, bits, &vec![2; bits], &samples, bits), 0);
         }
-    }
-    counts.said("symbols of every kind at every place");
+    });
 }
 
 #[test]
 fn left_over_and_missing() {
-    let mut draw = Draw::new(51);
-    let mut counts = Counts::default();
-    for code in CODES {
-        let bits = tugzeck::row_length(code);
+    every_code(51, "bits and samples left over and missing", |draw, counts, code, bits| {
         for _ in 0..500 {
-            let kinds = filling(&mut draw, bits);
-            let all = samples(&mut draw, total(SAMPLES, &kinds) + 2);
+            let (kinds, taken) = symbols(draw, bits);
+            let all = [taken, samples(draw, 2)].concat();
             let (right, fewer) = (all.len() - 2, kinds.len() - 1);
             // a bit or two left over, and the last symbol missing, with its samples and without them
             for kind in 0..4u8 {
@@ -163,21 +165,16 @@ fn left_over_and_missing() {
                 assert_eq!(counts.call(code, bits, &kinds, &samples, bits), 15);
             }
         }
-    }
-    counts.said("bits and samples left over and missing");
+    });
 }
 
 #[test]
 fn first_refusals_of_received() {
-    let mut draw = Draw::new(52);
-    let mut counts = Counts::default();
     let mut met = [0; 16];
-    for code in CODES {
-        let bits = tugzeck::row_length(code);
+    every_code(52, "the first refusal of received symbols", |draw, counts, code, bits| {
         // a NaN at every sample, and a bad kind at every symbol
         for _ in 0..20 {
-            let kinds = filling(&mut draw, bits);
-            let good = samples(&mut draw, total(SAMPLES, &kinds));
+            let (kinds, good) = symbols(draw, bits);
             for at in 0..good.len() {
                 let mut bad = good.clone();
                 bad[at] = f32::from_bits(draw.of(&[0x7f80_0001, 0x7fc0_0000, 0x7fff_ffff, 0xff80_0001, 0xffc0_0000, 0xffff_ffff]));
@@ -193,8 +190,7 @@ fn first_refusals_of_received() {
         for broken in 0..64 {
             let breaks = |rule: usize| broken >> rule & 1 == 1;
             for _ in 0..20 {
-                let mut kinds = filling(&mut draw, bits);
-                let mut samples = samples(&mut draw, total(SAMPLES, &kinds));
+                let (mut kinds, mut samples) = symbols(draw, bits);
                 if breaks(0) {
                     let at = draw.below(samples.len().max(1));
                     if let Some(x) = samples.get_mut(at) {
@@ -216,7 +212,6 @@ fn first_refusals_of_received() {
                 met[counts.call(asked, bits, &kinds, &samples, output) as usize] += 1;
             }
         }
-    }
+    });
     assert!([0, 1, 4, 7, 14, 15].iter().all(|n| met[*n] > 0), "{met:?}");
-    counts.said("the first refusal of received symbols");
 }

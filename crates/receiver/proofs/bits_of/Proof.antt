@@ -1,20 +1,21 @@
 -- `receiver::bits_of` meets its contract.
 -- Assumes nothing.
+use Rattle.receiver.specs.Receive.{symbol, reliabilities-of}
 use Rattle.receiver.specs.Within.{bits}
 use Rattle.receiver.proofs.Symbols.{pair-bits}
 use Rattle.receiver.proofs.bits_of.Statement.{statement}
 use Rattle.receiver.proofs.bits_of.Tie as tie
 
 returns : tie.Need-returns
-unfolding bits
+unfolding bits symbol reliabilities-of
 returns c = rw (c .match .keys1)
 
 returns-2 : tie.Need-returns-2
-unfolding bits
+unfolding bits symbol reliabilities-of
 returns-2 c = rw (c .match .keys2)
 
 returns-3 : tie.Need-returns-3
-unfolding bits
+unfolding bits symbol reliabilities-of
 returns-3 c = rw (c .match .keys3)
 
 returns-4 : tie.Need-returns-4
