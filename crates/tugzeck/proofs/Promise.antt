@@ -1,7 +1,6 @@
 -- The statements of specs/Promise.antt.
 -- Assumes nothing.
-use Rattle.basics.proofs.Kit.{_≡_, refl, ap, _∙_, true, List, ℕ, length, eqb, ℤ}
-use mathlib.Core.List.{map}
+use Rattle.basics.proofs.Kit.{_≡_, refl, ap, _∙_, true, List, ℕ, length, ℤ}
 use borrow.Author.Tests.{eq-eqb, eqb-true}
 use lib.ListN.{length-map}
 use Rattle.refusal.specs.Refusal.{unless}
