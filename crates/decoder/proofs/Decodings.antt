@@ -42,7 +42,7 @@ module _ {s : Shape} {row : List ℤ} (z : Input s row) where
   unfolding row-long top
   decoding {t} {g} {word} {least} b {za} {oa} f {before} {soft} lb w {x} {y} {v} ex ey ev =
       subst (λ (u : ℤ). Decoded (s .m) (is-codeword (s .m) (s .r)) row word u soft) (sym (ex ∙ ey ∙ ap (λ (u : ℕ). pos u -ℤ pos (2 * least)) ev))
-      (decoded (s .m) (is-codeword (s .m) (s .r)) row (codeword-bits (s .m) (s .r) row (z .length-row)) word least soft (λ k. folded za (k / s .m) (k % s .m)) (λ k. folded oa (k / s .m) (k % s .m)) (b .codeword) (b .costs) (b .is-least)
+      (decoded (s .m) (is-codeword (s .m) (s .r)) row (codeword-bits (s .m) (s .r) row (z .length-row)) word least soft (λ k. folded za (k / s .m) (k % s .m)) (λ k. folded oa (k / s .m) (k % s .m)) (b .codeword) (b .costs) (b .is-least) (b .first)
       (w .long ∙ lb ∙ sym row-is) each)
     where
       row-is : length row ≡ s .n * s .m

@@ -1,7 +1,8 @@
--- From the least total to a best word and to the soft outputs: what the trace and the soft pass ask, and that they give the least costs of codewords.
+-- From the least total to the first best word and to the soft outputs: what the trace and the soft pass ask, and that they give the least costs of codewords.
 -- Assumes nothing.
-use Rattle.basics.proofs.Kit.{_≡_, sym, ap, ap₂, _∙_, true, cond, List, ℕ, _+_, _-_, _*_, _/_, _%_, _≤_, _<_, arith, length, getD, eqb, ℤ}
+use Rattle.basics.proofs.Kit.{_≡_, refl, sym, ap, ap₂, _∙_, true, cond, List, ℕ, _+_, _-_, _*_, _/_, _%_, _≤_, _<_, arith, length, getD, eqb, ℤ}
 use native.Mathlib.Nat.{zero-mul, one-mul, zero-add, mul-le-mul-right}
+use Rattle.field.proofs.Tests.{widths}
 use Rattle.code.specs.declared.Shape.{Shape}
 use Rattle.code.specs.Code.{code-good, width, roots, long, is-codeword}
 use Rattle.code.specs.Bits.{row-long}
@@ -12,17 +13,19 @@ use Rattle.configurations.specs.Configurations.{configurations}
 use Rattle.metric.specs.Cost.{weight-of, cost, Least-with}
 use Rattle.trellis.specs.Trellis.{back, holding, final, meet}
 use Rattle.lanes.specs.Lanes.{entry, lane}
-use Rattle.trellis.specs.Rows.{at-table, layer, Trace, traced}
+use Rattle.order.specs.Order.{not-after}
+use Rattle.trellis.specs.Rows.{at-table, layer, Trace, first-words, Firsts}
 use Rattle.soft.specs.Pass.{folded, Pass, Passed}
-use Rattle.trellis.proofs.Least.{least-same, least-cap}
+use Rattle.trellis.proofs.Least.{least-same, least-cap, least-le}
 use Rattle.lanes.proofs.Rows.{lanes-at}
-use Rattle.glue.specs.Walk.{total, tuple, Walked, Marginals}
+use Rattle.glue.specs.Walk.{total, tuple, least-total, Marginals}
 use Rattle.glue.specs.Walk as W
 use Rattle.glue.proofs.Engine.{over, marginal, marginal-ge}
 use Rattle.search.proofs.Bridge.{conf}
 use Rattle.search.proofs.Found as S
 use Rattle.search.proofs.Traced as TR
-use Rattle.search.specs.Within.{top, big, cap, Spelt, Input, Tabled, tuples-of, count-of}
+use Rattle.search.proofs.Foremost as O
+use Rattle.search.specs.Within.{top, big, cap, Spelt, Input, Tabled, Tables, tuples-of, count-of, word-number, First-tied}
 use Rattle.search.proofs.Searching.{conf-in, least-is}
 use Rattle.search.proofs.Searching as A
 use Rattle.decoder.specs.Within.{Best, Softs}
@@ -49,31 +52,66 @@ module _ {s : Shape} {row : List ℤ} {hs zs os t : List ℕ} (z : Input s row) 
   abbrev F : ℕ → ℕ → ℕ
   F = A.F z b
 
+  odd : length hs % 2 ≡ 1
+  unfolding long
+  odd = rw (b .spelt .columns .count) (widths (λ (m : ℕ). long m % 2 ≡ 1) refl refl (s .m) (z .coded .width-is))
+
+  -- what the walk asks
+  pub tables-ok : Tables s hs zs os t
+  tables-ok = record { coded = z .coded; layers = b .layers; made = b .made; few = A.few z b; odd = odd; tuples = A.tuples-ok z b }
+
+  least-small : least-total cap t (tuples-of s) (count-of s) < big
+  least-small = rw (A.totals-are z b) (S.best-small c g row l hs zs os y big cap light)
+
+  pub least-below : least-total cap t (tuples-of s) (count-of s) < cap
+  least-below = omega (arith, least-small)
+
   -- after the walk
-  module _ {x : ℕ} {at : List ℕ} (w : Walked (count-of s) cap t (tuples-of s) x at) where
+  module _ {x : ℕ} {at : List ℕ} (e : x ≡ least-total cap t (tuples-of s) (count-of s)) (w : First-tied s hs zs os t x at) where
     small : x < big
-    small = rw (w .least ∙ A.totals-are z b) (S.best-small c g row l hs zs os y big cap light)
+    small = rw e least-small
+
+    -- the configuration, as its places
+    place : (j : ℕ) → j < 4 → lane at j ≡ conf c (w .found .0) j
+    place j lj =
+        ap (λ (u : List ℕ). lane u j) (w .found .2)
+        ∙ lanes-at (W.conf (tuples-of s) (w .found .0)) j lj
+        ∙ A.conf-is z b (w .found .0) j (w .found .1 .0) lj
 
     pub trace-ok : {word : List ℕ} → length word ≡ s .n → Trace (s .q) (s .size) top big t hs zs os at word
     trace-ok lw = record {
       layers = b .layers;
       made = b .made;
-      from = λ j lj. rw (w .some .2) (rw (lanes-at (W.conf (tuples-of s) (w .some .0)) j lj) (A.conf-lt z b (w .some .0) j (w .some .1) lj));
+      from = λ j lj. rw (w .found .2) (rw (lanes-at (W.conf (tuples-of s) (w .found .0)) j lj) (A.conf-lt z b (w .found .0) j (w .found .1 .0) lj));
       length-word = lw ∙ sym (A.n-is z b);
       room = omega (arith, A.few z b);
     }
 
-    pub best-ok : {g' word : List ℕ} → word ≡ traced big hs zs os 0 (length hs) at → Marginals (s .size) (count-of s) cap t (tuples-of s) g' → Best s row t g' word x
-    best-ok e mg =
-        let f = w .found (omega (arith, small)) in
-        let i : ℕ = f .0 in
-        let o : over F (conf c i) ≡ x = sym (A.total-is z b i (f .1)) ∙ f .3 in
-        let p = TR.word c g row l hs zs os y big i (f .1) (omega (arith, o, small)) at
-        (λ j lj. ap (λ (u : List ℕ). lane u j) (f .2) ∙ lanes-at (W.conf (tuples-of s) i) j lj ∙ A.conf-is z b i j (f .1) lj) in
+    -- no configuration of the least cost has a lesser number
+    lowest : (named : Firsts big hs zs os) → (k : ℕ) → k < configurations c → over F (conf c k) ≡ x →
+        O.numbers c g row l hs zs os y big named (lane at) ≤ O.numbers c g row l hs zs os y big named (conf c k)
+    unfolding word-number
+    lowest named k lk h =
+        rw (ends k lk 0 (omega arith), ends k lk 1 (omega arith), ends k lk 2 (omega arith), ends k lk 3 (omega arith)) at (w .first k (lk, A.total-is z b k lk ∙ h))
+      where
+        ends : (k : ℕ) → k < configurations c → (j : ℕ) → j < 4 → lane (tuple (tuples-of s) k) j ≡ conf c k j
+        ends k lk j lj = lanes-at (W.conf (tuples-of s) k) j lj ∙ A.conf-is z b k j lk lj
+
+    pub best-ok : {g' word : List ℕ} → (word ≡ first-words big hs zs os at) × Firsts big hs zs os → Marginals (s .size) (count-of s) cap t (tuples-of s) g' → Best s row t g' word x
+    best-ok tr mg =
+        let ew = tr .0 in
+        let named = tr .1 in
+        let i : ℕ = w .found .0 in
+        let o : over F (conf c i) ≡ x = sym (A.total-is z b i (w .found .1 .0)) ∙ w .found .1 .1 in
+        let p = TR.word c g row l hs zs os y big i (w .found .1 .0) (omega (arith, o, small)) at place in
+        let f = O.first-best c g row l hs zs os y big named at x (p .0) small (λ k lk. omega (arith, e, A.totals-are z b, least-le (λ k. over F (conf c k)) cap (configurations c) k lk)) (lowest named) in
         record {
-          codeword = ap (is-codeword (s .m) (s .r)) e ∙ of-shape (λ m r. is-codeword m r (traced big hs zs os 0 (length hs) at) ≡ true) (k .m-is) (k .r-is) (p .0);
-          costs = ap (cost (s .m) row) e ∙ of-shape (λ m r. cost m row (traced big hs zs os 0 (length hs) at) ≡ over F (conf c i)) (k .m-is) (k .r-is) (p .1) ∙ o;
-          is-least = rw (w .least) (least-is z b);
+          codeword = ap (is-codeword (s .m) (s .r)) ew ∙ of-shape (λ m r. is-codeword m r (first-words big hs zs os at) ≡ true) (k .m-is) (k .r-is) (p .0);
+          costs = ap (cost (s .m) row) ew ∙ of-shape (λ m r. cost m row (first-words big hs zs os at) ≡ over F (conf c i)) (k .m-is) (k .r-is) (p .1) ∙ o;
+          is-least = rw e (least-is z b);
+          first = λ vs cv h.
+              ap (λ (u : List ℕ). not-after u vs) ew
+              ∙ of-shape (λ m r. is-codeword m r vs ≡ true → cost m row vs ≡ x → not-after (first-words big hs zs os at) vs ≡ true) (k .m-is) (k .r-is) (f vs) cv h;
           marginals = mg;
         }
 

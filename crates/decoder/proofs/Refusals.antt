@@ -1,16 +1,13 @@
 -- What an accepted call of the decoder has passed.
 -- Assumes nothing.
-use Rattle.basics.proofs.Kit.{_≡_, sym, ap, _∙_, List, ℕ, _*_, _≤_, _<_, arith, getD, take, ℤ}
+use Rattle.basics.proofs.Kit.{_≡_, sym, ap, _∙_, List, ℕ, _*_, ℤ}
 use borrow.Author.Tests.{eqb-true}
-use lib.ListN.{replicate, getD-replicate}
-use lib.Seq.{getD-take}
 use Rattle.refusal.proofs.Tests.{passed}
 use Rattle.code.specs.declared.Shape.{Shape}
 use Rattle.code.specs.Code.{is-codeword}
 use Rattle.code.specs.Bits.{row-long}
 use Rattle.code.specs.Within.{Coded}
 use Rattle.metric.specs.Metric.{Decoded}
-use Rattle.search.specs.Within.{cap}
 use Rattle.decoder.specs.Calls.{decode-refusal}
 use Rattle.decoder.specs.Within.{Accepted}
 
@@ -30,7 +27,3 @@ decode-accepted {s} z rs a b e =
 pub decoded-as : {a b m r : ℕ} {rs : List ℤ} {word : List ℕ} {x y : ℤ} {soft : List ℤ} → a ≡ m → b ≡ r → y ≡ x →
     Decoded a (is-codeword a b) rs word x soft → Decoded m (is-codeword m r) rs word y soft
 decoded-as e f g d = rw (← e, ← f, g) d
-
--- room for the marginals, of which a part is lent
-pub caps : (k i : ℕ) → k ≤ 256 → i < k → getD (take k (replicate 256 cap)) i 0 ≡ cap
-caps k i h l = getD-take k (replicate 256 cap) i 0 l ∙ getD-replicate 256 i cap 0 (omega arith)

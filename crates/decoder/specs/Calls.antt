@@ -21,7 +21,7 @@ decode-refusal m rs a b =
     (unless (eqb b (row-long m)) 4
     (unless (row-good row-bound rs) 5 0)))
 
--- a best word, its metric and every soft output; refused, the metric is 0 and the outputs are kept
+-- the first best word, its metric and every soft output; refused, the metric is 0 and the outputs are kept
 unfoldable pub Decode-says : (code : ℕ) → (row : List ℤ) → Decoding → (word word-now : List ℕ) → (soft soft-now : List ℤ) → Type 0
 Decode-says c rs r a b d e =
     Outcome (first (number-refusal c) (decode-refusal (width c) rs (length a) (length d))) (r .number)

@@ -6,6 +6,7 @@ use Prim.Native.Nat.{ℕ, _+_, _*_, _<_, _≤_}
 use lib.ListN.{length, getD}
 use lib.IntN.{ℤ, pos, _-ℤ_}
 use Rattle.field.specs.Field.{width-good}
+use Rattle.order.specs.Order.{not-after}
 use Rattle.code.specs.declared.Shape.{Shape}
 use Rattle.code.specs.Code.{is-codeword}
 use Rattle.metric.specs.Cost.{cost, Least, Least-with}
@@ -14,11 +15,12 @@ use Rattle.soft.specs.Pass.{folded}
 use Rattle.glue.specs.Walk.{Marginals}
 use Rattle.search.specs.Within.{big, cap, tuples-of, count-of, Input}
 
--- what the walk and the trace leave: the least cost, a codeword that has it, and the least total with each syndrome in each layer
+-- what the walk and the trace leave: the least cost, the first codeword that has it, and the least total with each syndrome in each layer
 pub record Best (s : Shape) (row : List ℤ) (t g word : List ℕ) (least : ℕ) : Type 0 where
   pub codeword : is-codeword (s .m) (s .r) word ≡ true
   pub costs : cost (s .m) row word ≡ least
   pub is-least : Least (s .m) (is-codeword (s .m) (s .r)) row least
+  pub first : (vs : List ℕ) → is-codeword (s .m) (s .r) vs ≡ true → cost (s .m) row vs ≡ least → not-after word vs ≡ true
   pub marginals : Marginals (s .size) (count-of s) cap t (tuples-of s) g
 
 -- the least costs with a 0 and with a 1 at each bit

@@ -20,7 +20,7 @@ pub struct Decoding {
     pub metric: i32,
 }
 
-// The least cost of a codeword, and a codeword that has it, from the tables.
+// The least cost of a codeword, and the first codeword that has it, from the tables.
 fn best_word(
     shape: Shape,
     row: &[i16],
@@ -36,8 +36,8 @@ fn best_word(
     requires { ⌜ Marginal-room shape (now g) × (length (now word) ≡ shape .n) ⌝ }
     ensures { λ x. ⌜ Best shape (now (row .entry)) (now (t .entry)) (now (g .exit)) (now (word .exit)) x ⌝ }
 {
-    let least = search::walk(shape, t, g);
-    let at = least.at;
+    let best = search::best_of(shape, hs, zs, os, t, g);
+    let at = best.at;
     trellis::trace_word(
         t,
         shape.q,
@@ -50,7 +50,7 @@ fn best_word(
         at,
         word,
     );
-    least.total as u32
+    best.total as u32
 }
 
 // The least costs with a 0 and with a 1 at each bit. The tables are used up.
@@ -225,7 +225,7 @@ fn decode_refusal(shape: Shape, row: &[i16], word: usize, soft: usize) -> u32
     refusal::unless(row.len() == shape.bits, 2, word_room)
 }
 
-// The decoder: a best word, its metric and the soft outputs of a row.
+// The decoder: the first best word, its metric and the soft outputs of a row.
 pub fn decode(code: u32, row: &[i16], word: &mut [u8], soft: &mut [i16]) -> Decoding
     ensures { λ r. ⌜ Decode-says code (now (row .entry)) r (now (word .entry)) (now (word .exit)) (now (soft .entry)) (now (soft .exit)) ⌝ }
 {

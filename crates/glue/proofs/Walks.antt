@@ -28,7 +28,7 @@ module _ (size n cap : ℕ) (f cs : List ℕ) (w : Tuples size n cap f cs) where
   lanes-in : (k j : ℕ) → k < n → j < 4 → lane (tuple cs k) j < size
   lanes-in k j l lj = rw (lanes-at (conf cs k) j lj) (w .inside k j l lj)
 
-  pub within : (k : ℕ) → k < n → Within size f (tuple cs k)
+  pub within : (k : ℕ) → k < n → Within 16 size f (tuple cs k)
   within k l = record {
     length-f = w .length-f;
     in0 = lanes-in k 0 l (omega arith);
@@ -79,7 +79,7 @@ module _ (size n cap : ℕ) (f cs : List ℕ) (w : Tuples size n cap f cs) where
 
   pub walk-end : (g : List ℕ) (least at : ℕ) → Walking size n cap f cs n g least at → Walked n cap f cs least (tuple cs at) × Marginals size n cap f cs g
   walk-end g least at m = (
-    record { least = m .least-is; found = λ h. (at, m .at-in, refl, m .at-is h); some = (at, m .at-in, refl) },
+    record { least = m .least-is; found = λ h. (at, m .at-in, refl, m .at-is h) },
     m .entries,
   )
 

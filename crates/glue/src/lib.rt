@@ -1,13 +1,14 @@
 // The glue between the layers: a walk over the allowed tuples of syndromes, four by four as arrays by value. It finds the least total of the
-// layers' tables with a tuple that has it and, for the soft outputs, the least total with each syndrome in each layer. It knows no code.
+// layers' tables with a tuple that has it and, for the soft outputs, the least total with each syndrome in each layer; and where several tuples
+// have the least total, the one with the least number. It knows no code.
 // Its functions are for the crates above; their promises cite specs/Walk.antt.
 ghost use mathlib.Core.Path.{_≡_};
 ghost use Prim.Native.Nat.{ℕ, _+_, _-_, _*_, _^_, _<_, _≤_, min};
 ghost use mathlib.Core.Bool.{cond};
-ghost use lib.Dec.{ltb};
+ghost use lib.Dec.{eqb, ltb};
 ghost use lib.ListN.{length, getD};
 ghost use Rattle.lanes.specs.Lanes.{entry};
-ghost use Rattle.glue.specs.Walk.{conf, tuple, total, least-total, lower-at, lowered, Within, Tuples, Walked, Marginals};
+ghost use Rattle.glue.specs.Walk.{conf, tuple, total, least-total, lower-at, lowered, Within, Tuples, Walked, Marginals, times, number-where, Numbered, Foremost};
 
 // What syndrome s costs in layer j.
 fn cost_at(f: &[u16], j: usize, s: u16) -> u16
@@ -34,7 +35,7 @@ fn tuple_at(configs: &[u16], k: usize) -> [u16; 4]
 
 // What a tuple costs.
 fn total_of(f: &[u16], size: usize, t: [u16; 4]) -> u16
-    requires { ⌜ Within size (now f) t ⌝ }
+    requires { ⌜ Within 16 size (now f) t ⌝ }
     ensures { λ r. ⌜ r ≡ total (now (f .entry)) t ⌝ }
 {
     cost_at(f, 0, t[0]) + cost_at(f, 1, t[1]) + cost_at(f, 2, t[2]) + cost_at(f, 3, t[3])
@@ -53,7 +54,7 @@ fn lower(g: &mut [u16], j: usize, s: u16, x: u16)
 
 // One tuple: what it costs, and g lowered to that at its four places.
 fn visit(f: &[u16], size: usize, t: [u16; 4], g: &mut [u16]) -> u16
-    requires { ⌜ Within size (now f) t ⌝ }
+    requires { ⌜ Within 16 size (now f) t ⌝ }
     requires { ⌜ length (now g) ≡ size * 4 ⌝ }
     ensures { λ r. ⌜ (r ≡ total (now (f .entry)) t) × (now (g .exit) ≡ lowered (now (g .entry)) t (total (now (f .entry)) t)) ⌝ }
 {
@@ -102,10 +103,40 @@ pub fn walk(f: &[u16], size: usize, configs: &[u16], n: usize, g: &mut [u16], ca
     }
 }
 
+// 1 where two numbers are the same.
+fn one_if(a: u16, b: u16) -> u16
+    ensures { λ r. ⌜ r ≡ cond (eqb a b) 1 0 ⌝ }
+{
+    if a == b { 1 } else { 0 }
+}
+
+// How many entries of g are x.
+fn count_of(g: &[u16], x: u16) -> u16
+    requires { ⌜ length (now g) < 2 ^ 16 ⌝ }
+    ensures { λ r. ⌜ r ≡ times x (now (g .entry)) ⌝ }
+{
+    let mut n = 0;
+    let mut k = 0;
+    while k < g.len() {
+        let y = g[k];
+        n += one_if(y, x);
+        k += 1;
+    }
+    n
+}
+
+// Whether a single tuple costs the least: in each layer a single syndrome then has a tuple that does.
+pub fn is_alone(g: &[u16], least: u16) -> bool
+    requires { ⌜ length (now g) < 2 ^ 16 ⌝ }
+    ensures { λ r. ⌜ r ≡ eqb (times least (now (g .entry))) 4 ⌝ }
+{
+    count_of(g, least) == 4
+}
+
 // What tuple k costs.
 fn total_at(f: &[u16], size: usize, configs: &[u16], k: usize) -> u16
     requires { ⌜ k * 4 + 4 ≤ length (now configs) ⌝ }
-    requires { ⌜ Within size (now f) (tuple (now configs) k) ⌝ }
+    requires { ⌜ Within 16 size (now f) (tuple (now configs) k) ⌝ }
     ensures { λ r. ⌜ r ≡ total (now (f .entry)) (tuple (now (configs .entry)) k) ⌝ }
 {
     total_of(f, size, tuple_at(configs, k))
@@ -128,6 +159,73 @@ pub fn least_of(f: &[u16], size: usize, configs: &[u16], n: usize, cap: u16) -> 
         least = lanes::less_of(least, total_at(f, size, configs, k));
     }
     least
+}
+
+// The number of syndrome s in layer j.
+fn entry_at(w: &[u64], j: usize, s: u16) -> u64
+    requires { ⌜ s * 4 + j < length (now w) ⌝ }
+    ensures { λ r. ⌜ r ≡ entry (now (w .entry)) s j ⌝ }
+{
+    let i = (s as usize) * 4 + j;
+    w[i]
+}
+
+// The number of a tuple.
+fn number_of(w: &[u64], size: usize, t: [u16; 4]) -> u64
+    requires { ⌜ Within 64 size (now w) t ⌝ }
+    ensures { λ r. ⌜ r ≡ total (now (w .entry)) t ⌝ }
+{
+    entry_at(w, 0, t[0]) + entry_at(w, 1, t[1]) + entry_at(w, 2, t[2]) + entry_at(w, 3, t[3])
+}
+
+// The number of tuple k where it costs the least, else one above all numbers.
+fn number_at(
+    f: &[u16],
+    w: &[u64],
+    size: usize,
+    configs: &[u16],
+    k: usize,
+    least: u16,
+    above: u64,
+) -> u64
+    requires { ⌜ k * 4 + 4 ≤ length (now configs) ⌝ }
+    requires { ⌜ Within 16 size (now f) (tuple (now configs) k) ⌝ }
+    requires { ⌜ Within 64 size (now w) (tuple (now configs) k) ⌝ }
+    ensures { λ r. ⌜ r ≡ number-where least above (now (f .entry)) (now (w .entry)) (tuple (now (configs .entry)) k) ⌝ }
+{
+    let t = tuple_at(configs, k);
+    if total_of(f, size, t) == least {
+        number_of(w, size, t)
+    } else {
+        above
+    }
+}
+
+// Of the tuples that cost the least, one whose number is the least.
+pub fn first_of(
+    f: &[u16],
+    w: &[u64],
+    size: usize,
+    configs: &[u16],
+    n: usize,
+    least: u16,
+    above: u64,
+) -> [u16; 4]
+    requires { ⌜ Numbered size n least above (now f) (now w) (now configs) ⌝ }
+    ensures { λ r. ⌜ Foremost n least (now (f .entry)) (now (w .entry)) (now (configs .entry)) r ⌝ }
+{
+    let mut low = above;
+    let mut at = 0;
+    let mut k = 0;
+    while k < n {
+        let x = number_at(f, w, size, configs, k, least, above);
+        if x < low {
+            low = x;
+            at = k;
+        }
+        k += 1;
+    }
+    tuple_at(configs, at)
 }
 
 // Each entry of t taken from that of g.

@@ -5,6 +5,7 @@ use Rattle.basics.proofs.Kit.{_≡_, refl, sym, ap, _∙_, Bool, true, List, []
 use native.Mathlib.Nat.{suc-inj}
 use lib.Dec.{eqb·suc-zero}
 use lib.ListN.{length-append}
+use Rattle.order.specs.Order.{not-after}
 use Rattle.code.specs.Code.{is-codeword}
 use Rattle.code.specs.Bits.{bits-of, all-bits, row-long}
 use Rattle.code.proofs.Words.{codeword-parts}
@@ -56,9 +57,15 @@ top-minus rs d e =
     (omega (arith, top-parts rs d, top-parts rs e, minus (top rs d) (top rs e), minus (pos (2 * e)) (pos (2 * d))))
 
 module _ (m : ℕ) (among : List ℕ → Bool) (rs : List ℤ) (full : (ws : List ℕ) → among ws ≡ true → length (all-bits m ws) ≡ length rs) where
-  -- a word at a cost, and above one
+  -- a word at a cost, the cost by the metric, and a word above a cost
   at-cost : (ws : List ℕ) (d : ℕ) → among ws ≡ true → cost m rs ws ≡ d → metric m rs ws ≡ top rs d
   at-cost ws d c e = top-own m rs ws (full ws c) ∙ ap (top rs) e
+
+  of-metric : (ws : List ℕ) (d : ℕ) → among ws ≡ true → metric m rs ws ≡ top rs d → cost m rs ws ≡ d
+  of-metric ws d c e =
+      let k : ℕ = cost m rs ws in
+      let h : top rs k ≡ top rs d = sym (top-own m rs ws (full ws c)) ∙ e in
+      omega (arith, top-parts rs d, rw h at (top-parts rs k))
 
   under : (ws : List ℕ) (d : ℕ) → among ws ≡ true → d ≤ cost m rs ws → at-most (metric m rs ws) (top rs d) ≡ true
   under ws d c h = rw (top-own m rs ws (full ws c)) (top-le rs d (cost m rs ws) h)
@@ -84,13 +91,21 @@ module _ (m : ℕ) (among : List ℕ → Bool) (rs : List ℤ) (full : (ws : Lis
     difference = sym (top-minus rs d0 d1);
   }
 
-  pub decoded : (ws : List ℕ) (d : ℕ) (so : List ℤ) (zs os : ℕ → ℕ) → among ws ≡ true → cost m rs ws ≡ d → Least m among rs d → length so ≡ length rs →
-      ((b : ℕ) → b < length rs → Least-with m among rs b 0 (zs b) × Least-with m among rs b 1 (os b) × (getD so b (pos 0) ≡ pos (2 * os b) -ℤ pos (2 * zs b))) →
-      Decoded m among rs ws (top rs d) so
-  decoded ws d so zs os c e s n f = record {
+  -- the first word of least cost, with soft outputs
+  pub decoded-with : (ws : List ℕ) (d : ℕ) (so : List ℤ) → among ws ≡ true → cost m rs ws ≡ d → Least m among rs d →
+      ((vs : List ℕ) → among vs ≡ true → cost m rs vs ≡ d → not-after ws vs ≡ true) → length so ≡ length rs →
+      ((b : ℕ) → b < length rs → Soft m among rs b (getD so b (pos 0))) → Decoded m among rs ws (top rs d) so
+  decoded-with ws d so c e s t n f = record {
     word = c;
     own = sym (at-cost ws d c e);
     most = greatest d s .all;
+    first = λ vs k h. t vs k (of-metric vs d k h);
     count = n;
-    softly = λ b h. rw (f b h .2) (soft b (zs b) (os b) (f b h .0) (f b h .1));
+    softly = f;
   }
+
+  pub decoded : (ws : List ℕ) (d : ℕ) (so : List ℤ) (zs os : ℕ → ℕ) → among ws ≡ true → cost m rs ws ≡ d → Least m among rs d →
+      ((vs : List ℕ) → among vs ≡ true → cost m rs vs ≡ d → not-after ws vs ≡ true) → length so ≡ length rs →
+      ((b : ℕ) → b < length rs → Least-with m among rs b 0 (zs b) × Least-with m among rs b 1 (os b) × (getD so b (pos 0) ≡ pos (2 * os b) -ℤ pos (2 * zs b))) →
+      Decoded m among rs ws (top rs d) so
+  decoded ws d so zs os c e s t n f = decoded-with ws d so c e s t n (λ b h. rw (f b h .2) (soft b (zs b) (os b) (f b h .0) (f b h .1)))

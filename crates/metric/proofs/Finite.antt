@@ -1,15 +1,23 @@
--- THERE IS A LEAST COST: the words of n symbols are finitely many, so a search for a lesser one ends.
+-- THERE IS A LEAST COST, and a first word that has it: the words of n symbols are finitely many, so a search for a lesser one ends.
 -- Assumes nothing.
-use Rattle.basics.proofs.Kit.{_≡_, refl, Bool, true, false, _&&_, List, [], _∷_, ℕ, zero, suc, _^_, _≤_, _<_, arith, length, eqb, ltb, ℤ}
+use Rattle.basics.proofs.Kit.{_≡_, refl, sym, _∙_, Bool, true, false, _&&_, List, [], _∷_, ℕ, zero, suc, _^_, _≤_, _<_, arith, length, eqb, ltb, ℤ}
 use mathlib.Core.Logic.{_⊎_, inl, inr}
 use native.Mathlib.Nat.{suc-inj, le-of-suc-le-suc, not-suc-le-zero, eq-or-lt-of-le, le-refl}
 use borrow.Author.Tests.{ltb-false, eq-eqb}
 use lib.Dec.{T, ltb→lt, eqb→eq}
+use Rattle.order.specs.Order.{not-after}
+use Rattle.order.specs.Number.{number, Digits}
+use Rattle.order.proofs.Numbers.{le-number}
 use Rattle.field.proofs.Tests.{and-l, and-r, to-T, from-T}
 use Rattle.code.specs.Bits.{bit-at}
 use Rattle.code.proofs.Words.{Below, below}
 use Rattle.metric.specs.Cost.{cost, Least, Least-with}
 use Rattle.metric.specs.Promise.{Words-for}
+
+-- the symbols of a word as digits
+pub digits : (n : ℕ) (ws : List ℕ) → Below n ws → Digits n ws
+digits n [] b = tt
+digits n (c ∷ cs) b = (b .0, digits n cs (b .1))
 
 -- a word that passes a test, or none of n symbols below k does
 abbrev Looked : (n k : ℕ) → (List ℕ → Bool) → Type 0
@@ -56,7 +64,7 @@ look (suc n) k p = go (look-first n k (look n k) p k)
         all [] l b = absurd (omega arith)
         all (c ∷ cs) l b = f c (b .0) cs (suc-inj l) (b .1)
 
--- a word of least cost among those that pass a test
+-- a word of least number among those that pass a test
 record Lowest (q : List ℕ → Bool) (f : List ℕ → ℕ) : Type 0 where
   word : List ℕ
   passes : q word ≡ true
@@ -90,31 +98,44 @@ module _ (m : ℕ) (among : List ℕ → Bool) (rs : List ℤ) (x : Words-for m 
       let l : Lowest among (cost m rs) = lowest (x .count) (2 ^ m) among (cost m rs) inside (x .some .0) (x .some .1) in
       (cost m rs (l .word), record { met = (l .word, l .passes, refl); all = l .least })
 
-  module _ (b v : ℕ) (hb : b < length rs) (hv : v < 2) where
-    -- a word with v at bit b
+  -- the lowest among the words of which a number is v
+  module _ (number-of : List ℕ → ℕ) (v : ℕ) (f : List ℕ → ℕ) where
     held : List ℕ → Bool
-    held ws = among ws && eqb (bit-at m b ws) v
+    held ws = among ws && eqb (number-of ws) v
 
     held-word : (ws : List ℕ) → held ws ≡ true → among ws ≡ true
     unfolding held
-    held-word ws g = from-T (among ws) (and-l (among ws) (eqb (bit-at m b ws) v) (to-T g))
+    held-word ws g = from-T (among ws) (and-l (among ws) (eqb (number-of ws) v) (to-T g))
 
-    held-bit : (ws : List ℕ) → held ws ≡ true → bit-at m b ws ≡ v
+    held-number : (ws : List ℕ) → held ws ≡ true → number-of ws ≡ v
     unfolding held
-    held-bit ws g = eqb→eq (bit-at m b ws) v (and-r (among ws) (eqb (bit-at m b ws) v) (to-T g))
+    held-number ws g = eqb→eq (number-of ws) v (and-r (among ws) (eqb (number-of ws) v) (to-T g))
 
-    held-of : (ws : List ℕ) → among ws ≡ true → bit-at m b ws ≡ v → held ws ≡ true
+    held-of : (ws : List ℕ) → among ws ≡ true → number-of ws ≡ v → held ws ≡ true
     unfolding held
-    held-of ws c e = rw (c, eq-eqb (bit-at m b ws) v e) refl
+    held-of ws c e = rw (c, eq-eqb (number-of ws) v e) refl
 
-    pub least-with-there : (d : ℕ) × Least-with m among rs b v d
-    least-with-there =
-        let y = x .both b v hb hv in
-        let l : Lowest held (cost m rs) =
-        lowest (x .count) (2 ^ m) held (cost m rs) (λ ws g. inside ws (held-word ws g)) (y .0) (held-of (y .0) (y .1) (y .2)) in (
-          cost m rs (l .word),
-          record {
-            met = (l .word, held-word (l .word) (l .passes), held-bit (l .word) (l .passes), refl);
-            all = λ ws c e. l .least ws (held-of ws c e);
-          },
-        )
+    lowest-held :
+        (ws : List ℕ) → among ws ≡ true → number-of ws ≡ v →
+        (us : List ℕ) × (among us ≡ true) × (number-of us ≡ v) × ((vs : List ℕ) → among vs ≡ true → number-of vs ≡ v → f us ≤ f vs)
+    lowest-held ws c e =
+        let l : Lowest held f = lowest (x .count) (2 ^ m) held f (λ vs g. inside vs (held-word vs g)) ws (held-of ws c e) in
+        (l .word, held-word (l .word) (l .passes), held-number (l .word) (l .passes), λ vs k h. l .least vs (held-of vs k h))
+
+  pub least-with-there : (b v : ℕ) → b < length rs → v < 2 → (d : ℕ) × Least-with m among rs b v d
+  least-with-there b v hb hv =
+      let y = x .both b v hb hv in
+      let l = lowest-held (bit-at m b) v (cost m rs) (y .0) (y .1) (y .2) in
+      (cost m rs (l .0), record { met = (l .0, l .1, l .2, refl); all = l .3 })
+
+  -- the first of the words of least cost
+  pub first-there :
+      (d : ℕ) → Least m among rs d →
+      (ws : List ℕ) × (among ws ≡ true) × (cost m rs ws ≡ d) × ((vs : List ℕ) → among vs ≡ true → cost m rs vs ≡ d → not-after ws vs ≡ true)
+  first-there d s =
+      let l = lowest-held (cost m rs) d (number (2 ^ m)) (s .met .0) (s .met .1) (s .met .2) in (
+        l .0,
+        l .1,
+        l .2,
+        λ vs c e. le-number (2 ^ m) (l .0) vs (inside (l .0) (l .1) .0 ∙ sym (inside vs c .0)) (digits (2 ^ m) vs (inside vs c .1)) (l .3 vs c e),
+      )

@@ -6,6 +6,8 @@ use mathlib.Core.Bool.{false≢true}
 use native.Mathlib.Nat.{eq-or-lt-of-le}
 use lib.Dec.{lit<}
 use lib.Seq.{ext-getD}
+use Rattle.order.specs.Promise.{Order-antisymmetric}
+use Rattle.order.proofs.Promise.{order-antisymmetric}
 use Rattle.field.proofs.Tests.{widths}
 use Rattle.code.specs.Code.{long, is-codeword}
 use Rattle.code.specs.Bits.{bits-of, all-bits, bit-at, row-long}
@@ -18,9 +20,9 @@ use Rattle.metric.specs.Right.{Soft-right, Marked-right}
 use Rattle.metric.specs.Promise.{Words-for, Codewords-for, Greatest-there, Greatest-with-there, Decoded-there, Marked-there, Greatest-one, Greatest-with-one, Soft-width, Best-of-two, Decoded-one, Marked-one, Soft-enough, Decoded-enough, Marked-enough}
 use Rattle.metric.proofs.Integers.{same, size, minus-size, le-at-most, at-most-true, at-most-false, at-most-refl, at-most-antisym}
 use Rattle.metric.proofs.Bounds.{word-size}
-use Rattle.metric.proofs.Costs.{length-all-bits, greatest, greatest-with}
+use Rattle.metric.proofs.Costs.{length-all-bits, greatest, greatest-with, decoded-with}
 use Rattle.metric.proofs.Marks.{marked-none, marked-short, marked-best}
-use Rattle.metric.proofs.Finite.{least-there, least-with-there}
+use Rattle.metric.proofs.Finite.{least-there, least-with-there, first-there}
 
 clash {ℓ} : {X : Type ℓ} {b : Bool} → b ≡ true → b ≡ false → X
 clash p q = absurd (false≢true (sym q ∙ p))
@@ -172,7 +174,7 @@ marked-one m among rs ws v w d e p = go w (marked-enough m among rs ws v d p)
     go (suc (suc zero)) k q = let a : (v ≡ 2) × (d ≡ pos 0) = k .best .1 (q .0) (q .1 .all) in (a .0, a .1 ∙ sym (q .2))
     go (suc (suc (suc w))) k q = absurd q
 
--- A DECODING: a word that meets the greatest, and the soft outputs one after another
+-- A DECODING: the first word of least cost, and the soft outputs one after another
 collected :
     (n : ℕ) (P : ℕ → ℤ → Type 0) → ((b : ℕ) → b < n → (s : ℤ) × P b s) →
     (so : List ℤ) × (length so ≡ n) × ((b : ℕ) → b < n → P b (getD so b (pos 0)))
@@ -189,15 +191,12 @@ collected (suc n) P f =
     at s so p q (suc b) h = q b (omega arith)
 
 pub decoded-there : Decoded-there
-unfolding Decoded-there Greatest-there Greatest-with-there
+unfolding Decoded-there Greatest-with-there
 decoded-there m among rs x =
-    let g = greatest-there m among rs x in
-    let so = collected (length rs) (Soft m among rs) soft-at in (
-      g .1 .met .0,
-      g .0,
-      so .0,
-      record { word = g .1 .met .1; own = sym (g .1 .met .2); most = g .1 .all; count = so .1; softly = so .2 },
-    )
+    let s = least-there m among rs x in
+    let w = first-there m among rs x (s .0) (s .1) in
+    let so = collected (length rs) (Soft m among rs) soft-at in
+    (w .0, top rs (s .0), so .0, decoded-with m among rs (filled m among rs x) (w .0) (s .0) (so .0) (w .1) (w .2) (s .1) (w .3) (so .1) (so .2))
   where
     soft-at : (b : ℕ) → b < length rs → (s : ℤ) × Soft m among rs b s
     soft-at b h =
@@ -205,12 +204,14 @@ decoded-there m among rs x =
         let o = greatest-with-there m among rs b 1 x h (omega arith) in
         (z .0 -ℤ o .0, record { of-zero = z .0; of-one = o .0; greatest-zero = z .1; greatest-one = o .1; difference = refl })
 
--- ONE DECODING, up to the word
+-- ONE DECODING: of two best words neither comes after the other
 pub decoded-one : Decoded-one
-unfolding Decoded-one Soft-enough Soft-right
+unfolding Decoded-one Order-antisymmetric Soft-enough Soft-right
 decoded-one m among rs vs ws e g so to p q =
-    let s : Soft-right m among rs so = soft-enough m among rs so (p .count) (p .softly) in (
-      at-most-antisym e g (rw (sym (p .own)) at (q .most vs (p .word))) (rw (sym (q .own)) at (p .most ws (q .word))),
+    let s : Soft-right m among rs so = soft-enough m among rs so (p .count) (p .softly) in
+    let k : e ≡ g = at-most-antisym e g (rw (sym (p .own)) at (q .most vs (p .word))) (rw (sym (q .own)) at (p .most ws (q .word))) in (
+      order-antisymmetric vs ws (p .first ws (q .word) (sym (q .own) ∙ sym k)) (q .first vs (p .word) (sym (p .own) ∙ k)),
+      k,
       ext-getD (pos 0) so to (p .count ∙ sym (q .count)) (λ b h. each s b (rw (p .count) at h)),
     )
   where

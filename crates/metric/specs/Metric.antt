@@ -8,6 +8,7 @@ use Prim.Native.Nat.{ℕ, zero, suc, _<_}
 use lib.Dec.{eqb}
 use lib.ListN.{length, getD}
 use lib.IntN.{ℤ, pos, negsuc, _+ℤ_, _-ℤ_}
+use Rattle.order.specs.Order.{not-after}
 use Rattle.code.specs.Bits.{all-bits, bit-at}
 
 -- the sum of the reliabilities at the 0 bits less the sum at the 1 bits
@@ -45,11 +46,12 @@ pub record Soft (m : ℕ) (among : List ℕ → Bool) (rs : List ℤ) (b : ℕ) 
   pub greatest-one : Greatest-with m among rs b 1 of-one
   pub difference : soft ≡ of-zero -ℤ of-one
 
--- THE THIRD DEMAND, of a decoding: a best word, its metric, and a soft output for each entry of the row
+-- THE THIRD DEMAND, of a decoding: the first best word, its metric, and a soft output for each entry of the row
 pub record Decoded (m : ℕ) (among : List ℕ → Bool) (rs : List ℤ) (ws : List ℕ) (best : ℤ) (soft : List ℤ) : Type 0 where
   pub word : among ws ≡ true
   pub own : best ≡ metric m rs ws
   pub most : (vs : List ℕ) → among vs ≡ true → at-most (metric m rs vs) best ≡ true
+  pub first : (vs : List ℕ) → among vs ≡ true → metric m rs vs ≡ best → not-after ws vs ≡ true
   pub count : length soft ≡ length rs
   pub softly : (b : ℕ) → b < length rs → Soft m among rs b (getD soft b (pos 0))
 

@@ -53,7 +53,7 @@ Best-of-two =
     (m : ℕ) (among : List ℕ → Bool) (rs : List ℤ) (b : ℕ) (e g h : ℤ) → Greatest m among rs e → Greatest-with m among rs b 0 g → Greatest-with m among rs b 1 h →
     e ≡ cond (at-most h g) g h
 
--- a row has a decoding, and two differ at most in the word
+-- a row has a decoding, and only one
 unfoldable pub Decoded-there : Type 0
 Decoded-there =
     (m : ℕ) (among : List ℕ → Bool) (rs : List ℤ) → Words-for m among rs →
@@ -62,7 +62,7 @@ Decoded-there =
 unfoldable pub Decoded-one : Type 0
 Decoded-one =
     (m : ℕ) (among : List ℕ → Bool) (rs : List ℤ) (vs ws : List ℕ) (e g : ℤ) (so to : List ℤ) → Decoded m among rs vs e so → Decoded m among rs ws g to →
-    (e ≡ g) × (so ≡ to)
+    (vs ≡ ws) × (e ≡ g) × (so ≡ to)
 
 -- a row and a word have a verdict, and only one, with one shortfall
 unfoldable pub Marked-there : Type 0

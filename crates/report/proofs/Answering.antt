@@ -24,7 +24,7 @@ use Rattle.report.specs.Calls.{line-most}
 use Rattle.report.specs.Within.{Holds, Put-line}
 use Rattle.report.proofs.Bounds.{line-fits}
 
--- a question that a sheet can hold was decoded, whichever best word was found
+-- a question that a sheet can hold was decoded
 pub record Decoded-question (q : Question) (best : ℤ) (soft : List ℤ) : Type 0 where
   pub good : Good reliabilities q
   pub word : List ℕ

@@ -60,7 +60,7 @@ line-one q s t v w =
     let m = width (q .code) in let r = roots (q .code) in
     let d = decoded-one m (is-codeword m r) (q .row) (v .word) (w .word) (v .best) (w .best) (v .soft) (w .soft) (v .decoded) (w .decoded) in
     let k = marked-one m (is-codeword m r) (q .row) (q .word) (v .verdict) (w .verdict) (v .shortfall) (w .shortfall) (v .marked) (w .marked) in
-    v .text-is ∙ rw (d .0, d .1, k .0, k .1) (sym (w .text-is))
+    v .text-is ∙ rw (d .1, d .2, k .0, k .1) (sym (w .text-is))
 
 lines-one : (qs : List Question) (s t : List ℕ) → Lines qs s → Lines qs t → s ≡ t
 unfolding Lines

@@ -27,12 +27,14 @@ use Rattle.metric.specs.Cost.{costZero, cost}
 use Rattle.trellis.specs.Trellis.{Columns, Choice, back, syn, Held, free, final}
 use Rattle.trellis.specs.Trellis as T
 use Rattle.trellis.specs.Rows as R
+use Rattle.trellis.specs.Rows.{weave}
 use Rattle.trellis.proofs.Trellis.{Attains, attained, reaches, none-less}
 use Rattle.lanes.proofs.Rows.{four}
+use Rattle.glue.specs.Walk.{sum4}
 use Rattle.glue.proofs.Engine.{over}
 use Rattle.search.specs.Within.{Spelt}
 use Rattle.search.proofs.Layering.{by-layers}
-use Rattle.search.proofs.Weave.{weave, weave-long, weave-layer, weave-below}
+use Rattle.search.proofs.Weave.{weave-long, weave-layer, weave-below}
 
 -- place j of configuration k, 0 where m = 3 has none
 abbrev pub conf : (code k j : ℕ) → ℕ
@@ -138,20 +140,34 @@ module _ (c : ℕ) (g : code-good c ≡ true) (rs : List ℤ) (l : length rs ≡
             ∙ place-at (width c) (roots c) j ws (omega arith)
             ∙ sym (adds y j w (layer j ws) (layer-binary (width c) j ws (p .count)))
 
+    -- a codeword by its layers: their syndromes are a configuration, their costs no less than its tables and together the codeword's
+    pub record Layered (ws : List ℕ) : Type 0 where
+      pub place : ℕ
+      pub inside : place < configurations c
+      pub sums : (j : ℕ) → j < 4 → conf c place j ≡ syn (L j) 0 (layer j ws)
+      pub no-less : (j : ℕ) → j < 4 → table holds j (conf c place j) ≤ T.cost (L j) 0 (layer j ws)
+      pub costs : cost (width c) rs ws ≡ sum4 (λ j. T.cost (L j) 0 (layer j ws))
+
+    pub layered : (ws : List ℕ) → is-codeword (width c) (roots c) ws ≡ true → ((j : ℕ) → j < 4 → Held (holds j) 0 (layer j ws)) → Layered ws
+    layered ws cw held =
+        let p : Codeword-parts (width c) (roots c) ws = codeword-parts (width c) (roots c) ws cw in
+        let f = config-of ws cw in
+        record {
+          place = f .0;
+          inside = f .1;
+          sums = f .2;
+          no-less = λ j lj.
+              let e : length hs ≡ length (layer j ws) = y .columns .count ∙ sym (layer-length j ws ∙ p .count) in
+              rw (f .2 j lj, e) (none-less (L j) big (holds j) 0 (layer j ws) (held j lj));
+          costs = by-layers (width c) (roots c) w rs hs zs os y l ws (p .count);
+        }
+
     -- NO CODEWORD WITH THE HELD BITS COSTS LESS than some configuration's tables
     pub lower : (ws : List ℕ) → is-codeword (width c) (roots c) ws ≡ true → ((j : ℕ) → j < 4 → Held (holds j) 0 (layer j ws)) →
         (k : ℕ) × (k < configurations c) × (over (table holds) (conf c k) ≤ cost (width c) rs ws)
     lower ws cw held =
-        let p : Codeword-parts (width c) (roots c) ws = codeword-parts (width c) (roots c) ws cw in
-        let f = config-of ws cw in
-        (f .0, f .1, omega (arith, each ws p held f 0 (omega arith), each ws p held f 1 (omega arith), each ws p held f 2 (omega arith), each ws p held f 3 (omega arith), by-layers (width c) (roots c) w rs hs zs os y l ws (p .count)))
-      where
-        each : (ws : List ℕ) → Codeword-parts (width c) (roots c) ws → ((j : ℕ) → j < 4 → Held (holds j) 0 (layer j ws)) →
-            (f : (k : ℕ) × (k < configurations c) × ((j : ℕ) → j < 4 → conf c k j ≡ syn (L j) 0 (layer j ws))) →
-            (j : ℕ) → j < 4 → table holds j (conf c (f .0) j) ≤ T.cost (L j) 0 (layer j ws)
-        each ws p held f j lj =
-            let e : length hs ≡ length (layer j ws) = y .columns .count ∙ sym (layer-length j ws ∙ p .count) in
-            rw (f .2 j lj, e) (none-less (L j) big (holds j) 0 (layer j ws) (held j lj))
+        let v : Layered ws = layered ws cw held in
+        (v .place, v .inside, omega (arith, v .no-less 0 (omega arith), v .no-less 1 (omega arith), v .no-less 2 (omega arith), v .no-less 3 (omega arith), v .costs))
 
     -- bits of layer j that have place j of configuration k and its table's cost
     pub record Lane (k j : ℕ) (bs : List ℕ) : Type 0 where

@@ -8,3 +8,5 @@ pub mod Sums
 pub mod Tabling
 pub mod Searching
 pub mod Walking
+pub mod Numbering
+pub mod Foremost

@@ -1,6 +1,8 @@
 -- The tables of an accepted row: what is asked of the buffers, and that columns and costs are those of the row.
 -- Assumes nothing.
-use Rattle.basics.proofs.Kit.{_≡_, refl, sym, ap, _∙_, Bool, true, false, cond, List, ℕ, _+_, _*_, _^_, _≤_, _<_, arith, length, getD, ltb, ℤ, pos}
+use Rattle.basics.proofs.Kit.{_≡_, refl, sym, ap, _∙_, Bool, true, false, cond, List, ℕ, _+_, _*_, _^_, _≤_, _<_, arith, length, getD, take, ltb, ℤ, pos}
+use lib.ListN.{replicate, getD-replicate}
+use lib.Seq.{getD-take}
 use Rattle.field.proofs.Tests.{widths}
 use Rattle.code.specs.declared.Shape.{Shape}
 use Rattle.code.specs.Code.{width, roots, long, syndrome-long}
@@ -28,6 +30,10 @@ pub size-small : {s : Shape} → Coded s → s .size ≤ 64
 unfolding width roots
 size-small z =
     rw (z .size-is, z .q-is, z .m-is, z .r-is) (codes (λ c. 2 ^ syndrome-long (width c) (roots c) ≤ 64) (omega arith) (omega arith) (omega arith) (z .code) (z .code-is))
+
+-- room filled with a number, of which a part is lent
+pub filled : (v k i : ℕ) → k ≤ 256 → i < k → getD (take k (replicate 256 v)) i 0 ≡ v
+filled v k i h l = getD-take k (replicate 256 v) i 0 l ∙ getD-replicate 256 i v 0 (omega arith)
 
 -- by how many syndromes a layer has
 states : {s : Shape} → (z : Coded s) → s .size ≡ 2 ^ syndrome-long (width (z .code)) (roots (z .code))

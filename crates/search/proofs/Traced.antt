@@ -1,6 +1,6 @@
--- The traced word: its layers are the traces of each layer, so it is a codeword that has the cost of its configuration.
+-- The word of a configuration's first words is a codeword that has the cost of the configuration.
 -- Assumes nothing.
-use Rattle.basics.proofs.Kit.{_≡_, refl, ap, ap₂, _∙_, true, List, _∷_, ℕ, zero, suc, _+_, _*_, _≤_, _<_, arith, length, getD, leb, ℤ}
+use Rattle.basics.proofs.Kit.{_≡_, refl, ap, _∙_, true, List, ℕ, zero, suc, _+_, _≤_, _<_, arith, length, leb, ℤ}
 use borrow.Author.Tests.{le-leb}
 use Rattle.field.specs.Field.{xor}
 use Rattle.field.proofs.Xor as X
@@ -9,29 +9,16 @@ use Rattle.code.specs.Bits.{row-long}
 use Rattle.code.proofs.Words.{Below}
 use Rattle.configurations.specs.Configurations.{configurations}
 use Rattle.metric.specs.Cost.{cost}
-use Rattle.trellis.specs.Trellis.{Columns, pick, step, back, free, final, bit, choice, trace}
+use Rattle.trellis.specs.Trellis.{Columns, step, back, free, final, bit, choice, trace}
 use Rattle.trellis.specs.Rows as R
-use Rattle.lanes.specs.Lanes.{lane, lanes}
-use Rattle.trellis.specs.Rows.{chosen, traced}
+use Rattle.lanes.specs.Lanes.{lane}
+use Rattle.trellis.specs.Rows.{first-words}
 use Rattle.trellis.proofs.Trellis.{Attains, reaches}
 use Rattle.trellis.proofs.Trellis as TT
 use Rattle.glue.proofs.Engine.{over}
 use Rattle.lanes.proofs.Rows.{four}
 use Rattle.search.specs.Within.{Spelt}
-use Rattle.search.proofs.Weave.{merge, weave}
 use Rattle.search.proofs.Bridge.{conf, table, costless, Lane, woven, free-two, conf-high}
-
--- the four layers' traces, woven
-pub traced-weave : (big : ℕ) (hs zs os : List ℕ) (i k : ℕ) (s : List ℕ) →
-    traced big hs zs os i k s ≡ weave (λ j. trace (R.layer hs zs os j) (final big) i k (lane s j))
-unfolding traced trace chosen weave merge
-traced-weave big hs zs os i zero s = refl
-traced-weave big hs zs os i (suc k) s =
-    ap₂ (λ (x : ℕ) (xs : List ℕ). x ∷ xs) (nested (chosen big hs zs os i k s 0) (chosen big hs zs os i k s 1) (chosen big hs zs os i k s 2) (chosen big hs zs os i k s 3))
-    (traced-weave big hs zs os (suc i) k (lanes (λ j. xor (lane s j) (pick (chosen big hs zs os i k s j) 0 (getD hs i 0)))))
-  where
-    nested : (a b c d : ℕ) → a + 2 * b + 4 * c + 8 * d ≡ a + 2 * (b + 2 * (c + 2 * d))
-    nested a b c d = omega arith
 
 -- a layer that costs nothing is traced as zeros
 module _ (col : Columns) (big n : ℕ) (free-zero : (p : ℕ) → p < n → col p .c0 ≡ 0) where
@@ -56,12 +43,12 @@ module _ (c : ℕ) (g : code-good c ≡ true) (rs : List ℤ) (l : length rs ≡
   abbrev F : ℕ → ℕ → ℕ
   F = table c g rs l hs zs os y big (λ j. free)
 
-  -- THE TRACED WORD of a configuration that costs less than big
+  -- THE WORD of a configuration that costs less than big
   pub word : (k : ℕ) → k < configurations c → over F (conf c k) < big → (s : List ℕ) → ((j : ℕ) → j < 4 → lane s j ≡ conf c k j) →
-      (is-codeword (width c) (roots c) (traced big hs zs os 0 (length hs) s) ≡ true) × (cost (width c) rs (traced big hs zs os 0 (length hs) s) ≡ over F (conf c k))
+      (is-codeword (width c) (roots c) (first-words big hs zs os s) ≡ true) × (cost (width c) rs (first-words big hs zs os s) ≡ over F (conf c k))
   word k lk h s e =
       let t = woven c g rs l hs zs os y big (λ j. free) (λ j. free-two) (λ j u. refl) k lk (λ j. trace (L j) (final big) 0 (length hs) (lane s j)) each in
-      rw (traced-weave big hs zs os 0 (length hs) s) (t .0, t .2)
+      (t .0, t .2)
     where
       small : (j : ℕ) → j < 4 → F j (conf c k j) < big
       small = four (λ j. F j (conf c k j) < big) (omega arith) (omega arith) (omega arith) (omega arith)

@@ -1,20 +1,12 @@
--- The word of four layers, and its layers again.
+-- The layers of a word that is woven of four.
 -- Assumes nothing.
 use Rattle.basics.proofs.Kit.{_≡_, refl, sym, ap, ap₂, _∙_, List, [], _∷_, ℕ, suc, _+_, _*_, _/_, _%_, _^_, _<_, arith, length}
 use native.Mathlib.Nat.{suc-inj}
 use Rattle.code.proofs.Words.{Below}
 use Rattle.split.specs.Split.{layer}
+use Rattle.trellis.specs.Rows.{merge, weave}
 use Rattle.lanes.proofs.Rows.{four}
 use Rattle.search.proofs.Layering.{first, next}
-
--- the word whose lowest layer is bs and whose others are those of cs
-unfoldable pub merge : (lowest : List ℕ) → (others : List ℕ) → List ℕ
-merge [] cs = []
-merge (b ∷ bs) [] = []
-merge (b ∷ bs) (c ∷ cs) = (b + 2 * c) ∷ merge bs cs
-
-unfoldable pub weave : (layers : ℕ → List ℕ) → List ℕ
-weave b = merge (b 0) (merge (b 1) (merge (b 2) (b 3)))
 
 length-merge : (n : ℕ) (bs cs : List ℕ) → length bs ≡ n → length cs ≡ n → length (merge bs cs) ≡ n
 unfolding merge

@@ -16,10 +16,10 @@ use Rattle.split.specs.Split.{column}
 use Rattle.configurations.specs.Configurations.{configurations, listed}
 use Rattle.metric.specs.Row.{row-bound, row-good}
 use Rattle.metric.specs.Cost.{costZero, costOne}
-use Rattle.trellis.specs.Trellis.{pick}
-use Rattle.trellis.specs.Rows.{Layers, Made}
+use Rattle.trellis.specs.Trellis.{pick, first-word}
+use Rattle.trellis.specs.Rows.{layer, Layers, Made, weighed}
 use Rattle.lanes.specs.Lanes.{entry, lane}
-use Rattle.glue.specs.Walk.{sum4}
+use Rattle.glue.specs.Walk.{sum4, total, tuple, Tuples}
 
 -- a reliability's greatest size, a number above every cost of a word, and one above twice that and a layer's cost
 abbrev pub top : ℕ
@@ -113,3 +113,29 @@ tuples-of s = listed (number-of s)
 
 abbrev pub count-of : Shape → ℕ
 count-of s = configurations (number-of s)
+
+-- the tables by what they are made of, for the walk
+pub record Tables (s : Shape) (hs zs os t : List ℕ) : Type 0 where
+  pub coded : Coded s
+  pub layers : Layers (s .q) (s .size) top hs zs os
+  pub made : Made (s .size) big hs zs os 0 t
+  pub few : length hs ≤ 15
+  pub odd : length hs % 2 ≡ 1
+  pub tuples : Tuples (s .size) (count-of s) cap t (tuples-of s)
+
+-- a number above those of all words
+abbrev pub above : ℕ
+above = 2 ^ 60
+
+-- the number of the first word of four syndromes: the layers' numbers together
+unfoldable pub word-number : (hs zs os t : List ℕ) → ℕ
+word-number hs zs os t = sum4 (λ j. weighed j (first-word (layer hs zs os j) big (length hs) (lane t j)))
+
+-- a configuration costs r
+abbrev pub Costs : Shape → (t : List ℕ) → (r k : ℕ) → Type 0
+Costs s t r k = (k < count-of s) × (total t (tuple (tuples-of s) k) ≡ r)
+
+-- THE FIRST OF THE TIED: `at` is a configuration that costs r, and the first word of no such configuration has a lesser number
+pub record First-tied (s : Shape) (hs zs os t : List ℕ) (r : ℕ) (at : List ℕ) : Type 0 where
+  pub found : (k : ℕ) × Costs s t r k × (at ≡ tuple (tuples-of s) k)
+  pub first : (k : ℕ) → Costs s t r k → word-number hs zs os at ≤ word-number hs zs os (tuple (tuples-of s) k)

@@ -1,7 +1,8 @@
 // The trellis and the walk at a code and a row: the columns of a code, the costs of a row, its tables, the walk over them, and what a word costs
 // by itself.
-// proofs/Found.antt shows that what trellis and glue then find are the least costs of codewords, proofs/Searching.antt that the least total over
-// the tables of an accepted row is. Its functions are for the decoder and the marker.
+// proofs/Found.antt shows that what trellis and glue then find are the least costs of codewords, proofs/Foremost.antt that the configuration that is
+// found gives the first codeword of least cost, proofs/Searching.antt that the least total over the tables of an accepted row is the least cost. Its
+// functions are for the decoder and the marker.
 use code::Shape;
 use glue::Least;
 ghost use mathlib.Core.Path.{_≡_};
@@ -13,9 +14,10 @@ ghost use Rattle.code.specs.Within.{Coded};
 ghost use Rattle.metric.specs.Row.{row-bound, reliability-good, row-good};
 ghost use Rattle.metric.specs.Cost.{costZero, costOne, weight-of};
 ghost use Rattle.lanes.specs.Lanes.{lane, put-four};
-ghost use Rattle.search.specs.Within.{cap, reliability, Headed, Spread, Costs-to, Costs-within, Costed, Input, Buffers, Tabled, tuples-of, count-of, symbol-cost, word-cost, Own, Symbol};
+ghost use Rattle.search.specs.Within.{cap, above, Tables, Costs, First-tied, reliability, Headed, Spread, Costs-to, Costs-within, Costed, Input, Buffers, Tabled, tuples-of, count-of, symbol-cost, word-cost, Own, Symbol};
 ghost use Rattle.trellis.specs.Trellis.{pick};
-ghost use Rattle.glue.specs.Walk.{sum4, least-total, Tuples, Walked, Marginals};
+ghost use Rattle.trellis.specs.Rows.{NumberRoom};
+ghost use Rattle.glue.specs.Walk.{sum4, least-total, Tuples, Walked, Marginals, Numbered, Foremost};
 
 // A reliability's greatest size, a number above every cost of a word, and one above twice that and a layer's cost.
 pub const TOP: u16 = metric::BOUND;
@@ -127,9 +129,12 @@ pub fn of_row(shape: Shape, row: &[i16], hs: &[u16], zs: &mut [u16], os: &mut [u
     trellis::make_tables(t, shape.q, shape.size, hs, zs, os, TOP, BIG);
 }
 
-// The walk over the configurations of a code: the least total of the tables, and in g, which is all CAP before, the least with each syndrome in each
-// layer.
-pub fn walk(shape: Shape, t: &[u16], g: &mut [u16]) -> Least
+// A number above those of all words.
+const ABOVE: u64 = 0x1000000000000000;
+
+// The walk over the configurations of a code: the least total of the tables with a configuration that has it, and in g, which is all CAP before,
+// the least with each syndrome in each layer.
+fn walk(shape: Shape, t: &[u16], g: &mut [u16]) -> Least
     requires { ⌜ Tuples (shape .size) (count-of shape) cap (now t) (tuples-of shape) ⌝ }
     requires { ⌜ length (now g) ≡ shape .size * 4 ⌝ }
     requires { ⌜ ((i : ℕ) → i < shape .size * 4 → getD (now g) i 0 ≡ cap) ⌝ }
@@ -146,6 +151,88 @@ pub fn walk(shape: Shape, t: &[u16], g: &mut [u16]) -> Least
     }
     let all = configurations::all_of_code_2();
     glue::walk(t, shape.size, &all, 64, g, CAP)
+}
+
+// Of the configurations that cost the least, one whose number is the least.
+fn first_of(shape: Shape, t: &[u16], w: &[u64], least: u16) -> [u16; 4]
+    requires { ⌜ Numbered (shape .size) (count-of shape) least above (now t) (now w) (tuples-of shape) ⌝ }
+    ensures { λ r. ⌜ Foremost (count-of shape) least (now (t .entry)) (now (w .entry)) (tuples-of shape) r ⌝ }
+{
+    if shape.m == 4 {
+        let all = configurations::all_of_code_3();
+        return glue::first_of(t, w, shape.size, &all, 256, least, ABOVE);
+    }
+    if shape.r == 2 {
+        let all = configurations::all_of_code_1();
+        return glue::first_of(t, w, shape.size, &all, 8, least, ABOVE);
+    }
+    let all = configurations::all_of_code_2();
+    glue::first_of(t, w, shape.size, &all, 64, least, ABOVE)
+}
+
+// Of several configurations that cost the least, the one whose first word comes first.
+fn first_tied_with(
+    shape: Shape,
+    hs: &[u16],
+    zs: &[u16],
+    os: &[u16],
+    t: &[u16],
+    least: u16,
+    w: &mut [u64],
+    spare: &mut [u64],
+) -> [u16; 4]
+    requires { ⌜ Tables shape (now hs) (now zs) (now os) (now t) ⌝ }
+    requires { ⌜ NumberRoom (shape .size) (now hs) (now w) (now spare) ⌝ }
+    requires { ⌜ ((k : ℕ) × Costs shape (now t) least k) ⌝ }
+    ensures { λ r. ⌜ First-tied shape (now (hs .entry)) (now (zs .entry)) (now (os .entry)) (now (t .entry)) least r ⌝ }
+{
+    trellis::number_words(t, shape.q, shape.size, hs, zs, os, TOP, BIG, w, spare);
+    first_of(shape, t, spare, least)
+}
+
+// The same with room of its own for the numbers.
+fn first_tied(shape: Shape, hs: &[u16], zs: &[u16], os: &[u16], t: &[u16], least: u16) -> [u16; 4]
+    requires { ⌜ Tables shape (now hs) (now zs) (now os) (now t) ⌝ }
+    requires { ⌜ ((k : ℕ) × Costs shape (now t) least k) ⌝ }
+    ensures { λ r. ⌜ First-tied shape (now (hs .entry)) (now (zs .entry)) (now (os .entry)) (now (t .entry)) least r ⌝ }
+{
+    let mut w_room = [0u64; 256];
+    let w: &mut [u64] = &mut w_room;
+    let mut spare_room = [0u64; 256];
+    let spare: &mut [u64] = &mut spare_room;
+    let states = shape.size * 4;
+    first_tied_with(
+        shape,
+        hs,
+        zs,
+        os,
+        t,
+        least,
+        &mut w[..states],
+        &mut spare[..states],
+    )
+}
+
+// The least total over the configurations, with the one that has it or, of several, the one whose first word comes first; and in g, which is all
+// CAP before, the least with each syndrome in each layer.
+pub fn best_of(shape: Shape, hs: &[u16], zs: &[u16], os: &[u16], t: &[u16], g: &mut [u16]) -> Least
+    requires { ⌜ Tables shape (now hs) (now zs) (now os) (now t) ⌝ }
+    requires { ⌜ least-total cap (now t) (tuples-of shape) (count-of shape) < cap ⌝ }
+    requires { ⌜ length (now g) ≡ shape .size * 4 ⌝ }
+    requires { ⌜ ((i : ℕ) → i < shape .size * 4 → getD (now g) i 0 ≡ cap) ⌝ }
+    ensures { λ r. ⌜ r .total ≡ least-total cap (now (t .entry)) (tuples-of shape) (count-of shape) ⌝ }
+    ensures { λ r. ⌜ First-tied shape (now (hs .entry)) (now (zs .entry)) (now (os .entry)) (now (t .entry)) (r .total) (r .at) ⌝ }
+    ensures { λ _. ⌜ Marginals (shape .size) (count-of shape) cap (now (t .entry)) (tuples-of shape) (now (g .exit)) ⌝ }
+{
+    let least = walk(shape, t, g);
+    if glue::is_alone(g, least.total) {
+        return least;
+    }
+    let at = first_tied(shape, hs, zs, os, t, least.total);
+    Least {
+        total: least.total,
+        at,
+    }
 }
 
 // The least total alone.

@@ -1,10 +1,11 @@
-// One row: the decoding and the marks of some words, against the greatest metrics of the listed codewords.
+// One row: the decoding and the marks of some words, against the greatest metrics of the listed codewords and the first best one.
 use crate::rows;
 use crate::rows::Row;
 use crate::words;
 use marker::Mark;
 
-// What is counted: the metrics, best words, soft outputs and marks that agree, and the words with each verdict, none, short and best.
+// What is counted: the metrics, first best words, soft outputs and marks that agree, the words with each verdict, none, short and best, and the
+// rows with several best words.
 pub const METRICS: usize = 0;
 
 pub const WORDS: usize = 1;
@@ -19,10 +20,12 @@ pub const SHORT: usize = 5;
 
 pub const BEST: usize = 6;
 
+pub const TIES: usize = 7;
+
 // More of one count. (No program counts so far that it wraps.)
-fn more(counts: [u64; 7], i: usize, n: u64) -> [u64; 7] {
+fn more(counts: [u64; 8], i: usize, n: u64) -> [u64; 8] {
     let mut t = counts;
-    let at = i % 7;
+    let at = i % 8;
     t[at] = std::num::wrapping_add_u64(t[at], n);
     t
 }
@@ -78,7 +81,7 @@ fn expected(code: u32, word: u32, own: u32, best: u32) -> Mark {
 }
 
 // The mark of a word.
-fn with_mark(t: [u64; 7], code: u32, r: Row, best: u32, word: u32) -> [u64; 7] {
+fn with_mark(t: [u64; 8], code: u32, r: Row, best: u32, word: u32) -> [u64; 8] {
     let row = r.row;
     let levels = r.levels;
     let e = expected(code, word, words::metric(&levels, word), best);
@@ -97,14 +100,14 @@ fn one_of(words: &[u32], x: u32) -> u32 {
 // The marks of eight words: the decoded one, the constant ones, the hard decisions, a codeword that was drawn and one near the decoded
 // word, and two with one bit turned.
 fn with_marks(
-    t: [u64; 7],
+    t: [u64; 8],
     code: u32,
     words: &[u32],
     r: Row,
     best: u32,
     decoded: u32,
     state: u32,
-) -> [u64; 7] {
+) -> [u64; 8] {
     let drawn = one_of(words, rows::next(state) / 65536 % 512);
     let a = with_mark(t, code, r, best, decoded);
     let b = with_mark(a, code, r, best, 0);
@@ -120,7 +123,7 @@ fn with_marks(
 struct Answer {
     number: u32,
     metric: i32,
-    word: u32,
+    word: [u8; 7],
     soft: [i16; 21],
 }
 
@@ -131,29 +134,32 @@ fn decoding(code: u32, row: &[i16; 21]) -> Answer {
     Answer {
         number: d.number,
         metric: d.metric,
-        word: words::packed(word),
+        word,
         soft,
     }
 }
 
 // The decoding of a row.
-fn with_decoding(t: [u64; 7], code: u32, r: Row, best: u32, a: Answer, words: &[u32]) -> [u64; 7] {
+fn with_decoding(t: [u64; 8], r: Row, best: words::Best, a: Answer, words: &[u32]) -> [u64; 8] {
     let levels = r.levels;
     let soft = a.soft;
-    let metric = a.number == 0 && a.metric == difference(best, RAISED);
-    let e = expected(code, a.word, words::metric(&levels, a.word), best);
+    let word = a.word;
+    let metric = a.number == 0 && a.metric == difference(best.metric, RAISED);
+    let first = words::same(word, words::symbols(best.first));
     let u = more(t, METRICS, words::one_if(metric));
-    let v = more(u, WORDS, words::one_if(e.verdict == 2));
-    more(v, SOFTS, softs_agree(&soft, &levels, words))
+    let v = more(u, WORDS, words::one_if(first));
+    let w = more(v, TIES, words::one_if(1 < best.count));
+    more(w, SOFTS, softs_agree(&soft, &levels, words))
 }
 
 // One row, decoded and marked.
-pub fn with_row(t: [u64; 7], code: u32, words: &[u32], k: u32, state: u32) -> [u64; 7] {
+pub fn with_row(t: [u64; 8], code: u32, words: &[u32], k: u32, state: u32) -> [u64; 8] {
     let r = rows::drawn(k, state);
     let levels = r.levels;
     let row = r.row;
-    let best = words::greatest(&levels, words, 0, 0);
+    let best = words::best_of(&levels, words);
     let a = decoding(code, &row);
-    let u = with_decoding(t, code, r, best, a, words);
-    with_marks(u, code, words, r, best, a.word, state)
+    let word = a.word;
+    let u = with_decoding(t, r, best, a, words);
+    with_marks(u, code, words, r, best.metric, words::packed(word), state)
 }

@@ -14,7 +14,7 @@ pub fn next(state: u32) -> u32 {
 }
 
 // The level of bit b in row k, where x was drawn for it. Rows 0 to 4 are all equal: zero, 10, -10, and the extremes 127 and -127; in row 5 one bit
-// goes against the others. Then extremes in turn and drawn, levels next to 0, which tie often, and from row 16 on all levels.
+// goes against the others. Then extremes in turn and drawn, and from row 11 on by turns levels next to 0, seven of eight at 0, and all levels.
 fn level(k: u32, b: u32, x: u32) -> u32 {
     match k {
         0 => 127,
@@ -26,8 +26,16 @@ fn level(k: u32, b: u32, x: u32) -> u32 {
         6 => b % 2 * 254,
         7 => 254 - b % 2 * 254,
         8..=10 => x % 2 * 254,
-        11..=13 => 126 + x % 3,
-        14..=15 => 125 + x % 5,
+        _ => drawn_level(k % 4, x),
+    }
+}
+
+// Levels next to 0 and sparse ones tie often.
+fn drawn_level(kind: u32, x: u32) -> u32 {
+    match kind {
+        0 => 126 + x % 3,
+        1 => 125 + x % 5,
+        2 => if x % 8 == 0 { x / 8 % 255 } else { 127 },
         _ => x % 255,
     }
 }

@@ -1,6 +1,6 @@
 // Words of seven symbols over the field of 8 elements, each as one number: its symbols are the digits to the base 8, lowest position
 // first, so that its bits are those of the word in bit order. The codewords are the words that vanish at the roots, and the greatest
-// metrics are found by trying them all. Nothing here is the library's: the field is worked out from α·x.
+// metrics and the first best word are found by trying them all. Nothing here is the library's: the field is worked out from α·x.
 ghost use Prim.Native.Nat.{_<_};
 
 // How many words there are.
@@ -32,6 +32,33 @@ pub fn packed(w: [u8; 7]) -> u32 {
         word = std::num::wrapping_add_u32(word / 8, 262144 * digit(w[i]));
     }
     word
+}
+
+// Whether two words have the same symbols.
+pub fn same(v: [u8; 7], w: [u8; 7]) -> bool {
+    v[0] == w[0]
+        && v[1] == w[1]
+        && v[2] == w[2]
+        && v[3] == w[3]
+        && v[4] == w[4]
+        && v[5] == w[5]
+        && v[6] == w[6]
+}
+
+// Where a word stands when symbols are compared as numbers from position 0: its digits the other way round.
+fn place(word: u32) -> u32 {
+    word % 8 * 262144
+        + word / 8 % 8 * 32768
+        + word / 64 % 8 * 4096
+        + word / 512 % 8 * 512
+        + word / 4096 % 8 * 64
+        + word / 32768 % 8 * 8
+        + word / 262144 % 8
+}
+
+// The first of two words.
+fn first(v: u32, w: u32) -> u32 {
+    if place(w) < place(v) { w } else { v }
 }
 
 // α^t·x, where α is a zero of X^3 + X + 1, whose bits are those of 11.
@@ -130,6 +157,48 @@ pub fn greatest(levels: &[u32; 21], words: &[u32], mask: u32, wanted: u32) -> u3
     let mut i: usize = 0;
     while i < words.len() {
         best = greater(best, metric_where(levels, words[i], mask, wanted));
+        i += 1;
+    }
+    best
+}
+
+// The best words: their metric, raised, the first of them, and how many there are.
+pub struct Best {
+    pub metric: u32,
+    pub first: u32,
+    pub count: u32,
+}
+
+// One word more, with its metric.
+fn with_word(b: Best, metric: u32, word: u32) -> Best {
+    if metric < b.metric {
+        return b;
+    }
+    if b.metric < metric {
+        return Best {
+            metric,
+            first: word,
+            count: 1,
+        };
+    }
+    Best {
+        metric,
+        first: first(b.first, word),
+        count: std::num::wrapping_add_u32(b.count, 1),
+    }
+}
+
+// The best of the words. (The greatest metric of codewords, raised, is above 0.)
+pub fn best_of(levels: &[u32; 21], words: &[u32]) -> Best {
+    let mut best = Best {
+        metric: 0,
+        first: 0,
+        count: 0,
+    };
+    let mut i: usize = 0;
+    while i < words.len() {
+        let word = words[i];
+        best = with_word(best, metric(levels, word), word);
         i += 1;
     }
     best

@@ -1,19 +1,42 @@
-// The decoder: metrics, best words and soft outputs on record, and the refusals in their order with the outputs kept.
+// The decoder: metrics, first best words and soft outputs on record, and the refusals in their order with the outputs kept.
 use test_tally::parts;
 use test_tally::tally::Tally;
 use test_tally::words;
 
-// In place of a symbol: any codeword.
-const ANY: u8 = 255;
-
 pub fn agree() -> Tally {
-    // All 10, the row of the sheet's questions; all -10; all 127; and all zero, where some codeword has the metric 0.
+    // All 10, the row of the sheet's questions; all -10; all 127; and all zero, where every codeword is best and the zero word is the first.
     let mut t = gives(Tally::none(), 10, 10, 210, 0, 60, false);
     t = gives(t, -10, -10, 210, 7, -60, false);
     t = gives(t, 127, 127, 2667, 0, 762, false);
-    t = gives(t, 0, 0, 0, ANY, 0, false);
+    t = gives(t, 0, 0, 0, 0, 0, false);
+    t = decodes(t, 2, 7, &[b'0'; 21], 0, 0);
+    t = decodes(t, 3, 15, &[b'0'; 60], 0, 0);
     // All 10 but bit 0 at -10: the zero word, and of the soft outputs those of layer 1, bits 0, 3, 6 and so on.
     t = gives(t, 10, -10, 190, 0, 20, true);
+    // Two best words. The other one would be the first if layers, low bits or last positions were compared first. Its configuration comes
+    // before that of the first word, and in a code's second row behind it.
+    t = ties(t, 1, 7, b"1a4594di1h18372683ff4", 90, 0x1031043, 0x2131003);
+    t = ties(t, 1, 7, b"22173977c7cc4ec4b1d65", 78, 0x1046641, 0x2042621);
+    t = ties(t, 2, 7, b"5a7b5di4bhddcg17d067h", 60, 0x1457306, 0x2114724);
+    t = ties(t, 2, 7, b"8ffee86572a7i1b2h4f4e", 61, 0x5702725, 0x6001761);
+    t = ties(
+        t,
+        3,
+        15,
+        b"ab8b7cb424b0i8363b9g8851ge1gb8f694bga4c74c9g932cef27hci6ag3h",
+        284,
+        0x96c1a0f5c5a837b,
+        0xa6c180b5c5a837b,
+    );
+    t = ties(
+        t,
+        3,
+        15,
+        b"2ai3797h46681hi354g07bb7cf3d766c883g03fg67hig66g42ea22178c68",
+        302,
+        0x580646b88cc9402,
+        0x680742b88cc9402,
+    );
     // -128 at the last bit, and 128 at the first.
     t = refuses(t, 1, 0, 0, -128, 21, 7, 21, 5);
     t = refuses(t, 1, 0, 128, 0, 21, 7, 21, 5);
@@ -42,16 +65,44 @@ fn gives(
     let mut softs = [9i16; 21];
     let d = decoder::decode(1, &row, &mut word, &mut softs);
     t.with(d.number == 0 && d.metric == metric)
-        .with(is_word(word, symbol))
+        .with(check::same(&word, &[symbol; 7]))
         .places(&softs, &[soft; 21], layered)
 }
 
-fn is_word(word: [u8; 7], symbol: u8) -> bool {
-    if symbol != ANY {
-        return check::same(&word, &[symbol; 7]);
-    }
-    let mut message = [9u8; 5];
-    code::read_word(1, &word, &mut message) == 0
+// Decoding a row, written as letters, answers a metric and leaves a word of n symbols.
+fn decodes(t: Tally, code: u32, n: usize, letters: &[u8], metric: i32, word: u64) -> Tally {
+    let row = words::reliabilities(letters);
+    let long = letters.len();
+    let mut left = [9u8; 16];
+    let mut soft = [9i16; 60];
+    let d = decoder::decode(
+        code,
+        parts::of_row(&row, long),
+        parts::of_mut(&mut left, n),
+        parts::of_row_mut(&mut soft, long),
+    );
+    t.with(d.number == 0 && d.metric == metric)
+        .with(check::same(&left, &words::symbols(n, word)))
+}
+
+// It leaves the first of two words, and the marker calls the other one best too.
+fn ties(
+    t: Tally,
+    code: u32,
+    n: usize,
+    letters: &[u8],
+    metric: i32,
+    first: u64,
+    other: u64,
+) -> Tally {
+    let row = words::reliabilities(letters);
+    let symbols = words::symbols(n, other);
+    let m = marker::judge_word(
+        code,
+        parts::of_row(&row, letters.len()),
+        parts::of(&symbols, n),
+    );
+    decodes(t, code, n, letters, metric, first).with(m.number == 0 && m.verdict == 2)
 }
 
 // Decoding the start of a row into so many nines and soft nines is refused by a number, with the metric 0, and both outputs keep their nines.
@@ -77,6 +128,6 @@ fn refuses(
     );
     t.with(d.number == number)
         .with(d.metric == 0)
-        .with(is_word(word, 9))
+        .with(check::same(&word, &[9; 7]))
         .with(Tally::none().row(soft, 9).is_whole())
 }

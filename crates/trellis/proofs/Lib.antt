@@ -4,4 +4,7 @@ pub mod Parts
 pub mod Neighbours
 pub mod Relaxing
 pub mod Tables
+pub mod Behind
 pub mod Traces
+pub mod Firsts
+pub mod Numbers

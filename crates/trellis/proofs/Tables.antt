@@ -1,33 +1,34 @@
 -- All the tables from the back: the one behind the last column, and one column more at each turn.
 -- Assumes nothing.
-use Rattle.basics.proofs.Kit.{_≡_, refl, sym, ap, _∙_, List, [], _∷_, ℕ, zero, suc, _+_, _-_, _*_, _^_, _≤_, _<_, arith, length, getD, take, drop}
+use Rattle.basics.proofs.Kit.{_≡_, refl, sym, ap, _∙_, List, ℕ, zero, suc, _+_, _-_, _*_, _^_, _≤_, _<_, arith, length, getD, take, drop}
 use native.Mathlib.Nat.{suc-mul, mul-le-mul-right, sub-le, sub-self}
 use native.Mathlib.Decide.{decLe}
 use Rattle.field.specs.Field.{xor}
 use Rattle.field.proofs.Xor as X
 use Rattle.trellis.specs.Trellis.{Columns, step, either, back, free, final}
 use Rattle.lanes.specs.Lanes.{entry, lane, row, put}
-use Rattle.trellis.specs.Rows.{column, front, rear, Two, Relax, Relaxed, at-table, layer, Layers, Make, Made, Ended}
+use Rattle.trellis.specs.Rows.{column, front, rear, Two, Relax, Relaxed, at-table, layer, Layers, Make, Made, Written}
 use borrow.Rule.Slice.PartMut.{putMid}
 use Rattle.trellis.proofs.Parts.{part-at, part-long, put-in, put-after, put-long}
-use Rattle.lanes.proofs.Rows.{four, row-at, length-put, put-other, put-at}
+use Rattle.lanes.proofs.Rows.{row-at, length-put, put-other, put-at}
 
 pub end-cost : (big s : ℕ) → (s ≡ 0 → ⊥) → big ≡ final big s
 end-cost big zero n = absurd (n refl)
 end-cost big (suc s) n = refl
 
-pub end-more : (size big : ℕ) (p : List ℕ) (s : ℕ) → Ended size big s p → s < size → (e : ℕ) → e ≡ final big s → (p' : List ℕ) → p' ≡ put p s (e ∷ e ∷ e ∷ e ∷ []) →
-    Ended size big (s + 1) p'
-end-more size big p s i l e ee p' ep = record {
-  long = ap length ep ∙ length-put p s (e ∷ e ∷ e ∷ e ∷ []) ∙ i .long;
+-- one row more of a table of f
+pub rows-more : (f : ℕ → ℕ → ℕ) (size : ℕ) (p : List ℕ) (s : ℕ) → Written f size s p → s < size → (r : List ℕ) → ((j : ℕ) → j < 4 → lane r j ≡ f s j) → (p' : List ℕ) →
+    p' ≡ put p s r → Written f size (s + 1) p'
+rows-more f size p s i l r er p' ep = record {
+  long = ap length ep ∙ length-put p s r ∙ i .long;
   rows = λ u j lu lj. ap (λ (x : List ℕ). entry x u j) ep ∙ go u j lj (decLe s u) lu;
 }
   where
-    go : (u j : ℕ) → j < 4 → Dec (s ≤ u) → u < s + 1 → entry (put p s (e ∷ e ∷ e ∷ e ∷ [])) u j ≡ final big u
+    go : (u j : ℕ) → j < 4 → Dec (s ≤ u) → u < s + 1 → entry (put p s r) u j ≡ f u j
     go u j lj (yes x) y =
         let q : u ≡ s = omega arith in
-        rw q (put-at p s (e ∷ e ∷ e ∷ e ∷ []) (omega (arith, i .long)) j lj ∙ four (λ j. lane (e ∷ e ∷ e ∷ e ∷ []) j ≡ e) refl refl refl refl j lj ∙ ee)
-    go u j lj (no x) y = put-other p s (e ∷ e ∷ e ∷ e ∷ []) (u * 4 + j) (λ a b. omega arith) ∙ i .rows u j (omega arith) lj
+        rw q (put-at p s r (omega (arith, i .long)) j lj ∙ er j lj)
+    go u j lj (no x) y = put-other p s r (u * 4 + j) (λ a b. omega arith) ∙ i .rows u j (omega arith) lj
 
 -- from the back, no table exceeds what stands behind it by more than the costs of its columns
 pub back-le : (col : Columns) (v : ℕ → ℕ) (big top : ℕ) → ((s : ℕ) → v s ≤ big) → (i k s : ℕ) → ((p : ℕ) → i ≤ p → p < i + k → col p .c0 ≤ top) → back free col v i k s ≤ big + k * top
@@ -105,7 +106,7 @@ module _ (q size top big : ℕ) (t₀ hs zs os : List ℕ) (w : Make q size top 
   abbrev Col : ℕ → Columns
   Col = layer hs zs os
 
-  pub tables-start : (p : List ℕ) → Ended size big size p → Made size big hs zs os (length hs) (putMid (length hs * (size * 4)) (length t₀ - length hs * (size * 4)) t₀ p)
+  pub tables-start : (p : List ℕ) → Written (λ s j. final big s) size size p → Made size big hs zs os (length hs) (putMid (length hs * (size * 4)) (length t₀ - length hs * (size * 4)) t₀ p)
   unfolding back
   tables-start p e =
       let at : ℕ = length hs * (size * 4) in

@@ -1,18 +1,16 @@
 -- The trace, symbol by symbol: each layer's bits are those of its own trace.
 -- Assumes nothing.
-use Rattle.basics.proofs.Kit.{_≡_, refl, sym, ap, ap₂, _∙_, List, [], _∷_, _++_, ℕ, zero, suc, _+_, _-_, _*_, _^_, _≤_, _<_, arith, length, getD, take, drop, set, leb}
+use Rattle.basics.proofs.Kit.{_≡_, refl, sym, ap, ap₂, _∙_, List, [], _∷_, _++_, ℕ, zero, suc, _+_, _-_, _*_, _^_, _≤_, _<_, arith, length, getD, take, drop, set}
 use mathlib.Core.List.{append-assoc, append-nil}
-use native.Mathlib.Nat.{suc-mul, mul-le-mul-right}
 use lib.ListN.{length-set}
 use lib.Seq.{take-suc-set, take-all}
 use Rattle.field.specs.Field.{xor}
 use Rattle.field.proofs.Xor as X
-use Rattle.trellis.specs.Trellis.{pick, back, free, final, bit, choice}
-use Rattle.lanes.specs.Lanes.{entry, lane, lanes, row}
-use Rattle.trellis.specs.Rows.{front, at-table, layer, Layers, chosen, symbol, traced, Bit, TraceRow, picked, Trace}
-use Rattle.trellis.proofs.Parts.{part-at, part-long}
-use Rattle.lanes.proofs.Rows.{lanes-at, row-at}
-use Rattle.trellis.proofs.Tables.{made-le, turned-in}
+use Rattle.trellis.specs.Trellis.{pick, back, free, final, bit, choice, trace}
+use Rattle.lanes.specs.Lanes.{lane, lanes, row}
+use Rattle.trellis.specs.Rows.{layer, Layers, symbol, merge, weave, first-words, Bit, TraceRow, picked, Trace}
+use Rattle.lanes.proofs.Rows.{lanes-at}
+use Rattle.trellis.proofs.Behind as B
 
 pub not-zero : (b : ℕ) → (b ≡ 0 → ⊥) → (s h : ℕ) → xor s h ≡ xor s (pick b 0 h)
 not-zero zero n s h = absurd (n refl)
@@ -23,12 +21,6 @@ symbol-same p q r s = omega arith
 
 pub four-same : {a b c d a' b' c' d' : ℕ} → a ≡ a' → b ≡ b' → c ≡ c' → d ≡ d' → _≡_ {A = List ℕ} (a ∷ b ∷ c ∷ d ∷ []) (a' ∷ b' ∷ c' ∷ d' ∷ [])
 four-same p q r s = cc
-
--- a choice looks at two entries
-choice-same : (h a b a' b' : ℕ) (v w : ℕ → ℕ) (s : ℕ) → a ≡ a' → b ≡ b' → v s ≡ w s → v (xor s h) ≡ w (xor s h) →
-    choice (record { h = h; c0 = a; c1 = b }) v s ≡ choice (record { h = h; c0 = a'; c1 = b' }) w s
-unfolding choice
-choice-same h a b a' b' v w s ea eb e f = ap₂ (λ (x y : ℕ). bit (leb x y)) (ap₂ (λ (x y : ℕ). x + y) e ea) (ap₂ (λ (x y : ℕ). x + y) f eb)
 
 -- what a bit asks is there for any column that leads to rows
 module _ (q size h : ℕ) (p s z o : List ℕ) (w : TraceRow q size h p s z o) where
@@ -49,6 +41,27 @@ pick-lt : (size h s b : ℕ) → s < size → xor s h < size → xor s 0 < size 
 pick-lt size h s zero l x y = y
 pick-lt size h s (suc b) l x y = x
 
+-- THE TRACE: at position i, with k positions behind it, each layer's bit from its syndrome in s
+unfoldable pub chosen : (big : ℕ) → (hs zs os : List ℕ) → (i k : ℕ) → (s : List ℕ) → (j : ℕ) → ℕ
+chosen big hs zs os i k s j = choice (layer hs zs os j i) (back free (layer hs zs os j) (final big) (suc i) k) (lane s j)
+
+unfoldable pub traced : (big : ℕ) → (hs zs os : List ℕ) → (i left : ℕ) → (s : List ℕ) → List ℕ
+traced big hs zs os i zero s = []
+traced big hs zs os i (suc k) s =
+    symbol (chosen big hs zs os i k s) ∷ traced big hs zs os (suc i) k (lanes (λ j. xor (lane s j) (pick (chosen big hs zs os i k s j) 0 (getD hs i 0))))
+
+-- the four layers' traces, woven
+traced-weave : (big : ℕ) (hs zs os : List ℕ) (i k : ℕ) (s : List ℕ) →
+    traced big hs zs os i k s ≡ weave (λ j. trace (layer hs zs os j) (final big) i k (lane s j))
+unfolding traced trace chosen weave merge
+traced-weave big hs zs os i zero s = refl
+traced-weave big hs zs os i (suc k) s =
+    ap₂ (λ (x : ℕ) (xs : List ℕ). x ∷ xs) (nested (chosen big hs zs os i k s 0) (chosen big hs zs os i k s 1) (chosen big hs zs os i k s 2) (chosen big hs zs os i k s 3))
+    (traced-weave big hs zs os (suc i) k (lanes (λ j. xor (lane s j) (pick (chosen big hs zs os i k s j) 0 (getD hs i 0)))))
+  where
+    nested : (a b c d : ℕ) → a + 2 * b + 4 * c + 8 * d ≡ a + 2 * (b + 2 * (c + 2 * d))
+    nested a b c d = omega arith
+
 -- what the first i turns leave
 pub record Tracing (size big : ℕ) (hs zs os from : List ℕ) (i : ℕ) (word s : List ℕ) : Type 0 where
   pub long : length word ≡ length hs
@@ -59,12 +72,12 @@ module _ (q size top big : ℕ) (t hs zs os from word₀ : List ℕ) (w : Trace 
   pub trace-start : Tracing size big hs zs os from 0 word₀ from
   trace-start = let e : length hs - 0 ≡ length hs = omega arith in record { long = w .length-word; left = w .from; so-far = ap (λ (n : ℕ). traced big hs zs os 0 n from) e }
 
-  pub trace-end : (word s : List ℕ) → Tracing size big hs zs os from (length hs) word s → word ≡ traced big hs zs os 0 (length hs) from
+  pub trace-end : (word s : List ℕ) → Tracing size big hs zs os from (length hs) word s → word ≡ first-words big hs zs os from
   unfolding traced
   trace-end word s m =
       let e : length hs - length hs ≡ 0 = omega arith in
       let f : take (length hs) word ≡ word = take-all (length hs) word (omega (arith, m .long)) in
-      sym (append-nil word) ∙ sym (ap₂ (λ (a : List ℕ) (n : ℕ). a ++ traced big hs zs os (length hs) n s) f e) ∙ m .so-far
+      sym (append-nil word) ∙ sym (ap₂ (λ (a : List ℕ) (n : ℕ). a ++ traced big hs zs os (length hs) n s) f e) ∙ m .so-far ∙ traced-weave big hs zs os 0 (length hs) from
 
   module _ (i : ℕ) (word s : List ℕ) (m : Tracing size big hs zs os from i word s) (l : suc i ≤ length hs) where
     abbrev y : Layers q size top hs zs os
@@ -80,38 +93,23 @@ module _ (q size top big : ℕ) (t hs zs os from word₀ : List ℕ) (w : Trace 
     p = take (size * 4) (drop at t)
 
     pub trace-inside : at + size * 4 ≤ length t
-    trace-inside = omega (arith, mul-le-mul-right (size * 4) l, suc-mul i (size * 4), w .made .long)
+    trace-inside = B.inside q size top big t hs zs os y (w .made) (w .room) i l
 
     over : (u : ℕ) → u < size → xor u h < size
-    over u lu = turned-in q size top big hs zs os y u h lu (y .inside i l)
-
-    front-is : (u j : ℕ) → u < size → j < 4 → front p j u ≡ at-table t (size * 4) (suc i) j u
-    front-is u j lu lj = part-at t at (size * 4) (u * 4 + j) (omega arith) ∙ ap (λ (x : ℕ). getD t x 0) (omega (arith, suc-mul i (size * 4)))
-
-    le : (u j : ℕ) → u < size → j < 4 → front p j u ≤ big + length hs * top
-    le u j lu lj = omega (arith, front-is u j lu lj, made-le q size top big hs zs os y t 0 (w .made) (suc i) u j (omega arith) l lu lj)
+    over = B.over q size top big t hs zs os y (w .made) (w .room) i l
 
     pub trace-ok : TraceRow q size h p s (row zs i) (row os i)
     trace-ok = record {
       size-is = y .size-is;
       inside = y .inside i l;
-      length-is = part-long t at (size * 4) trace-inside;
+      length-is = B.long q size top big t hs zs os y (w .made) (w .room) i l;
       length-s = m .left;
-      room = λ u j lu lj. (
-        omega (arith, le u j lu lj, row-at zs i j lj, y .cost-zs i j l lj, w .room),
-        omega (arith, le u j lu lj, row-at os i j lj, y .cost-os i j l lj, w .room),
-      );
+      room = B.rooms q size top big t hs zs os y (w .made) (w .room) i l;
     }
 
-    -- the bits that the program finds are those of the definition
     same : (j : ℕ) → j < 4 → picked h p s (row zs i) (row os i) j ≡ chosen big hs zs os i (length hs - suc i) s j
     unfolding chosen
-    same j lj =
-        let u : ℕ = lane s j in
-        let lu : u < size = m .left j lj in
-        choice-same h (lane (row zs i) j) (lane (row os i) j) (entry zs i j) (entry os i j) (front p j) (back free (layer hs zs os j) (final big) (suc i) (length hs - suc i)) u
-        (row-at zs i j lj) (row-at os i j lj) (front-is u j lu lj ∙ w .made .made (suc i) u j (omega arith) l lu lj)
-        (front-is (xor u h) j (over u lu) lj ∙ w .made .made (suc i) (xor u h) j (omega arith) l (over u lu) lj)
+    same j lj = B.same q size top big t hs zs os y (w .made) (w .room) i l j (lane s j) lj (m .left j lj)
 
     next : (j : ℕ) (lj : j < 4) → xor (lane s j) (pick (picked h p s (row zs i) (row os i) j) 0 h) ≡ xor (lane s j) (pick (chosen big hs zs os i (length hs - suc i) s j) 0 h)
     next j lj = ap (λ (b : ℕ). xor (lane s j) (pick b 0 h)) (same j lj)

@@ -3,8 +3,10 @@
 use mathlib.Core.Path.{_≡_}
 use mathlib.Core.Bool.{Bool, true, false, cond}
 use mathlib.Core.List.{List, [], _∷_}
-use Prim.Native.Nat.{ℕ, zero, suc, _+_, _<_, min}
+use Prim.Native.Nat.{ℕ, zero, suc, _+_, _≤_, _<_, min}
 use lib.Dec.{leb, eqb}
+use lib.ListN.{length}
+use Rattle.order.specs.Order.{not-after}
 use Rattle.field.specs.Field.{xor}
 
 -- a bit that is to be chosen: the syndrome that a 1 adds, the cost of a 0, the cost of a 1
@@ -81,6 +83,25 @@ trace col v i zero s = []
 trace col v i (suc k) s =
     let b = choice (col i) (back free col v (suc i) k) s in
     b ∷ trace col v (suc i) k (xor s (pick b 0 (col i .h)))
+
+-- bits for n columns that add up to s
+pub record Adds (col : Columns) (n s : ℕ) (bits : List ℕ) : Type 0 where
+  pub count : length bits ≡ n
+  pub held : Held free 0 bits
+  pub sum : syn col 0 bits ≡ s
+
+-- THE FIRST OF THE CHEAPEST: none of them costs less, and of those that cost as little none comes before
+pub record First (col : Columns) (n s : ℕ) (bits : List ℕ) : Type 0 where
+  pub adds : Adds col n s bits
+  pub least : (bs : List ℕ) → Adds col n s bs → cost col 0 bits ≤ cost col 0 bs
+  pub first : (bs : List ℕ) → Adds col n s bs → cost col 0 bs ≡ cost col 0 bits → not-after bits bs ≡ true
+
+-- what the trace finds; where there are such bits and they cost less than big, it is the first of the cheapest
+abbrev pub first-word : Columns → (big n s : ℕ) → List ℕ
+first-word col big n s = trace col (final big) 0 n s
+
+abbrev pub Names-first : Columns → (big n s : ℕ) → Type 0
+Names-first col big n s = back free col (final big) 0 n s < big → First col n s (first-word col big n s)
 
 -- the least of f 0, .., f (n - 1) and cap
 unfoldable pub leastOf : (ℕ → ℕ) → (cap n : ℕ) → ℕ

@@ -79,8 +79,8 @@ pub extern "C" fn tugzeck_split(code: u32, word: &[u8], bch: &mut [u8]) -> Split
     split::split(code, word, bch)
 }
 
-// Decodes a row of n·m reliabilities: 0 with the best metric, a best word in n places and the soft outputs in n·m. Or it refuses by 1, 2, 4
-// or 5 with the metric 0 and writes nothing.
+// Decodes a row of n·m reliabilities: 0 with the best metric, the first best word in n places and the soft outputs in n·m. Or it refuses by 1,
+// 2, 4 or 5 with the metric 0 and writes nothing.
 #[no_mangle]
 pub extern "C" fn tugzeck_decode(
     code: u32,

@@ -2,8 +2,8 @@
 -- Assumes nothing.
 use Rattle.basics.proofs.Kit.{sym, _*_, _≤_, arith, needs}
 use lib.Seq.{length-take-le}
-use Rattle.search.proofs.Tabling.{short, size-small}
-use Rattle.decoder.proofs.Refusals.{caps}
+use Rattle.search.proofs.Tabling.{short, size-small, filled}
+use Rattle.search.specs.Within.{cap}
 use Rattle.decoder.proofs.decode_in.Statement.{statement}
 use Rattle.decoder.proofs.decode_in.Tie as tie
 
@@ -35,7 +35,7 @@ decode-with-requires c κs = let d = cut (c .before .before .before .before .bef
     (
       record { length-zs = length-take-le _ _ (places s); length-os = length-take-le _ _ (places s); length-t = p .1 },
       (
-        record { length-g = length-take-le _ _ (states s); caps = λ i h. caps _ i (states s) h },
+        record { length-g = length-take-le _ _ (states s); caps = λ i h. filled cap _ i (states s) h },
         record { length-zero = length-take-le _ _ (halves s); length-one = length-take-le _ _ (halves s); length-word = p .0 .long-word; length-soft = p .0 .long-soft },
       ),
     ),

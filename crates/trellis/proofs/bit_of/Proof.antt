@@ -7,10 +7,6 @@ use Rattle.basics.proofs.Kit.{_-_, arith, needs}
 use Rattle.trellis.proofs.bit_of.Statement.{statement}
 use Rattle.trellis.proofs.bit_of.Tie as tie
 
-cast-b : tie.Need-cast-b
-unfolding xor
-cast-b c = let s = c in record { fits = omega (arith, s .pre .there, s .good .0) }
-
 mul-b : tie.Need-mul-b
 unfolding xor
 mul-b c = let s = c in record { fits = omega (arith, s .pre .there, s .good .0) }
@@ -45,7 +41,6 @@ bit-of-spec =
     (tie.spec
     (λ c. search needs)
     (λ c. search needs)
-    cast-b
     mul-b
     add-b
     (λ c. search needs)

@@ -27,11 +27,8 @@ bit-of-requires-4 c κs = let s = c .before .before .before .before in
     let a = s .args in
     bit-asks (a .q) (a .size) (a .h) (a .p .now) (a .t4) (a .t6) (a .t7) (s .pre) 3 (omega arith) _ (omega (arith, s .pre .inside))
 
-mul-t56 : tie.Need-mul-t56
-mul-t56 c = record { fits = omega (arith, c .before .before .before .before .before .before .before .bit-of .ensures .1, c .before .before .before .before .before .before .bit-of2 .ensures .1, c .before .before .before .before .before .bit-of3 .ensures .1, c .before .before .before .before .bit-of4 .ensures .1) }
-
-add-t57 : tie.Need-add-t57
-add-t57 c = record { fits = omega (arith, c .before .before .before .before .before .before .before .bit-of .ensures .1, c .before .before .before .before .before .before .bit-of2 .ensures .1, c .before .before .before .before .before .bit-of3 .ensures .1, c .before .before .before .before .bit-of4 .ensures .1) }
+cast-3 : tie.Need-cast-bit-of-4
+cast-3 c = let s = c .before .before .before .before in record { fits = omega (arith, s .pre .length-s 3 (omega arith), s .pre .length-is, s .good .0) }
 
 mul-t58 : tie.Need-mul-t58
 mul-t58 c = record { fits = omega (arith, c .before .before .before .before .before .before .before .bit-of .ensures .1, c .before .before .before .before .before .before .bit-of2 .ensures .1, c .before .before .before .before .before .bit-of3 .ensures .1, c .before .before .before .before .bit-of4 .ensures .1) }
@@ -45,6 +42,12 @@ mul-t60 c = record { fits = omega (arith, c .before .before .before .before .bef
 add-t61 : tie.Need-add-t61
 add-t61 c = record { fits = omega (arith, c .before .before .before .before .before .before .before .bit-of .ensures .1, c .before .before .before .before .before .before .bit-of2 .ensures .1, c .before .before .before .before .before .bit-of3 .ensures .1, c .before .before .before .before .bit-of4 .ensures .1) }
 
+mul-t62 : tie.Need-mul-t62
+mul-t62 c = record { fits = omega (arith, c .before .before .before .before .before .before .before .bit-of .ensures .1, c .before .before .before .before .before .before .bit-of2 .ensures .1, c .before .before .before .before .before .bit-of3 .ensures .1, c .before .before .before .before .bit-of4 .ensures .1) }
+
+add-t63 : tie.Need-add-t63
+add-t63 c = record { fits = omega (arith, c .before .before .before .before .before .before .before .bit-of .ensures .1, c .before .before .before .before .before .before .bit-of2 .ensures .1, c .before .before .before .before .before .bit-of3 .ensures .1, c .before .before .before .before .bit-of4 .ensures .1) }
+
 returns : tie.Need-returns
 returns c = (symbol-same (c .before .before .before .before .before .before .before .bit-of .ensures .0) (c .before .before .before .before .before .before .bit-of2 .ensures .0) (c .before .before .before .before .before .bit-of3 .ensures .0) (c .before .before .before .before .bit-of4 .ensures .0), four-same (c .before .before .before .after .ensures ∙ ap (λ (b : ℕ). xor (getD (c .before .before .before .before .before .before .before .before .before .args .t4) 0 0) (pick b 0 (c .before .before .before .before .before .before .before .before .before .args .h))) (c .before .before .before .before .before .before .before .bit-of .ensures .0)) (c .before .before .after2 .ensures ∙ ap (λ (b : ℕ). xor (getD (c .before .before .before .before .before .before .before .before .before .args .t4) 1 0) (pick b 0 (c .before .before .before .before .before .before .before .before .before .args .h))) (c .before .before .before .before .before .before .bit-of2 .ensures .0)) (c .before .after3 .ensures ∙ ap (λ (b : ℕ). xor (getD (c .before .before .before .before .before .before .before .before .before .args .t4) 2 0) (pick b 0 (c .before .before .before .before .before .before .before .before .before .args .h))) (c .before .before .before .before .before .bit-of3 .ensures .0)) (c .after4 .ensures ∙ ap (λ (b : ℕ). xor (getD (c .before .before .before .before .before .before .before .before .before .args .t4) 3 0) (pick b 0 (c .before .before .before .before .before .before .before .before .before .args .h))) (c .before .before .before .before .bit-of4 .ensures .0)))
 
@@ -55,7 +58,9 @@ trace-row-spec =
     (λ c. search needs)
     (λ c. search needs)
     (λ c. search needs)
+    (λ c. search needs)
     bit-of-requires
+    (λ c. search needs)
     (λ c. search needs)
     (λ c. search needs)
     (λ c. search needs)
@@ -63,8 +68,10 @@ trace-row-spec =
     (λ c. search needs)
     (λ c. search needs)
     (λ c. search needs)
+    (λ c. search needs)
     bit-of-requires-3
     (λ c. search needs)
+    cast-3
     (λ c. search needs)
     (λ c. search needs)
     bit-of-requires-4
@@ -76,10 +83,10 @@ trace-row-spec =
     (λ c κs. tt)
     (λ c. search needs)
     (λ c κs. tt)
-    mul-t56
-    add-t57
     mul-t58
     add-t59
     mul-t60
     add-t61
+    mul-t62
+    add-t63
     returns)

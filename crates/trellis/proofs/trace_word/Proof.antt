@@ -1,7 +1,10 @@
 -- `trellis::trace_word` meets its contract.
 -- Assumes nothing.
+use Rattle.basics.proofs.Kit.{_≡_, ℕ, _+_, _-_, _*_, _≤_, arith, length}
+use mir.Syntax.{w64}
+use mir.Val.{Fits}
 use Rattle.trellis.proofs.Traces.{Tracing, trace-start, trace-inside, trace-ok, trace-more, trace-end}
-use Rattle.basics.proofs.Kit.{_≡_, suc, _+_, _-_, _*_, _≤_, arith, length}
+use Rattle.trellis.proofs.Firsts.{firsts}
 use Rattle.trellis.proofs.trace_word.Statement.{statement}
 use Rattle.trellis.proofs.trace_word.Tie as tie
 
@@ -11,142 +14,33 @@ Inv-loop t q size hs zs os top big word₀ step s₀ i₀ word s i = (i ≤ leng
 abbrev μ-loop : tie.MeasureT-loop
 μ-loop t q size hs zs os top big word₀ step s₀ i₀ word s i = length hs - i
 
-mul-step : tie.Need-mul-step Inv-loop μ-loop
-mul-step c = let st = c .before .before .before .before .before in
-    let a = st .args in
-    let w = st .pre in
-    record { fits = omega (arith, w .made .long, st .good .0) }
+abbrev start : tie.In-loop Inv-loop μ-loop → tie.Start Inv-loop μ-loop
+start c = c .before .before .before .before .before .before .before
 
-loop-holds : tie.Need-loop-holds Inv-loop μ-loop
-loop-holds c = let st = c .before .before .before .before .before in
-    let a = st .args in
-    let w = st .pre in
-    (omega arith, trace-start (a .q) (a .size) (a .top) (a .big) (a .t .now) (a .hs .now) (a .zs .now) (a .os .now) (a .from) (a .word .now) w)
+-- what a turn has: its part of the tables, and the length of that part
+inside : (c : tie.In-loop Inv-loop μ-loop) → let a = start c .args in c .before .loop .i * (a .size * 4) + a .size * 4 + a .size * 4 ≤ length (a .t .now)
+inside c = let st = start c in let a = st .args in let t = c .before .loop in trace-inside (a .q) (a .size) (a .top) (a .big) (a .t .now) (a .hs .now) (a .zs .now) (a .os .now) (a .from) (a .word .now) (st .pre) (t .i) (t .word) (t .s) (t .inv .1) (c .loop-test .taken)
 
-mul-at : tie.Need-mul-at Inv-loop μ-loop
-mul-at c = let st = c .before .before .before .before .before .before .before in
-    let a = st .args in
-    let w = st .pre in
-    let t = c .before .loop in
-    let l : suc (t .i) ≤ length (a .hs .now) = c .loop-test .taken in
-    record { fits = omega (arith, trace-inside (a .q) (a .size) (a .top) (a .big) (a .t .now) (a .hs .now) (a .zs .now) (a .os .now) (a .from) (a .word .now) w (t .i) (t .word) (t .s) (t .inv .1) l, st .good .0) }
+part : (c : tie.In-loop Inv-loop μ-loop) → let a = start c .args in let k = c .before .loop .i * (a .size * 4) + a .size * 4 in k + a .size * 4 - k ≡ a .size * 4
+part c = omega arith
 
-add-at : tie.Need-add-at Inv-loop μ-loop
-add-at c = let st = c .before .before .before .before .before .before .before in
-    let a = st .args in
-    let w = st .pre in
-    let t = c .before .loop in
-    let l : suc (t .i) ≤ length (a .hs .now) = c .loop-test .taken in
-    record { fits = omega (arith, trace-inside (a .q) (a .size) (a .top) (a .big) (a .t .now) (a .hs .now) (a .zs .now) (a .os .now) (a .from) (a .word .now) w (t .i) (t .word) (t .s) (t .inv .1) l, st .good .0) }
-
-add-end : tie.Need-add-end Inv-loop μ-loop
-add-end c = let st = c .before .before .before .before .before .before .before in
-    let a = st .args in
-    let w = st .pre in
-    let t = c .before .loop in
-    let l : suc (t .i) ≤ length (a .hs .now) = c .loop-test .taken in
-    record { fits = omega (arith, trace-inside (a .q) (a .size) (a .top) (a .big) (a .t .now) (a .hs .now) (a .zs .now) (a .os .now) (a .from) (a .word .now) w (t .i) (t .word) (t .s) (t .inv .1) l, st .good .0) }
-
-load-requires : tie.Need-load-requires Inv-loop μ-loop
-load-requires c κs = let st = c .before .before .before .before .before .before .before in
-    let a = st .args in
-    let w = st .pre in
-    let t = c .before .loop in
-    let l : suc (t .i) ≤ length (a .hs .now) = c .loop-test .taken in
-    omega (arith, w .layers .length-zs)
-
-load-requires-2 : tie.Need-load-requires-2 Inv-loop μ-loop
-load-requires-2 c κs = let st = c .before .before .before .before .before .before .before .before in
-    let a = st .args in
-    let w = st .pre in
-    let t = c .before .before .loop in
-    let l : suc (t .i) ≤ length (a .hs .now) = c .before .loop-test .taken in
-    omega (arith, w .layers .length-os)
-
-mul-trace-row : tie.Need-mul-trace-row Inv-loop μ-loop
-mul-trace-row c = let st = c .before .before .before .before .before .before .before .before .before in
-    let a = st .args in
-    let w = st .pre in
-    let t = c .before .before .before .loop in
-    let l : suc (t .i) ≤ length (a .hs .now) = c .before .before .loop-test .taken in
-    record { fits = omega (arith, trace-inside (a .q) (a .size) (a .top) (a .big) (a .t .now) (a .hs .now) (a .zs .now) (a .os .now) (a .from) (a .word .now) w (t .i) (t .word) (t .s) (t .inv .1) l, st .good .0) }
-
-sub-trace-row : tie.Need-sub-trace-row Inv-loop μ-loop
-sub-trace-row c = let st = c .before .before .before .before .before .before .before .before .before in
-    let a = st .args in
-    let w = st .pre in
-    let t = c .before .before .before .loop in
-    let l : suc (t .i) ≤ length (a .hs .now) = c .before .before .loop-test .taken in
-    omega (arith, trace-inside (a .q) (a .size) (a .top) (a .big) (a .t .now) (a .hs .now) (a .zs .now) (a .os .now) (a .from) (a .word .now) w (t .i) (t .word) (t .s) (t .inv .1) l)
-
-part-trace-row-start : tie.Need-part-trace-row-start Inv-loop μ-loop
-part-trace-row-start c = let st = c .before .before .before .before .before .before .before .before .before in
-    let a = st .args in
-    let w = st .pre in
-    let t = c .before .before .before .loop in
-    let l : suc (t .i) ≤ length (a .hs .now) = c .before .before .loop-test .taken in
-    omega (arith, trace-inside (a .q) (a .size) (a .top) (a .big) (a .t .now) (a .hs .now) (a .zs .now) (a .os .now) (a .from) (a .word .now) w (t .i) (t .word) (t .s) (t .inv .1) l)
-
-part-trace-row-end : tie.Need-part-trace-row-end Inv-loop μ-loop
-part-trace-row-end c = let st = c .before .before .before .before .before .before .before .before .before in
-    let a = st .args in
-    let w = st .pre in
-    let t = c .before .before .before .loop in
-    let l : suc (t .i) ≤ length (a .hs .now) = c .before .before .loop-test .taken in
-    omega (arith, trace-inside (a .q) (a .size) (a .top) (a .big) (a .t .now) (a .hs .now) (a .zs .now) (a .os .now) (a .from) (a .word .now) w (t .i) (t .word) (t .s) (t .inv .1) l)
-
-mul-trace-row-2 : tie.Need-mul-trace-row-2 Inv-loop μ-loop
-mul-trace-row-2 c = let st = c .before .before .before .before .before .before .before .before .before .before in
-    let a = st .args in
-    let w = st .pre in
-    let t = c .before .before .before .before .loop in
-    let l : suc (t .i) ≤ length (a .hs .now) = c .before .before .before .loop-test .taken in
-    record { fits = omega (arith, st .good .1 .1 .1 .0) }
+fits : (c : tie.In-loop Inv-loop μ-loop) → {x : ℕ} → x ≤ c .before .loop .i * (start c .args .size * 4) + start c .args .size * 4 + start c .args .size * 4 → Fits w64 x
+fits c h = record { fits = omega (arith, inside c, start c .good .0) }
 
 trace-row-requires : tie.Need-trace-row-requires Inv-loop μ-loop
-trace-row-requires c κs = let st = c .before .before .before .before .before .before .before .before .before .before .before in
-    let a = st .args in
-    let w = st .pre in
-    let t = c .before .before .before .before .before .loop in
-    let l : suc (t .i) ≤ length (a .hs .now) = c .before .before .before .before .loop-test .taken in
-    let k : t .i * (a .size * 4) + a .size * 4 + a .size * 4 - (t .i * (a .size * 4) + a .size * 4) ≡ a .size * 4 = omega arith in
-    rw (k, c .before .before .before .load .ensures, c .before .before .load2 .ensures) (trace-ok (a .q) (a .size) (a .top) (a .big) (a .t .now) (a .hs .now) (a .zs .now) (a .os .now) (a .from) (a .word .now) w (t .i) (t .word) (t .s) (t .inv .1) l)
-
-slice-write-word : tie.Need-slice-write-word Inv-loop μ-loop
-slice-write-word c = let st = c .before .before .before .before .before .before .before .before .before .before .before .before .before in
-    let a = st .args in
-    let w = st .pre in
-    let t = c .before .before .before .before .before .before .before .loop in
-    let l : suc (t .i) ≤ length (a .hs .now) = c .before .before .before .before .before .before .loop-test .taken in
-    omega (arith, t .inv .1 .long)
-
-add-i : tie.Need-add-i Inv-loop μ-loop
-add-i c = let st = c .before .before .before .before .before .before .before .before .before .before .before .before .before in
-    let a = st .args in
-    let w = st .pre in
-    let t = c .before .before .before .before .before .before .before .loop in
-    let l : suc (t .i) ≤ length (a .hs .now) = c .before .before .before .before .before .before .loop-test .taken in
-    record { fits = omega (arith, st .good .1 .1 .1 .0) }
+trace-row-requires x κs = let c = x .before .before .before .before in let st = start c in let a = st .args in let t = c .before .loop in
+    rw (part c, x .before .before .before .load .ensures, x .before .before .load2 .ensures) (trace-ok (a .q) (a .size) (a .top) (a .big) (a .t .now) (a .hs .now) (a .zs .now) (a .os .now) (a .from) (a .word .now) (st .pre) (t .i) (t .word) (t .s) (t .inv .1) (c .loop-test .taken))
 
 loop-again : tie.Need-loop-again Inv-loop μ-loop
-loop-again c = let st = c .before .before .before .before .before .before .before .before .before .before .before .before .before in
-    let a = st .args in
-    let w = st .pre in
-    let t = c .before .before .before .before .before .before .before .loop in
-    let l : suc (t .i) ≤ length (a .hs .now) = c .before .before .before .before .before .before .loop-test .taken in
-    let k : t .i * (a .size * 4) + a .size * 4 + a .size * 4 - (t .i * (a .size * 4) + a .size * 4) ≡ a .size * 4 = omega arith in
-    let e = rw (k, c .before .before .before .before .before .load .ensures, c .before .before .before .before .load2 .ensures) at (c .before .trace-row .ensures) in
-    (omega arith, trace-more (a .q) (a .size) (a .top) (a .big) (a .t .now) (a .hs .now) (a .zs .now) (a .os .now) (a .from) (a .word .now) w (t .i) (t .word) (t .s) (t .inv .1) l (c .before .trace-row .result .symbol) (c .before .trace-row .result .left) (e .0) (e .1))
-
-same-length : tie.Need-same-length Inv-loop μ-loop
-same-length c = let st = c .before .before .before .before .before .before .before in omega (arith, c .before .loop .inv .1 .long, st .pre .length-word)
+loop-again x = let c = x .before .before .before .before .before .before in let st = start c in let a = st .args in let t = c .before .loop in
+    let e = rw (part c, x .before .before .before .before .before .load .ensures, x .before .before .before .before .load2 .ensures) at (x .before .trace-row .ensures) in
+    (omega arith, trace-more (a .q) (a .size) (a .top) (a .big) (a .t .now) (a .hs .now) (a .zs .now) (a .os .now) (a .from) (a .word .now) (st .pre) (t .i) (t .word) (t .s) (t .inv .1) (c .loop-test .taken) (x .before .trace-row .result .symbol) (x .before .trace-row .result .left) (e .0) (e .1))
 
 returns : tie.Need-returns Inv-loop μ-loop
 returns c = let st = c .before .before .before .before .before .before .before in
     let a = st .args in
-    let w = st .pre in
     let e : c .before .loop .i ≡ length (a .hs .now) = omega arith in
-    trace-end (a .q) (a .size) (a .top) (a .big) (a .t .now) (a .hs .now) (a .zs .now) (a .os .now) (a .from) (a .word .now) w (c .before .loop .word) (c .before .loop .s) (rw e at (c .before .loop .inv .1))
+    (trace-end (a .q) (a .size) (a .top) (a .big) (a .t .now) (a .hs .now) (a .zs .now) (a .os .now) (a .from) (a .word .now) (st .pre) (c .before .loop .word) (c .before .loop .s) (rw e at (c .before .loop .inv .1)), firsts (a .big) (a .hs .now) (a .zs .now) (a .os .now))
 
 pub trace-word-spec : {M : Type 1} → statement M
 trace-word-spec =
@@ -154,23 +48,23 @@ trace-word-spec =
     (tie.spec
     Inv-loop
     μ-loop
-    mul-step
-    loop-holds
-    mul-at
-    add-at
-    add-end
-    load-requires
-    load-requires-2
-    mul-trace-row
-    sub-trace-row
-    part-trace-row-start
-    part-trace-row-end
-    mul-trace-row-2
+    (λ c. let st = c .before .before .before .before .before in record { fits = omega (arith, st .pre .made .long, st .good .0) })
+    (λ c. let st = c .before .before .before .before .before in let a = st .args in (omega arith, trace-start (a .q) (a .size) (a .top) (a .big) (a .t .now) (a .hs .now) (a .zs .now) (a .os .now) (a .from) (a .word .now) (st .pre)))
+    (λ c. fits c (omega arith))
+    (λ c. fits c (omega arith))
+    (λ c. fits c (omega arith))
+    (λ c κs. omega (arith, start c .pre .layers .length-zs, c .loop-test .taken))
+    (λ x κs. let c = x .before in omega (arith, start c .pre .layers .length-os, c .loop-test .taken))
+    (λ x. let c = x .before .before in record { fits = omega (arith, inside c, start c .good .0) })
+    (λ x. omega arith)
+    (λ x. omega (arith, inside (x .before .before)))
+    (λ x. omega (arith, inside (x .before .before)))
+    (λ x. let c = x .before .before .before in record { fits = omega (arith, c .loop-test .taken, start c .good .1 .1 .1 .0) })
     (λ c. omega arith)
     trace-row-requires
-    slice-write-word
-    add-i
+    (λ x. let c = x .before .before .before .before .before .before in omega (arith, c .before .loop .inv .1 .long, c .loop-test .taken))
+    (λ x. let c = x .before .before .before .before .before .before in record { fits = omega (arith, c .loop-test .taken, start c .good .1 .1 .1 .0) })
     (λ c. omega arith)
     loop-again
-    same-length
+    (λ c. omega (arith, c .before .loop .inv .1 .long, c .before .before .before .before .before .before .before .pre .length-word))
     returns)

@@ -1,0 +1,3 @@
+pub mod Order
+pub mod Number
+pub mod Promise
