@@ -1,11 +1,11 @@
 //! Compares this library with plain Rust of the same algorithm and with a Wolf trellis of the whole code.
 //!
-//!     bench check CODE ROWS           all three agree on that many rows
-//!     bench call WHICH CALL CODE N    N calls on rows of one pool, for a count of instructions
-//!     bench time WHICH CALL CODE N    nanoseconds a call, the least of five runs of N calls
+//!     bench check CODE COUNT               all three agree on that many rows
+//!     bench call WHICH CALL CODE N [ROWS]  N calls on rows of one pool, for a count of instructions
+//!     bench time WHICH CALL CODE N [ROWS]  nanoseconds a call, the least of five runs of N calls
 //!
 //! WHICH is library, plain or wolf; CALL is decode or mark, for library and plain also quantise or receive, for the library alone list: a
-//! listing of the whole pool.
+//! listing of the whole pool. ROWS is random, as where none is named, or zero, sparse or small (of -1, 0 and 1).
 
 mod codes;
 mod front;
@@ -103,7 +103,7 @@ fn symbols(rows: &mut Rows, bits: usize, samples: &[f32]) -> (Vec<u8>, Vec<f32>)
 }
 
 fn usage() -> ! {
-    eprintln!("bench check CODE ROWS | call WHICH CALL CODE N | time WHICH CALL CODE N");
+    eprintln!("bench check CODE COUNT | call WHICH CALL CODE N [ROWS] | time WHICH CALL CODE N [ROWS]");
     std::process::exit(2)
 }
 
@@ -125,13 +125,28 @@ impl Rows {
         self.state >> 11
     }
 
+    fn entry(&mut self, size: u64) -> i16 {
+        (self.draw() % (2 * size + 1)) as i16 - size as i16
+    }
+
     fn within(&mut self, size: u64) -> Vec<i16> {
-        (0..self.bits).map(|_| (self.draw() % (2 * size + 1)) as i16 - size as i16).collect()
+        (0..self.bits).map(|_| self.entry(size)).collect()
+    }
+
+    /// A row of a kind. In a sparse one each entry is 0 with probability 7/8.
+    fn row(&mut self, kind: &str) -> Vec<i16> {
+        match kind {
+            "random" => self.within(127),
+            "small" => self.within(1),
+            "zero" => vec![0; self.bits],
+            "sparse" => (0..self.bits).map(|_| if self.draw() % 8 == 0 { self.entry(127) } else { 0 }).collect(),
+            _ => usage(),
+        }
     }
 }
 
-/// Rows with the words to mark for them: each is the best word of the row before.
-fn pool(number: u32) -> Vec<(Vec<i16>, Vec<u8>)> {
+/// Rows of a kind with the words to mark for them: each is the best word of the row before.
+fn pool(number: u32, kind: &str) -> Vec<(Vec<i16>, Vec<u8>)> {
     let code = Code::of(number);
     let mut rows = Rows::new(code.bits());
     let mut plain = Plain::new(number);
@@ -139,7 +154,7 @@ fn pool(number: u32) -> Vec<(Vec<i16>, Vec<u8>)> {
     let mut handed = vec![0; code.n];
     (0..POOL)
         .map(|_| {
-            let row = rows.within(127);
+            let row = rows.row(kind);
             let word = handed.clone();
             plain.decode(&row, &mut handed, &mut soft);
             (row, word)
@@ -169,7 +184,7 @@ fn calls(which: &str, call: &str, decoders: &mut Decoders, pool: &[(Vec<i16>, Ve
             }
             "decode" => {
                 black_box(decoders.decode(which, black_box(row), &mut word, &mut soft));
-                black_box(&soft);
+                black_box((&word, &soft));
             }
             "mark" => {
                 black_box(decoders.mark(which, black_box(row), black_box(handed)));
@@ -179,15 +194,16 @@ fn calls(which: &str, call: &str, decoders: &mut Decoders, pool: &[(Vec<i16>, Ve
     }
 }
 
-/// Random rows, and rows near 0 that tie often. Metrics, soft outputs and marks are the same; a word is a codeword with the best metric.
+/// Random rows, and rows that tie often: of -1, 0 and 1, sparse, zero. Metrics, words, soft outputs and marks are the same; a word is a
+/// codeword with the metric.
 fn check(number: u32, count: usize) {
     let code = Code::of(number);
     let mut rows = Rows::new(code.bits());
     let mut decoders = Decoders::new(number);
-    let mut handed = vec![0; code.n];
-    let mut verdicts = [0; 3];
+    let (mut handed, mut last) = (vec![0; code.n], vec![0; code.n]);
+    let (mut ties, mut verdicts) = (0, [0; 3]);
     for k in 0..count {
-        let row = rows.within([127, 1, 127, 0, 127, 3][k % 6]);
+        let row = rows.row(["random", "small", "sparse", "random", "small", "sparse", "random", "zero"][k % 8]);
         let mut seen = None;
         for which in ["library", "plain", "wolf"] {
             let mut word = vec![0; code.n];
@@ -198,13 +214,15 @@ fn check(number: u32, count: usize) {
             let mut turned = handed.clone();
             turned[k % code.n] ^= 1;
             let marks = [&handed, &word, &turned].map(|w| decoders.mark(which, &row, w));
-            let result = (metric, soft, marks);
+            let result = (metric, word.clone(), soft, marks);
             match &seen {
                 None => seen = Some(result),
                 Some(first) => assert_eq!(*first, result, "{which}: row {k}"),
             }
             if which == "wolf" {
                 marks.iter().for_each(|m| verdicts[m.0 as usize] += 1);
+                decoders.wolf.last(&row, &mut last);
+                ties += usize::from(last != word);
                 handed = word;
             }
         }
@@ -220,22 +238,24 @@ fn check(number: u32, count: usize) {
         assert_eq!(rows[0], rows[1], "quantised and received, row {k}");
     }
     let [none, short, best] = verdicts;
-    println!("code {number}: all three agree on {count} rows and on marks of {best} best, {short} short and {none} other words");
+    print!("code {number}: all three agree on {count} rows, {ties} with another tied word, ");
+    println!("and on marks of {best} best, {short} short and {none} other words");
 }
 
 fn main() {
     let args: Vec<String> = std::env::args().skip(1).collect();
     let args: Vec<&str> = args.iter().map(String::as_str).collect();
     let number = |s: &str| s.parse::<u32>().unwrap_or_else(|_| usage());
+    let kind = args.get(5).unwrap_or(&"random");
     match args[..] {
         ["check", code, count] => check(number(code), number(count) as usize),
-        ["call", which, call, code, n] => {
+        ["call", which, call, code, n] | ["call", which, call, code, n, _] => {
             let code = number(code);
-            calls(which, call, &mut Decoders::new(code), &pool(code), number(n) as usize);
+            calls(which, call, &mut Decoders::new(code), &pool(code, kind), number(n) as usize);
         }
-        ["time", which, call, code, n] => {
+        ["time", which, call, code, n] | ["time", which, call, code, n, _] => {
             let (code, n) = (number(code), number(n) as usize);
-            let (mut decoders, pool) = (Decoders::new(code), pool(code));
+            let (mut decoders, pool) = (Decoders::new(code), pool(code, kind));
             let run = |_| {
                 let start = Instant::now();
                 calls(which, call, &mut decoders, &pool, n);

@@ -1,5 +1,6 @@
-//! The library's algorithm in plain Rust: a trellis of each layer over syndromes, a walk over the valid configurations, and soft
-//! outputs where the walk's marginals, carried forward, meet the tables of the layer. Tables of the code are made once, and buffers are kept.
+//! The library's algorithm in plain Rust: a trellis of each layer over syndromes, a walk over the valid configurations, the first word of
+//! those that tie, and soft outputs where the walk's marginals, carried forward, meet the tables of the layer. Tables of the code are made
+//! once, and buffers are kept.
 
 use crate::codes::{verdict, Code};
 
@@ -13,6 +14,11 @@ pub struct Plain {
     /// For each layer n + 1 tables: the greatest metric of the bits from a position on that add up to a syndrome.
     tables: Vec<Vec<i32>>,
     marginals: Vec<Vec<i32>>,
+    /// The configurations with the greatest total.
+    tied: Vec<[usize; 4]>,
+    /// For each layer and syndrome the number of the first best word.
+    numbers: Vec<Vec<u64>>,
+    spare: Vec<u64>,
     carried: Vec<i32>,
     next: Vec<i32>,
 }
@@ -33,15 +39,22 @@ impl Plain {
         let checks = (0..code.bits()).map(|b| code.column(b / code.m, b % code.m)).collect();
         let tables = vec![vec![0; (code.n + 1) * cosets]; code.m];
         let marginals = vec![vec![0; cosets]; code.m];
-        Plain { columns, cosets, configurations, checks, tables, marginals, carried: vec![0; cosets], next: vec![0; cosets], code }
+        let tied = Vec::with_capacity(configurations.len());
+        let numbers = vec![vec![0; cosets]; code.m];
+        let spare = vec![0; cosets];
+        let (carried, next) = (vec![0; cosets], vec![0; cosets]);
+        Plain { columns, cosets, configurations, checks, tables, marginals, tied, numbers, spare, carried, next, code }
     }
 
     pub fn decode(&mut self, row: &[i16], word: &mut [u8], soft: &mut [i16]) -> i32 {
         self.make_tables(row);
-        let (best, configuration) = self.walk();
-        word.fill(0);
-        for j in 0..self.code.m {
-            self.trace(row, j, configuration[j], word);
+        let best = self.walk();
+        let (m, mut left) = (self.code.m, self.first(row));
+        for symbol in word.iter_mut().rev() {
+            *symbol = left as u8 & ((1 << m) - 1);
+            left >>= m;
+        }
+        for j in 0..m {
             self.soft(row, j, soft);
         }
         best
@@ -75,35 +88,69 @@ impl Plain {
         }
     }
 
-    /// The greatest total with its configuration; for each layer and syndrome, the greatest total of the other layers.
-    fn walk(&mut self) -> (i32, [usize; 4]) {
+    /// The greatest total, with the configurations that have it; for each layer and syndrome, the greatest total of the other layers.
+    fn walk(&mut self) -> i32 {
         for marginal in &mut self.marginals {
             marginal.fill(NEVER);
         }
         let mut best = NEVER;
-        let mut at = [0; 4];
         for c in &self.configurations {
             let sum = total(&self.tables, c);
-            if sum > best {
-                best = sum;
-                at = *c;
+            if sum >= best {
+                if sum > best {
+                    best = sum;
+                    self.tied.clear();
+                }
+                self.tied.push(*c);
             }
             for ((table, marginal), &s) in self.tables.iter().zip(&mut self.marginals).zip(c) {
                 marginal[s] = marginal[s].max(sum - table[s]);
             }
         }
-        (best, at)
+        best
     }
 
-    fn trace(&self, row: &[i16], j: usize, from: usize, word: &mut [u8]) {
+    /// The least number of a best word: its symbols are the digits, position 0 leading, so that words are ordered as their numbers. That of a
+    /// configuration is the sum over its layers.
+    fn first(&mut self, row: &[i16]) -> u64 {
+        if let [only] = self.tied[..] {
+            return (0..self.code.m).map(|j| self.trace(row, j, only[j])).sum();
+        }
+        self.make_numbers(row);
+        let number = |c: &[usize; 4]| self.numbers.iter().zip(c).map(|(numbers, &s)| numbers[s]).sum();
+        self.tied.iter().map(number).min().unwrap()
+    }
+
+    /// The number of a layer's first best word with a syndrome: 0 bits where they attain the greatest metric.
+    fn trace(&self, row: &[i16], j: usize, from: usize) -> u64 {
         let (m, size) = (self.code.m, self.cosets);
-        let mut s = from;
+        let (mut s, mut number) = (from, 0);
         for (i, &h) in self.columns.iter().enumerate() {
             let r = i32::from(row[i * m + j]);
             let behind = &self.tables[j][(i + 1) * size..(i + 2) * size];
+            number <<= m;
             if behind[s] + r < behind[s ^ h] - r {
-                word[i] |= 1 << j;
+                number |= 1 << j;
                 s ^= h;
+            }
+        }
+        number
+    }
+
+    /// The same for all syndromes, from the back.
+    fn make_numbers(&mut self, row: &[i16]) {
+        let (m, size) = (self.code.m, self.cosets);
+        for (j, numbers) in self.numbers.iter_mut().enumerate() {
+            numbers.fill(0);
+            let mut one = 1 << j;
+            for (i, &h) in self.columns.iter().enumerate().rev() {
+                let r = i32::from(row[i * m + j]);
+                let behind = &self.tables[j][(i + 1) * size..(i + 2) * size];
+                for s in 0..size {
+                    self.spare[s] = if behind[s] + r < behind[s ^ h] - r { numbers[s ^ h] | one } else { numbers[s] };
+                }
+                std::mem::swap(numbers, &mut self.spare);
+                one <<= m;
             }
         }
     }

@@ -17,10 +17,12 @@ pub fn unpacked(code: &Code, bits: u32) -> Vec<u8> {
     (0..code.n).map(|i| (bits >> (i * code.m)) as u8 & ((1 << code.m) - 1)).collect()
 }
 
-/// The best metric, and every soft output.
+/// The best metric, the first and the last word that have it when symbols are compared from position 0, and every soft output.
 #[derive(Debug, PartialEq)]
 pub struct Best {
     pub metric: i32,
+    pub first: Vec<u8>,
+    pub last: Vec<u8>,
     pub soft: Vec<i16>,
 }
 
@@ -47,15 +49,19 @@ impl Every {
         let part =
             |from: usize, bits: usize| -> i32 { (0..7).map(|b| i32::from(row[from + b]) * if bits >> b & 1 == 0 { 1 } else { -1 }).sum() };
         let parts: Vec<[i32; 128]> = (0..3).map(|p| std::array::from_fn(|bits| part(7 * p, bits))).collect();
+        let own = |word: u32| -> i32 { (0..3).map(|p| parts[p][(word >> (7 * p)) as usize & 127]).sum() };
         let mut greatest = [[i32::MIN; 2]; 21];
         for word in &self.codewords {
-            let metric: i32 = (0..3).map(|p| parts[p][(word >> (7 * p)) as usize & 127]).sum();
+            let metric = own(*word);
             for (b, held) in greatest.iter_mut().enumerate() {
                 let held = &mut held[(word >> b) as usize & 1];
                 *held = metric.max(*held);
             }
         }
         let metric = greatest[0][0].max(greatest[0][1]);
-        Best { metric, soft: greatest.iter().map(|[zero, one]| (zero - one) as i16).collect() }
+        // vectors are in the order of words: the first entry that differs decides
+        let best = || self.codewords.iter().filter(|w| own(**w) == metric).map(|w| unpacked(&self.code, *w));
+        let (first, last) = (best().min().expect("a word"), best().max().expect("a word"));
+        Best { metric, first, last, soft: greatest.iter().map(|[zero, one]| (zero - one) as i16).collect() }
     }
 }

@@ -23,7 +23,7 @@ struct Counts {
     verdicts: [usize; 3],
 }
 
-/// Decodes and marks `count` rows; `best` says what the best metric and the soft outputs are, `other` gives words to mark.
+/// Decodes and marks `count` rows; `best` says what the best metric, the best words and the soft outputs are, `other` gives words to mark.
 fn rows(number: u32, count: usize, best: impl Fn(&[i16]) -> Best, mut other: impl FnMut(&mut Draw) -> Vec<u8>) -> Counts {
     let code = Code::of(number);
     let mut wolf = Wolf::new(number);
@@ -38,21 +38,20 @@ fn rows(number: u32, count: usize, best: impl Fn(&[i16]) -> Best, mut other: imp
         let mut soft = Output::new(code.bits());
         let metric = tugzeck::decode(number, &row, word.lent(), soft.lent());
         assert_eq!(metric, Ok(expected.metric), "code {number}, {row:?}");
-        assert!(is_codeword(&code, word.left()), "code {number}, {row:?}: {:?}", word.left());
-        assert_eq!(code.metric(&row, word.left()), expected.metric, "code {number}, {row:?}");
+        assert_eq!(word.left(), expected.first, "code {number}, {row:?}");
         assert_eq!(soft.left(), expected.soft, "code {number}, {row:?}");
 
-        // the trellis of the whole code says the same, and perhaps another word
-        let (mut its_word, mut its_soft) = (vec![0; code.n], vec![0; code.bits()]);
-        assert_eq!(wolf.decode(&row, &mut its_word, &mut its_soft), expected.metric);
-        assert_eq!(its_soft, expected.soft);
-        counts.ties += usize::from(its_word != word.left());
+        // the trellis of the whole code says the same
+        assert_eq!(by_trellis(&mut wolf, &code, &row), expected, "code {number}, {row:?}");
+        let tied = expected.first != expected.last;
+        assert_eq!(tied, expected.soft.contains(&0), "code {number}, {row:?}");
+        counts.ties += usize::from(tied);
         counts.rows += 1;
 
         let mut turned = word.left().to_vec();
         turned[k % code.n] ^= 1 << (k % code.m);
         let any = draw.word(code.n, code.m);
-        for handed in [word.left(), &its_word, &near, &turned, &any, &other(&mut draw)] {
+        for handed in [word.left(), &expected.last, &near, &turned, &any, &other(&mut draw)] {
             let expected = expected_verdict(&code, expected.metric, &row, handed);
             assert_eq!(tugzeck::mark(number, &row, handed), Ok(expected), "code {number}, {row:?}, {handed:?}");
             counts.verdicts[match expected {
@@ -63,6 +62,17 @@ fn rows(number: u32, count: usize, best: impl Fn(&[i16]) -> Best, mut other: imp
         }
     }
     counts
+}
+
+/// What the trellis of the whole code says of a row.
+fn by_trellis(wolf: &mut Wolf, code: &Code, row: &[i16]) -> Best {
+    let (mut first, mut last, mut soft) = (vec![0; code.n], vec![0; code.n], vec![0; code.bits()]);
+    let metric = wolf.decode(row, &mut first, &mut soft);
+    wolf.last(row, &mut last);
+    for word in [&first, &last] {
+        assert!(is_codeword(code, word) && code.metric(row, word) == metric);
+    }
+    Best { metric, first, last, soft }
 }
 
 fn said(number: u32, against: &str, counts: Counts) {
@@ -90,13 +100,7 @@ fn rows_of_code_2() {
 
 #[test]
 fn rows_of_code_3() {
-    let code = Code::of(3);
-    let by_trellis = |row: &[i16]| {
-        let (mut word, mut soft) = (vec![0; code.n], vec![0; code.bits()]);
-        let metric = Wolf::new(3).decode(row, &mut word, &mut soft);
-        assert!(is_codeword(&code, &word) && code.metric(row, &word) == metric);
-        Best { metric, soft }
-    };
+    let best = |row: &[i16]| by_trellis(&mut Wolf::new(3), &Code::of(3), row);
     // codewords of this code are the best words of rows, by the trellis
     let mut wolf = Wolf::new(3);
     let words = |draw: &mut Draw| {
@@ -105,7 +109,7 @@ fn rows_of_code_3() {
         wolf.decode(&row, &mut word, &mut soft);
         word
     };
-    said(3, "the trellis of the whole code", rows(3, 5_000, by_trellis, words));
+    said(3, "the trellis of the whole code", rows(3, 5_000, best, words));
 }
 
 #[test]
@@ -121,7 +125,7 @@ fn recorded_rows() {
     assert_eq!(tugzeck::decode(1, &[-10; 21], &mut word, &mut soft), Ok(210));
     assert_eq!((word, soft), ([7; 7], [-60; 21]));
     assert_eq!(tugzeck::decode(1, &[0; 21], &mut word, &mut soft), Ok(0));
-    assert_eq!(soft, [0; 21]);
+    assert_eq!((word, soft), ([0; 7], [0; 21]));
     assert_eq!(tugzeck::mark(1, &[0; 21], &[7; 7]), Ok(Verdict::Best));
 }
 
