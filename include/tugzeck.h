@@ -141,14 +141,14 @@ uint32_t tugzeck_quantise(uint32_t code, const float *samples, size_t samples_co
 uint32_t tugzeck_receive(uint32_t code, const uint8_t *kinds, size_t kinds_count, const float *samples, size_t samples_count, int16_t *row,
                          size_t row_count);
 
-/* Decodes a row of n*m reliabilities: 0 and the best metric, in the n places of `word` a codeword that has it, and in the n*m places of `soft`
- * the soft outputs: the greatest metric of a codeword with 0 at that bit less the greatest with 1. Where several words tie, any one of them.
- * Refuses by 1, 2, 4 (`word` or `soft`), 5. */
+/* Decodes a row of n*m reliabilities: 0 and the best metric, in the n places of `word` the codeword that has it or, of several, the first when
+ * symbols are compared from position 0, and in the n*m places of `soft` the soft outputs: the greatest metric of a codeword with 0 at that bit
+ * less the greatest with 1. Refuses by 1, 2, 4 (`word` or `soft`), 5. */
 struct tugzeck_decoding tugzeck_decode(uint32_t code, const int16_t *row, size_t row_count, uint8_t *word, size_t word_count, int16_t *soft,
                                        size_t soft_count);
 
 /* Marks a word of n symbols, handed in for a row of n*m reliabilities: 0 and the verdict, none (no codeword), short (with the best metric less
- * the word's own) or best. Refuses by 1, 2, 3, 5, 6. */
+ * the word's own) or best, which every codeword with the best metric is. Refuses by 1, 2, 3, 5, 6. */
 struct tugzeck_marking tugzeck_mark(uint32_t code, const int16_t *row, size_t row_count, const uint8_t *word, size_t word_count);
 
 /* SHEETS. A sheet is bytes: 32-bit words, low byte first. */

@@ -246,16 +246,16 @@ pub fn receive(code: u32, kinds: &[u8], samples: &[f32], row: &mut [i16]) -> Res
     unless_refused(number, ())
 }
 
-/// Decodes a row of n·m reliabilities: answers the best metric, and writes a codeword that has it into n places and the soft outputs into
-/// n·m: the greatest metric of a codeword with 0 at that bit less the greatest with 1. Where several words tie, any one of them.
-/// Refuses by 1, 2, 4, 5.
+/// Decodes a row of n·m reliabilities: answers the best metric, and writes the codeword that has it into n places (of several, the first when
+/// symbols are compared from position 0) and the soft outputs into n·m: the greatest metric of a codeword with 0 at that bit less the greatest
+/// with 1. Refuses by 1, 2, 4, 5.
 pub fn decode(code: u32, row: &[i16], word: &mut [u8], soft: &mut [i16]) -> Result<i32, Refusal> {
     // SAFETY: all are slices, and the two outputs are borrowed apart.
     let d = unsafe { raw::tugzeck_decode(code, row.as_ptr(), row.len(), word.as_mut_ptr(), word.len(), soft.as_mut_ptr(), soft.len()) };
     unless_refused(d.number, d.metric)
 }
 
-/// Marks a word of n symbols, handed in for a row of n·m reliabilities. Refuses by 1, 2, 3, 5, 6.
+/// Marks a word of n symbols, handed in for a row of n·m reliabilities. Every codeword with the best metric is `Best`. Refuses by 1, 2, 3, 5, 6.
 pub fn mark(code: u32, row: &[i16], word: &[u8]) -> Result<Verdict, Refusal> {
     // SAFETY: both are slices.
     let m = unsafe { raw::tugzeck_mark(code, row.as_ptr(), row.len(), word.as_ptr(), word.len()) };
