@@ -3,7 +3,7 @@
 use Rattle.basics.proofs.Kit.{_≡_, refl, sym, ap, _∙_, Bool, true, false, cond, List, ℕ, _+_, _≤_, _<_, arith, eqb}
 use native.Mathlib.Decide.{decLe}
 use borrow.Author.Tests.{eq-eqb, eqb-true}
-use Rattle.glue.specs.Walk.{tuple, total, number-where, Within, Numbered, Foremost}
+use Rattle.glue.specs.Walk.{tuple, total, number-where, Within, Choose, Foremost}
 use Rattle.glue.proofs.Walks.{within}
 
 -- what the first k tuples leave
@@ -13,7 +13,7 @@ pub record Choosing (n r above : ℕ) (f w cs : List ℕ) (k low at : ℕ) : Typ
   pub met : low < above → (total f (tuple cs at) ≡ r) × (total w (tuple cs at) ≡ low)
   pub least : (i : ℕ) → i < k → total f (tuple cs i) ≡ r → low ≤ total w (tuple cs i)
 
-module _ (size n r above : ℕ) (f w cs : List ℕ) (a : Numbered size n r above f w cs) where
+module _ (size n r above : ℕ) (f w cs : List ℕ) (a : Choose size n r above f w cs) where
   pub number-within : (k : ℕ) → k < n → Within 64 size w (tuple cs k)
   number-within k l =
       let x : Within 16 size f (tuple cs k) = within size n r f cs (a .tuples) k l in

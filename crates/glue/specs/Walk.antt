@@ -78,7 +78,7 @@ abbrev pub number-where : (r above : ℕ) → (f w t : List ℕ) → ℕ
 number-where r above f w t = cond (eqb (total f t) r) (total w t) above
 
 -- what the choice among tuples that cost r asks: numbers below one that is above all, and such a tuple
-pub record Numbered (size n r above : ℕ) (f w cs : List ℕ) : Type 0 where
+pub record Choose (size n r above : ℕ) (f w cs : List ℕ) : Type 0 where
   pub tuples : Tuples size n r f cs
   pub length-w : size * 4 ≤ length w
   pub below : (k : ℕ) → k < n → total w (tuple cs k) < above

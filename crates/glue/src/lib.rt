@@ -8,7 +8,7 @@ ghost use mathlib.Core.Bool.{cond};
 ghost use lib.Dec.{eqb, ltb};
 ghost use lib.ListN.{length, getD};
 ghost use Rattle.lanes.specs.Lanes.{entry};
-ghost use Rattle.glue.specs.Walk.{conf, tuple, total, least-total, lower-at, lowered, Within, Tuples, Walked, Marginals, times, number-where, Numbered, Foremost};
+ghost use Rattle.glue.specs.Walk.{conf, tuple, total, least-total, lower-at, lowered, Within, Tuples, Walked, Marginals, times, number-where, Choose, Foremost};
 
 // What syndrome s costs in layer j.
 fn cost_at(f: &[u16], j: usize, s: u16) -> u16
@@ -111,7 +111,7 @@ fn one_if(a: u16, b: u16) -> u16
 }
 
 // How many entries of g are x.
-fn count_of(g: &[u16], x: u16) -> u16
+pub fn count_of(g: &[u16], x: u16) -> u16
     requires { ⌜ length (now g) < 2 ^ 16 ⌝ }
     ensures { λ r. ⌜ r ≡ times x (now (g .entry)) ⌝ }
 {
@@ -123,14 +123,6 @@ fn count_of(g: &[u16], x: u16) -> u16
         k += 1;
     }
     n
-}
-
-// Whether a single tuple costs the least: in each layer a single syndrome then has a tuple that does.
-pub fn is_alone(g: &[u16], least: u16) -> bool
-    requires { ⌜ length (now g) < 2 ^ 16 ⌝ }
-    ensures { λ r. ⌜ r ≡ eqb (times least (now (g .entry))) 4 ⌝ }
-{
-    count_of(g, least) == 4
 }
 
 // What tuple k costs.
@@ -211,7 +203,7 @@ pub fn first_of(
     least: u16,
     above: u64,
 ) -> [u16; 4]
-    requires { ⌜ Numbered size n least above (now f) (now w) (now configs) ⌝ }
+    requires { ⌜ Choose size n least above (now f) (now w) (now configs) ⌝ }
     ensures { λ r. ⌜ Foremost n least (now (f .entry)) (now (w .entry)) (now (configs .entry)) r ⌝ }
 {
     let mut low = above;

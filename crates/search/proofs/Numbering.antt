@@ -11,7 +11,7 @@ use Rattle.trellis.specs.Rows as R
 use Rattle.trellis.proofs.Trellis.{traced}
 use Rattle.lanes.specs.Lanes.{entry, lane}
 use Rattle.lanes.proofs.Rows.{lanes-at}
-use Rattle.glue.specs.Walk.{conf, total, tuple, times, Walked, Marginals, Numbered, Foremost}
+use Rattle.glue.specs.Walk.{conf, total, tuple, times, Walked, Marginals, Choose, Foremost}
 use Rattle.glue.proofs.Alone.{alone}
 use Rattle.search.specs.Within.{top, big, cap, above, tuples-of, count-of, word-number, Tables, Costs, First-tied}
 
@@ -51,8 +51,8 @@ module _ {s : Shape} {hs zs os t : List ℕ} (z : Tables s hs zs os t) where
             let m : length hs - 0 ≡ length hs = omega arith in
             n .numbers (lane u j) j (rw (lanes-at (conf (tuples-of s) k) j lj) (z .tuples .inside k j l lj)) lj ∙ ap (λ (i : ℕ). weighed j (trace (layer hs zs os j) (final big) 0 i (lane u j))) m
 
-    pub numbered-ok : {r : ℕ} → ((k : ℕ) × Costs s t r k) → Numbered (s .size) (count-of s) r above t w (tuples-of s)
-    numbered-ok some = record {
+    pub choose-ok : {r : ℕ} → ((k : ℕ) × Costs s t r k) → Choose (s .size) (count-of s) r above t w (tuples-of s)
+    choose-ok some = record {
       tuples = record {
         some = z .tuples .some;
         length-f = z .tuples .length-f;

@@ -5,7 +5,7 @@ use borrow.Author.Tests.{eq-eqb, ne-eqb}
 use Rattle.code.specs.declared.Shape.{Shape}
 use Rattle.code.specs.Within.{number-of}
 use Rattle.configurations.specs.Configurations.{configurations, listed}
-use Rattle.glue.specs.Walk.{least-total, Tuples, Walked, Marginals, Numbered, Foremost}
+use Rattle.glue.specs.Walk.{least-total, Tuples, Walked, Marginals, Choose, Foremost}
 use Rattle.search.specs.Within.{tuples-of, count-of}
 
 -- a code by its m and r
@@ -33,8 +33,8 @@ module _ (s : Shape) {d n : ℕ} {cs : List ℕ} (size cap : ℕ) (f : List ℕ)
   pub least-as : (r : ℕ) → r ≡ least-total cap f cs n → r ≡ least-total cap f (tuples-of s) (count-of s)
   least-as r x = rw (ec, ← en, ← e) at x
 
-  pub numbered-as : {r above : ℕ} {w : List ℕ} → Numbered size (count-of s) r above f w (tuples-of s) → Numbered size n r above f w cs
-  numbered-as x = rw (ec, ← en, ← e) x
+  pub choose-as : {r above : ℕ} {w : List ℕ} → Choose size (count-of s) r above f w (tuples-of s) → Choose size n r above f w cs
+  choose-as x = rw (ec, ← en, ← e) x
 
   pub foremost-as : {r : ℕ} {w at : List ℕ} → Foremost n r f w cs at → Foremost (count-of s) r f w (tuples-of s) at
   foremost-as x = rw (ec, ← en, ← e) at x

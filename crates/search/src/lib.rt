@@ -17,7 +17,7 @@ ghost use Rattle.lanes.specs.Lanes.{lane, put-four};
 ghost use Rattle.search.specs.Within.{cap, above, Tables, Costs, First-tied, reliability, Headed, Spread, Costs-to, Costs-within, Costed, Input, Buffers, Tabled, tuples-of, count-of, symbol-cost, word-cost, Own, Symbol};
 ghost use Rattle.trellis.specs.Trellis.{pick};
 ghost use Rattle.trellis.specs.Rows.{NumberRoom};
-ghost use Rattle.glue.specs.Walk.{sum4, least-total, Tuples, Walked, Marginals, Numbered, Foremost};
+ghost use Rattle.glue.specs.Walk.{sum4, least-total, Tuples, Walked, Marginals, Choose, Foremost};
 
 // A reliability's greatest size, a number above every cost of a word, and one above twice that and a layer's cost.
 pub const TOP: u16 = metric::BOUND;
@@ -155,7 +155,7 @@ fn walk(shape: Shape, t: &[u16], g: &mut [u16]) -> Least
 
 // Of the configurations that cost the least, one whose number is the least.
 fn first_of(shape: Shape, t: &[u16], w: &[u64], least: u16) -> [u16; 4]
-    requires { ⌜ Numbered (shape .size) (count-of shape) least above (now t) (now w) (tuples-of shape) ⌝ }
+    requires { ⌜ Choose (shape .size) (count-of shape) least above (now t) (now w) (tuples-of shape) ⌝ }
     ensures { λ r. ⌜ Foremost (count-of shape) least (now (t .entry)) (now (w .entry)) (tuples-of shape) r ⌝ }
 {
     if shape.m == 4 {
@@ -225,7 +225,8 @@ pub fn best_of(shape: Shape, hs: &[u16], zs: &[u16], os: &[u16], t: &[u16], g: &
     ensures { λ _. ⌜ Marginals (shape .size) (count-of shape) cap (now (t .entry)) (tuples-of shape) (now (g .exit)) ⌝ }
 {
     let least = walk(shape, t, g);
-    if glue::is_alone(g, least.total) {
+    // Four marginals are the least, one in each layer: a single configuration costs it.
+    if glue::count_of(g, least.total) == 4 {
         return least;
     }
     let at = first_tied(shape, hs, zs, os, t, least.total);

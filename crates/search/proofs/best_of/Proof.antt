@@ -1,7 +1,6 @@
 -- `search::best_of` meets its contract.
 -- Assumes nothing.
 use Rattle.basics.proofs.Kit.{_≡_, sym, _∙_, _*_, _≤_, _<_, arith, needs, length}
-use borrow.Author.Tests.{eqb-true}
 use Rattle.search.specs.Within.{cap}
 use Rattle.search.proofs.Tabling.{size-small}
 use Rattle.search.proofs.Numbering.{alone-ok}
@@ -21,13 +20,13 @@ lent w = (w .walk .kept .1 .1 .0 ∙ start w .pre .1 .1 .0, omega (arith, size-s
 walk-requires : tie.Need-walk-requires
 walk-requires c κs = let s = c .before .before .before .before .before .before in (s .pre .0 .tuples, s .pre .1 .1)
 
-is-alone-requires : tie.Need-is-alone-requires
-is-alone-requires c κs = let w = c .before .before .before in omega (arith, lent w)
+count-of-requires : tie.Need-count-of-requires
+count-of-requires c κs = let w = c .before .before .before in omega (arith, lent w)
 
 returns : tie.Need-returns
 returns c = let w = c .before .before .before .before .before in
     let s = start w in
-    (w .walk .ensures .0 .least, (alone-ok (s .pre .0) (w .walk .last .1 .1 .0) (w .walk .ensures .0) (small w) (lent w .0) (w .walk .ensures .1) (eqb-true _ _ (sym (c .before .is-alone .ensures) ∙ c .if1 .taken)), w .walk .ensures .1))
+    (w .walk .ensures .0 .least, (alone-ok (s .pre .0) (w .walk .last .1 .1 .0) (w .walk .ensures .0) (small w) (lent w .0) (w .walk .ensures .1) (sym (c .before .count-of .ensures) ∙ c .if1 .taken), w .walk .ensures .1))
 
 first-tied-requires : tie.Need-first-tied-requires
 first-tied-requires c κs = let w = c .before .before .before .before .before in
@@ -44,7 +43,7 @@ best-of-spec =
     tie.close
     (tie.spec
     walk-requires
-    is-alone-requires
+    count-of-requires
     (λ c. search needs)
     returns
     first-tied-requires

@@ -4,7 +4,7 @@ use Rattle.basics.proofs.Kit.{_≡_, refl, needs}
 use Rattle.code.specs.Within.{number-of}
 use Rattle.configurations.specs.Configurations.{configurations}
 use Rattle.search.specs.Within.{cap}
-use Rattle.search.proofs.Walking.{third, first, second, numbered-as, foremost-as}
+use Rattle.search.proofs.Walking.{third, first, second, choose-as, foremost-as}
 use Rattle.search.proofs.first_of.Statement.{statement}
 use Rattle.search.proofs.first_of.Tie as tie
 
@@ -29,7 +29,7 @@ is-2 c = second (start2 c .args .shape) (c .before .before .if1 .left) (c .if2 .
 first-of-requires : tie.Need-first-of-requires
 unfolding configurations
 first-of-requires c κs = let a = c .before in let b = a .before in let s = start3 b in
-    numbered-as (s .args .shape) (s .args .shape .size) cap (s .args .t .now) (is-3 b) refl (a .all-of-code-3 .ensures) (s .pre)
+    choose-as (s .args .shape) (s .args .shape .size) cap (s .args .t .now) (is-3 b) refl (a .all-of-code-3 .ensures) (s .pre)
 
 returns : tie.Need-returns
 unfolding configurations
@@ -39,7 +39,7 @@ returns c = let a = c .before .before in let b = a .before in let s = start3 b i
 first-of-requires-2 : tie.Need-first-of-requires-2
 unfolding configurations
 first-of-requires-2 c κs = let a = c .before in let b = a .before in let s = start1 b in
-    numbered-as (s .args .shape) (s .args .shape .size) cap (s .args .t .now) (is-1 b) refl (a .all-of-code-1 .ensures) (s .pre)
+    choose-as (s .args .shape) (s .args .shape .size) cap (s .args .t .now) (is-1 b) refl (a .all-of-code-1 .ensures) (s .pre)
 
 returns-2 : tie.Need-returns-2
 unfolding configurations
@@ -49,7 +49,7 @@ returns-2 c = let a = c .before .before in let b = a .before in let s = start1 b
 first-of-requires-3 : tie.Need-first-of-requires-3
 unfolding configurations
 first-of-requires-3 c κs = let a = c .before in let b = a .before in let s = start2 b in
-    numbered-as (s .args .shape) (s .args .shape .size) cap (s .args .t .now) (is-2 b) refl (a .all-of-code-2 .ensures) (s .pre)
+    choose-as (s .args .shape) (s .args .shape .size) cap (s .args .t .now) (is-2 b) refl (a .all-of-code-2 .ensures) (s .pre)
 
 returns-3 : tie.Need-returns-3
 unfolding configurations
