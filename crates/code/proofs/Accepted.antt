@@ -1,36 +1,86 @@
 -- What is known of a call's input where nothing is refused, and what a call says by its refusal.
 -- Assumes nothing.
-use Rattle.basics.proofs.Kit.{_≡_, refl, sym, ap, Bool, true, false, _&&_, cond, List, ℕ, zero, suc, _+_, _≤_, _<_, arith, length, eqb, leb}
-use lib.Dec.{lit<, lit≤}
+use Rattle.basics.proofs.Kit.{_≡_, refl, sym, ap, Bool, true, false, _&&_, not, cond, List, ℕ, zero, suc, _+_, _-_, _*_, _≤_, _<_, arith, length, eqb, leb}
+use mathlib.Core.Logic.{_⊎_, inl, inr}
+use lib.Dec.{T, leb→le, nleb→lt, lit≤}
 use borrow.Author.Tests.{eqb-true, eq-eqb}
 use Rattle.field.specs.Field.{width-good}
-use Rattle.field.proofs.Tests.{widths}
+use Rattle.field.proofs.Tests.{widths, all, at, and-l, and-r, to-T, from-T}
 use Rattle.refusal.proofs.Tests.{passed, first-none}
 use Rattle.refusal.specs.Refusal.{unless, first}
 use Rattle.code.specs.declared.Membership.the-variants.{Codeword, NoCodeword, Refused}
-use Rattle.code.specs.Code.{code-good, number-refusal, width, roots, long, message-long, symbols-good, is-codeword, syndrome-long}
+use Rattle.code.specs.Code.{code-good, number-refusal, width, roots, long, message-long, symbols-good, is-codeword, syndrome-long, bch-dimension, configuration-long, roots-good, accepted, parameter-refusal}
 use Rattle.code.specs.Calls.{encode-refusal, word-refusal, member-refusal, check-refusal, membership}
 use Rattle.code.specs.Within.{Word-within, Message-within}
 pub use Rattle.refusal.proofs.Outcomes.{outcome-done, outcome-refused, outcome-zero, outcome-taken}
 
--- m and r of any number are those of a code
-pub width-fine : (c : ℕ) → width-good (width c) ≡ true
-unfolding width-good width
-width-fine c = go (eqb c 3)
+pub le-or-lt : (a b : ℕ) → (a ≤ b) ⊎ (b < a)
+le-or-lt a b = go (leb a b) refl
   where
-    go : (b : Bool) → width-good (cond b 4 3) ≡ true
-    go true = refl
-    go false = refl
+    go : (x : Bool) → leb a b ≡ x → (a ≤ b) ⊎ (b < a)
+    go true e = inl (leb→le a b (to-T e))
+    go false e = inr (nleb→lt a b (to-T (ap not e)))
+
+-- what is known of a code that may be chosen
+pub record Parts (m r : ℕ) : Type 0 where
+  pub wide : width-good m ≡ true
+  pub rooted : roots-good m r ≡ true
+  pub some : 1 ≤ r
+  pub six : r ≤ 6
+  pub few : r < long m
+
+accepted-wide : (m r : ℕ) → accepted m r ≡ true → width-good m ≡ true
+unfolding accepted
+accepted-wide m r e = from-T (width-good m) (and-l (width-good m) (roots-good m r) (to-T e))
+
+accepted-roots : (m r : ℕ) → accepted m r ≡ true → roots-good m r ≡ true
+unfolding accepted
+accepted-roots m r e = from-T (roots-good m r) (and-r (width-good m) (roots-good m r) (to-T e))
+
+roots-bounds : (m r : ℕ) → roots-good m r ≡ true → (1 ≤ r) × (r ≤ 6)
+unfolding roots-good
+roots-bounds m r e =
+    let t = and-l (leb 1 r && leb r 6) _ (to-T e) in
+    (leb→le 1 r (and-l (leb 1 r) (leb r 6) t), leb→le r 6 (and-r (leb 1 r) (leb r 6) t))
+
+pub accepted-parts : (m r : ℕ) → accepted m r ≡ true → Parts m r
+unfolding long
+accepted-parts m r e =
+    let w = accepted-wide m r e in
+    let b = roots-bounds m r (accepted-roots m r e) in
+    let n : 7 ≤ long m = widths (λ (m : ℕ). 7 ≤ long m) (lit≤ tt) (lit≤ tt) m w in
+    record { wide = w; rooted = accepted-roots m r e; some = b .0; six = b .1; few = omega (arith, b .1) }
+
+-- a test at each of them, computed at both widths
+abbrev pub each : (f : (m r : ℕ) → Bool) → (m : ℕ) → Bool
+each f m = all 7 (λ r. cond (accepted m r) (f m r) true)
+
+pub at-each : (f : (m r : ℕ) → Bool) → T (each f 3) → T (each f 4) → (m r : ℕ) → accepted m r ≡ true → T (f m r)
+at-each f t u m r e =
+    let p = accepted-parts m r e in
+    let h : r < 7 = omega (arith, p .six) in
+    rw e at (at 7 (λ r. cond (accepted m r) (f m r) true) (widths (λ m. T (each f m)) t u m (p .wide)) r h)
+
+-- m and r of any number are those of a code
+pub number-accepted : (c : ℕ) → accepted (width c) (roots c) ≡ true
+unfolding accepted roots-good configuration-long bch-dimension message-long long width-good width roots
+number-accepted c = go (leb 3 c) (eqb c 2) (eqb c 4) (eqb c 5)
+  where
+    go : (a b d e : Bool) → accepted (cond a 4 3) (cond b 4 (cond d 4 (cond e 6 2))) ≡ true
+    go true true d e = refl
+    go true false true e = refl
+    go true false false true = refl
+    go true false false false = refl
+    go false true d e = refl
+    go false false true e = refl
+    go false false false true = refl
+    go false false false false = refl
+
+pub width-fine : (c : ℕ) → width-good (width c) ≡ true
+width-fine c = accepted-parts (width c) (roots c) (number-accepted c) .wide
 
 pub roots-few : (c : ℕ) → roots c < long (width c)
-unfolding roots long width
-roots-few c = go (eqb c 2) (eqb c 3)
-  where
-    go : (a b : Bool) → cond a 4 2 < long (cond b 4 3)
-    go true true = lit< tt
-    go true false = lit< tt
-    go false true = lit< tt
-    go false false = lit< tt
+roots-few c = accepted-parts (width c) (roots c) (number-accepted c) .few
 
 pub width-small : (m : ℕ) → width-good m ≡ true → m ≤ 4
 width-small = widths (λ (m : ℕ). m ≤ 4) (lit≤ tt) (lit≤ tt)
@@ -45,21 +95,41 @@ syndrome-short m r w = go (leb 3 r) (leb 5 r && eqb m 4)
     go false true = omega (arith, width-small m w)
     go false false = omega (arith, width-small m w)
 
--- so m and r of any number have a shape
-pub coded : (c : ℕ) → (k : ℕ) × (code-good k ≡ true) × (width c ≡ width k) × (roots c ≡ roots k)
-unfolding code-good width roots
-coded c = go (eqb c 2) (eqb c 3) (λ e f. absurd (omega (arith, eqb-true c 2 e, eqb-true c 3 f)))
-  where
-    go : (a b : Bool) → (a ≡ true → b ≡ true → ⊥) → (k : ℕ) × (code-good k ≡ true) × (cond b 4 3 ≡ width k) × (cond a 4 2 ≡ roots k)
-    go true true f = absurd (f refl refl)
-    go true false f = (2, refl, refl, refl)
-    go false true f = (3, refl, refl, refl)
-    go false false f = (1, refl, refl, refl)
+-- the product, by the lengths of syndrome and word
+pub syndrome-room : (m r : ℕ) → width-good m ≡ true → r ≤ 6 → (r ≤ syndrome-long m r) × (syndrome-long m r ≤ long m)
+unfolding long
+syndrome-room m r w h =
+    let test : ℕ → ℕ → Bool = λ m r. leb r (syndrome-long m r) && leb (syndrome-long m r) (long m) in
+    let l : r < 7 = omega arith in
+    let t = at 7 (test m) (widths (λ m. T (all 7 (test m))) tt tt m w) r l in
+    (leb→le r _ (and-l (leb r (syndrome-long m r)) _ t), leb→le _ (long m) (and-r (leb r (syndrome-long m r)) _ t))
+
+pub product-is : (m r : ℕ) → width-good m ≡ true → r ≤ 6 → m * (syndrome-long m r - r) ≡ configuration-long m r
+unfolding configuration-long message-long bch-dimension
+product-is m r w h =
+    let b = syndrome-room m r w h in
+    let e : syndrome-long m r - r ≡ long m - r - (long m - syndrome-long m r) = omega (arith, b .0, b .1) in
+    ap (λ (k : ℕ). m * k) e
+
+pub product-small : (m r : ℕ) → width-good m ≡ true → r ≤ 6 → configuration-long m r ≤ 40
+unfolding configuration-long message-long bch-dimension long
+product-small m r w h =
+    let l : r < 7 = omega arith in
+    leb→le _ 40 (at 7 (λ r. leb (configuration-long m r) 40) (widths (λ m. T (all 7 (λ r. leb (configuration-long m r) 40))) tt tt m w) r l)
 
 -- a number that is not refused is that of a code
 pub number-taken : (c : ℕ) → number-refusal c ≡ 0 → code-good c ≡ true
 unfolding number-refusal
 number-taken c e = passed _ _ _ e .0
+
+-- and m and r that are not refused may be chosen
+pub parameters-taken : (m r : ℕ) → parameter-refusal m r ≡ 0 → accepted m r ≡ true
+unfolding parameter-refusal accepted
+parameters-taken m r e = let a = passed _ _ _ e in rw (a .0, passed _ _ _ (a .1) .0) refl
+
+pub parameters-free : (m r : ℕ) → accepted m r ≡ true → parameter-refusal m r ≡ 0
+unfolding parameter-refusal unless
+parameters-free m r e = let p = accepted-parts m r e in rw (p .wide, p .rooted) refl
 
 pub number-free : (c : ℕ) → code-good c ≡ true → number-refusal c ≡ 0
 unfolding number-refusal unless

@@ -5,7 +5,7 @@ use mathlib.Core.List.{List, [], _∷_}
 use Prim.Native.Nat.{ℕ, zero, suc, _+_, _*_, _-_, _^_}
 use lib.Dec.{ltb, leb, eqb}
 use lib.ListN.{length, drop}
-use Rattle.field.specs.Field.{xor, times, alpha}
+use Rattle.field.specs.Field.{xor, times, alpha, width-good}
 use Rattle.refusal.specs.Refusal.{unless}
 
 -- the code numbers: 1 is (7, 5), 2 is (7, 3), 3 is (15, 13)
@@ -18,11 +18,11 @@ number-refusal c = unless (code-good c) 1 0
 
 -- m of a code
 unfoldable pub width : (code : ℕ) → ℕ
-width c = cond (eqb c 3) 4 3
+width c = cond (leb 3 c) 4 3
 
--- r of a code
+-- r of a code; any other number has some code's
 unfoldable pub roots : (code : ℕ) → ℕ
-roots c = cond (eqb c 2) 4 2
+roots c = cond (eqb c 2) 4 (cond (eqb c 4) 4 (cond (eqb c 5) 6 2))
 
 -- n
 unfoldable pub long : (m : ℕ) → ℕ
@@ -63,3 +63,23 @@ message r ws = drop r ws
 -- m = 4, two more for that at α^5
 abbrev pub syndrome-long : (m r : ℕ) → ℕ
 syndrome-long m r = m + (cond (leb 3 r) m 0 + cond (leb 5 r && eqb m 4) 2 0)
+
+-- the dimension of the BCH code, whose words are the binary words with syndrome 0; `Bch-dimension` of the crate split says why
+unfoldable pub bch-dimension : (m r : ℕ) → ℕ
+bch-dimension m r = long m - syndrome-long m r
+
+-- m times the difference of the dimensions of the Reed-Solomon and the BCH code
+unfoldable pub configuration-long : (m r : ℕ) → ℕ
+configuration-long m r = m * (message-long m r - bch-dimension m r)
+
+-- r from 1 to 6, and the product at most 16
+unfoldable pub roots-good : (m r : ℕ) → Bool
+roots-good m r = (leb 1 r && leb r 6) && leb (configuration-long m r) 16
+
+-- the codes that may be chosen
+unfoldable pub accepted : (m r : ℕ) → Bool
+accepted m r = width-good m && roots-good m r
+
+-- by parameters: another m is refused by 1, then r or the product by 16
+unfoldable pub parameter-refusal : (m r : ℕ) → ℕ
+parameter-refusal m r = unless (width-good m) 1 (unless (roots-good m r) 16 0)

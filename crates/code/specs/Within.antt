@@ -8,15 +8,12 @@ use lib.ListN.{length, drop}
 use Rattle.field.specs.Field.{width-good}
 use Rattle.code.specs.declared.Shape.{Shape}
 use Rattle.code.specs.declared.Chosen.{Chosen}
-use Rattle.code.specs.Code.{code-good, number-refusal, width, roots, long, message-long, symbols-good, is-codeword, message, syndrome-long}
+use Rattle.code.specs.Code.{code-good, width, roots, long, message-long, symbols-good, is-codeword, message, syndrome-long, accepted}
 use Rattle.code.specs.Bits.{row-long}
 
--- m and r of a code, with the numbers that follow from them
+-- m and r of a code that may be chosen, with the numbers that follow from them
 pub record Coded (s : Shape) : Type 0 where
-  pub code : ℕ
-  pub code-is : code-good code ≡ true
-  pub m-is : s .m ≡ width code
-  pub r-is : s .r ≡ roots code
+  pub accepted-is : accepted (s .m) (s .r) ≡ true
   pub width-is : width-good (s .m) ≡ true
   pub few : s .r < long (s .m)
   pub n-is : s .n ≡ long (s .m)
@@ -25,12 +22,20 @@ pub record Coded (s : Shape) : Type 0 where
   pub q-is : s .q ≡ syndrome-long (s .m) (s .r)
   pub size-is : s .size ≡ 2 ^ s .q
 
--- a code's number gives its m and r; any other is refused, and has some code's
-pub record Chosen-says (c : ℕ) (a : Chosen) : Type 0 where
-  pub number-is : a .number ≡ number-refusal c
+-- what the choice of m and r is refused by, where they may be chosen their code, and otherwise some code
+pub record Chosen-says (z m r : ℕ) (a : Chosen) : Type 0 where
+  pub number-is : a .number ≡ z
+  pub taken : z ≡ 0 → accepted m r ≡ true
   pub coded : Coded (a .shape)
-  pub m-is : a .shape .m ≡ width c
-  pub r-is : a .shape .r ≡ roots c
+  pub m-is : accepted m r ≡ true → a .shape .m ≡ m
+  pub r-is : accepted m r ≡ true → a .shape .r ≡ r
+
+-- a code that has a number
+pub record Numbered (s : Shape) : Type 0 where
+  pub code : ℕ
+  pub code-is : code-good code ≡ true
+  pub m-is : s .m ≡ width code
+  pub r-is : s .r ≡ roots code
 
 -- the number of the code with these m and r
 abbrev pub number-of : Shape → ℕ

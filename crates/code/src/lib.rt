@@ -1,15 +1,16 @@
 // Reed-Solomon codes of 2^m - 1 symbols with roots α to α^r: encoder, message reader and codeword test.
-// `encode`, `read_word` and `check_word` are offered to callers: they take any input and promise what specs/Calls.antt says.
-// For the crates above: `by_number`, which turns a code's number into its m and r or a refusal, `member_refusal`, and `symbols_good` and
-// `is_codeword` on words that have the right length. Layers and syndromes are left to the crate `split`.
+// `encode`, `read_word` and `check_word`, each with a code's number or, as `encode_by`, `read_word_by` and `check_word_by`, with its m and r, are
+// offered to callers: they take any input and promise what specs/Calls.antt says.
+// For the crates above: `by_number` and `by_parameters`, which turn a code's number, or its m and r, into a code or a refusal, `member_refusal`,
+// and `symbols_good` and `is_codeword` on words that have the right length. Layers and syndromes are left to the crate `split`.
 ghost use mathlib.Core.Path.{_≡_};
 ghost use mathlib.Core.Bool.{true};
 ghost use mathlib.Core.List.{_++_};
-ghost use Prim.Native.Nat.{ℕ, _+_, _<_};
+ghost use Prim.Native.Nat.{_+_, _<_};
 ghost use lib.ListN.{length, take, drop};
 ghost use Rattle.field.specs.Field.{width-good};
 ghost use Rattle.field.specs.Within.{Tables};
-ghost use Rattle.code.specs.Code.{code-good, width, roots, long, value-at, vanishes, symbols-good, is-codeword, syndrome-long};
+ghost use Rattle.code.specs.Code.{code-good, number-refusal, width, roots, long, value-at, vanishes, symbols-good, is-codeword, syndrome-long, roots-good, accepted, parameter-refusal};
 ghost use Rattle.code.specs.Division.{tails, product, spread, divided, multiplied};
 ghost use Rattle.code.specs.Calls.{encode-refusal, Encode-says, member-refusal, Read-says, check-refusal, checked};
 ghost use Rattle.code.specs.Within.{Coded, Chosen-says, Word-within, Part-within, Place-within, Quotient-within, Message-within, Carries};
@@ -41,18 +42,77 @@ pub struct Chosen {
 
 // The code with a number.
 pub fn by_number(code: u32) -> Chosen
-    ensures { λ r. ⌜ Chosen-says code r ⌝ }
+    ensures { λ a. ⌜ Chosen-says (number-refusal code) (width code) (roots code) a ⌝ }
 {
     let number = refusal::unless(is_code(code), 1, 0);
     let shape = shape_of(width_of(code), roots_of(code));
     Chosen { number, shape }
 }
 
+// The code with m bits to a symbol and r roots.
+pub fn by_parameters(m: u32, r: u32) -> Chosen
+    ensures { λ a. ⌜ Chosen-says (parameter-refusal m r) m r a ⌝ }
+{
+    let number = parameter_refusal(m, r);
+    if number != 0 {
+        return Chosen {
+            number,
+            shape: shape_of(3, 2),
+        };
+    }
+    Chosen {
+        number,
+        shape: shape_of(m, r),
+    }
+}
+
 // Writes the codeword of a message into `output` and answers 0, or answers the number of a refusal and writes nothing.
 pub fn encode(code: u32, message: &[u8], output: &mut [u8]) -> u32
-    ensures { λ r. ⌜ Encode-says code (now (message .entry)) r (now (output .entry)) (now (output .exit)) ⌝ }
+    ensures { λ a. ⌜ Encode-says (number-refusal code) (width code) (roots code) (now (message .entry)) a (now (output .entry)) (now (output .exit)) ⌝ }
 {
-    let chosen = by_number(code);
+    encode_in(by_number(code), message, output)
+}
+
+// The same, by m and r.
+pub fn encode_by(m: u32, r: u32, message: &[u8], output: &mut [u8]) -> u32
+    ensures { λ a. ⌜ Encode-says (parameter-refusal m r) m r (now (message .entry)) a (now (output .entry)) (now (output .exit)) ⌝ }
+{
+    encode_in(by_parameters(m, r), message, output)
+}
+
+// Writes the message of a codeword into `output` and answers 0, or answers the number of a refusal and writes nothing.
+pub fn read_word(code: u32, word: &[u8], output: &mut [u8]) -> u32
+    ensures { λ a. ⌜ Read-says (number-refusal code) (width code) (roots code) (now (word .entry)) a (now (output .entry)) (now (output .exit)) ⌝ }
+{
+    read_in(by_number(code), word, output)
+}
+
+// The same, by m and r.
+pub fn read_word_by(m: u32, r: u32, word: &[u8], output: &mut [u8]) -> u32
+    ensures { λ a. ⌜ Read-says (parameter-refusal m r) m r (now (word .entry)) a (now (output .entry)) (now (output .exit)) ⌝ }
+{
+    read_in(by_parameters(m, r), word, output)
+}
+
+// Whether a word is a codeword, or the number of a refusal.
+pub fn check_word(code: u32, word: &[u8]) -> Membership
+    ensures { λ a. ⌜ a ≡ checked (number-refusal code) (width code) (roots code) (now (word .entry)) ⌝ }
+{
+    check_in(by_number(code), word)
+}
+
+// The same, by m and r.
+pub fn check_word_by(m: u32, r: u32, word: &[u8]) -> Membership
+    ensures { λ a. ⌜ a ≡ checked (parameter-refusal m r) m r (now (word .entry)) ⌝ }
+{
+    check_in(by_parameters(m, r), word)
+}
+
+// `encode` in a code that was chosen, or refused.
+fn encode_in(chosen: Chosen, message: &[u8], output: &mut [u8]) -> u32
+    requires { ⌜ Coded (chosen .shape) ⌝ }
+    ensures { λ a. ⌜ Encode-says (chosen .number) (chosen .shape .m) (chosen .shape .r) (now (message .entry)) a (now (output .entry)) (now (output .exit)) ⌝ }
+{
     let shape = chosen.shape;
     let number = refusal::first(chosen.number, encode_refusal(shape, message, output.len()));
     if number != 0 {
@@ -62,11 +122,11 @@ pub fn encode(code: u32, message: &[u8], output: &mut [u8]) -> u32
     0
 }
 
-// Writes the message of a codeword into `output` and answers 0, or answers the number of a refusal and writes nothing.
-pub fn read_word(code: u32, word: &[u8], output: &mut [u8]) -> u32
-    ensures { λ r. ⌜ Read-says code (now (word .entry)) r (now (output .entry)) (now (output .exit)) ⌝ }
+// `read_word` in a code that was chosen, or refused.
+fn read_in(chosen: Chosen, word: &[u8], output: &mut [u8]) -> u32
+    requires { ⌜ Coded (chosen .shape) ⌝ }
+    ensures { λ a. ⌜ Read-says (chosen .number) (chosen .shape .m) (chosen .shape .r) (now (word .entry)) a (now (output .entry)) (now (output .exit)) ⌝ }
 {
-    let chosen = by_number(code);
     let shape = chosen.shape;
     let number = refusal::first(
         chosen.number,
@@ -80,11 +140,11 @@ pub fn read_word(code: u32, word: &[u8], output: &mut [u8]) -> u32
     0
 }
 
-// Whether a word is a codeword, or the number of a refusal.
-pub fn check_word(code: u32, word: &[u8]) -> Membership
-    ensures { λ r. ⌜ r ≡ checked code (now (word .entry)) ⌝ }
+// `check_word` in a code that was chosen, or refused.
+fn check_in(chosen: Chosen, word: &[u8]) -> Membership
+    requires { ⌜ Coded (chosen .shape) ⌝ }
+    ensures { λ a. ⌜ a ≡ checked (chosen .number) (chosen .shape .m) (chosen .shape .r) (now (word .entry)) ⌝ }
 {
-    let chosen = by_number(code);
     let shape = chosen.shape;
     let number = refusal::first(chosen.number, check_refusal(shape, word));
     if number != 0 {
@@ -95,6 +155,31 @@ pub fn check_word(code: u32, word: &[u8]) -> Membership
     } else {
         Membership::NoCodeword
     }
+}
+
+// What the choice of m and r is refused by, 0 for nothing.
+fn parameter_refusal(m: u32, r: u32) -> u32
+    ensures { λ x. ⌜ x ≡ parameter-refusal m r ⌝ }
+{
+    if field::is_width(m) {
+        return refusal::unless(is_roots(m, r), 16, 0);
+    }
+    1
+}
+
+// Whether a code with m bits to a symbol may have r roots. The Reed-Solomon code has n - r message symbols and the BCH code n - q bits, so that
+// their difference is q - r.
+fn is_roots(m: u32, r: u32) -> bool
+    requires { ⌜ width-good m ≡ true ⌝ }
+    ensures { λ x. ⌜ x ≡ roots-good m r ⌝ }
+{
+    if r < 1 {
+        return false;
+    }
+    if r > 6 {
+        return false;
+    }
+    m * (syndrome_long_of(m, r) - r) <= 16
 }
 
 // What encoding is refused by, 0 for nothing.
@@ -144,14 +229,19 @@ fn is_code(code: u32) -> bool
 fn width_of(code: u32) -> u32
     ensures { λ r. ⌜ r ≡ width code ⌝ }
 {
-    if code == 3 { 4 } else { 3 }
+    if code >= 3 { 4 } else { 3 }
 }
 
 // How many roots a code has: r.
 fn roots_of(code: u32) -> u32
     ensures { λ r. ⌜ r ≡ roots code ⌝ }
 {
-    if code == 2 { 4 } else { 2 }
+    match code {
+        2 => 4,
+        4 => 4,
+        5 => 6,
+        _ => 2,
+    }
 }
 
 // How many bits a layer's syndrome has.
@@ -170,7 +260,7 @@ fn syndrome_long_of(m: u32, r: u32) -> u32
 
 // The numbers that follow from m and r.
 fn shape_of(m: u32, r: u32) -> Shape
-    requires { ⌜ ((c : ℕ) × (m ≡ width c) × (r ≡ roots c)) ⌝ }
+    requires { ⌜ accepted m r ≡ true ⌝ }
     ensures { λ s. ⌜ Coded s × (s .m ≡ m) × (s .r ≡ r) ⌝ }
 {
     let n = long_of(m);

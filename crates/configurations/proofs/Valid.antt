@@ -9,7 +9,6 @@ use lib.Dec.{T, eqb→eq, lit≤}
 use borrow.Author.Tests.{eq-eqb}
 use Rattle.field.specs.Field.{width-good, xor, times, times-from, doubled, alpha, square}
 use Rattle.code.specs.Code.{code-good, width, roots, long, is-codeword}
-use Rattle.code.specs.Promise.{Codes-inside}
 use Rattle.split.specs.Split.{layer, numbered, cosets, syndromes, syndromes-from, layer-value, glued, valid, valid-at, all-below, padded}
 use Rattle.configurations.specs.Configurations.{Configuration, configurations, configuration, of-code-1, of-code-2, of-code-3, listed, leading, tuple}
 use Rattle.split.specs.Promise.{Glued-right, Syndrome-inside}
@@ -20,7 +19,7 @@ use Rattle.code.proofs.Promise.{codes, codes-inside}
 use Rattle.split.proofs.Layers.{below, all-of, layer-binary}
 use Rattle.split.proofs.Glue.{glued-right}
 use Rattle.split.proofs.Cosets.{syndrome-inside}
-use Rattle.split.proofs.Leaders.{le-or-lt}
+use Rattle.code.proofs.Accepted.{le-or-lt}
 use Rattle.configurations.proofs.Tuples.{configured, is-configuration, root-at, so}
 use Rattle.configurations.proofs.Listed.{listed-tuple}
 use Rattle.configurations.proofs.Tabled.{table-right}
@@ -188,7 +187,7 @@ unfolding syndromes
 syndromes-length m r ws = from-length m 0 m r ws
 
 pub codewords-configured : Codewords-configured
-unfolding Codewords-configured Glued-right Codes-inside syndromes
+unfolding Codewords-configured Glued-right syndromes
 codewords-configured c ws g n s =
     let m : ℕ = width c in
     let r : ℕ = roots c in

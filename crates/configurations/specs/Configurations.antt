@@ -1,20 +1,15 @@
 -- The valid configurations of each code, numbered from 0 (document 01, 'Split'). That these are the valid ones, all of them, in
 -- ascending order, is `Configurations-right`, so that a reader need not believe the formulas. Assumes nothing: these are definitions.
 use mathlib.Core.Path.{_≡_}
-use mathlib.Core.Bool.{true, cond}
+use mathlib.Core.Bool.{cond}
 use mathlib.Core.List.{List, [], _∷_, _++_}
 use Prim.Native.Nat.{ℕ, zero, suc, _+_, _*_, _/_, _%_, _^_, _<_}
 use lib.Dec.{eqb}
 use lib.ListN.{length, take, drop}
 use Rattle.field.specs.Field.{xor, times, alpha}
 use Rattle.code.specs.Code.{width, roots}
-use Rattle.split.specs.Split.{cosets, valid, all-below, padded}
-
--- a tuple of m syndromes that is valid
-pub record Configuration (m r : ℕ) (ss : List ℕ) : Type 0 where
-  pub count : length ss ≡ m
-  pub syndromes : all-below (cosets m r) ss ≡ true
-  pub is-valid : valid m r ss ≡ true
+use Rattle.split.specs.Split.{cosets, padded}
+pub use Rattle.split.specs.Split.{Configuration}
 
 -- how many there are: 8, 64, 256
 unfoldable pub configurations : (code : ℕ) → ℕ

@@ -58,7 +58,7 @@ module _ {s : Shape} {row : List ℤ} {hs zs os t : List ℕ} (z : Input s row) 
 
   -- what the walk asks
   pub tables-ok : Tables s hs zs os t
-  tables-ok = record { coded = z .coded; layers = b .layers; made = b .made; few = A.few z b; odd = odd; tuples = A.tuples-ok z b }
+  tables-ok = record { coded = z .coded; numbered = z .numbered; layers = b .layers; made = b .made; few = A.few z b; odd = odd; tuples = A.tuples-ok z b }
 
   least-small : least-total cap t (tuples-of s) (count-of s) < big
   least-small = rw (A.totals-are z b) (S.best-small c g row l hs zs os y big cap light)

@@ -6,7 +6,7 @@ ghost use lib.ListN.{length};
 ghost use Rattle.lanes.specs.Lanes.{row, rows, twofold, sum, less, put, put-two, limit, Small, Sums};
 
 // The less of two costs that are compared as signed numbers, for which the vector instructions have a minimum.
-fn min_of(a: u16, b: u16) -> u16
+pub fn min_of(a: u16, b: u16) -> u16
     requires { ⌜ (a < limit) × (b < limit) ⌝ }
     ensures { λ r. ⌜ r ≡ min a b ⌝ }
 {

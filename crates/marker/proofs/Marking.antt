@@ -7,7 +7,7 @@ use Rattle.code.specs.declared.Shape.{Shape}
 use Rattle.code.specs.Code.{is-codeword}
 use Rattle.code.specs.Bits.{row-long}
 use Rattle.code.proofs.Promise.{row-small}
-use Rattle.code.specs.Within.{Coded, Word-within}
+use Rattle.code.specs.Within.{Coded, Numbered, Word-within}
 use Rattle.code.proofs.Words.{Codeword-parts, codeword-parts}
 use Rattle.metric.specs.Metric.{metric, Greatest, Marked}
 use Rattle.metric.specs.Row.{row-bound}
@@ -88,8 +88,8 @@ module _ {s : Shape} {rs : List ℤ} {ws : List ℕ} (z : Coded s) (t : Mark-tak
   pub word-in : Word-within (s .m) (s .r) ws
   word-in = record { width = z .width-is; count = t .long-word; symbols = t .symbols; few = z .few }
 
-  pub judged : is-codeword (s .m) (s .r) ws ≡ true → Judged s rs ws
-  judged cw = record { input = record { coded = z; length-row = t .long-row; good-row = t .good-row }; codeword = cw }
+  pub judged : Numbered s → is-codeword (s .m) (s .r) ws ≡ true → Judged s rs ws
+  judged k cw = record { input = record { coded = z; numbered = k; length-row = t .long-row; good-row = t .good-row }; codeword = cw }
 
   few-entries : length rs ≤ 60
   few-entries = omega (arith, t .long-row, row-small (s .m) (z .width-is))

@@ -3,7 +3,8 @@
 use Rattle.basics.proofs.Kit.{_≡_, refl, true, false, List, _∷_, ℕ, ℤ, pos, negsuc}
 use lib.ListN.{replicate}
 use lib.Ieee.{Float, fin, binary32, ofBits, isNan}
-use Rattle.code.specs.Code.{code-good, number-refusal, width, long}
+use Rattle.field.specs.Field.{width-good}
+use Rattle.code.specs.Code.{code-good, number-refusal, parameter-refusal, width, long, message-long, bch-dimension, configuration-long, roots-good}
 use Rattle.code.specs.Bits.{row-long}
 use Rattle.quantiser.specs.Quantise.{rounded, quantised}
 use Rattle.refusal.specs.Refusal.{unless, first}
@@ -62,6 +63,9 @@ samples n b = replicate n (sample b)
 abbrev refused : (code : ℕ) → (samples : List Float) → (output : ℕ) → ℕ
 refused c xs o = first (number-refusal c) (quantise-refusal (width c) xs o)
 
+abbrev refused-by : (m r : ℕ) → (samples : List Float) → (output : ℕ) → ℕ
+refused-by m r xs o = first (parameter-refusal m r) (quantise-refusal m xs o)
+
 pub refusals :
     (refused 1 (samples 21 0x3f80_0000) 21 ≡ 0)
     × (refused 3 (samples 60 0x3f80_0000) 60 ≡ 0)
@@ -73,5 +77,11 @@ pub refusals :
     × (refused 1 (samples 21 0x7fc0_0000) 20 ≡ 4)  -- the lengths come before a NaN
     × (refused 1 (samples 21 0x7fc0_0000) 21 ≡ 7)
     × (refused 1 (sample 0xffff_ffff ∷ samples 20 0x3f80_0000) 21 ≡ 7)  -- another NaN's bits
-unfolding quantise-refusal number-refusal unless first has-nan code-good width long row-long isNan ofBits
-refusals = (refl, refl, refl, refl, refl, refl, refl, refl, refl, refl)
+    × (refused-by 4 4 (samples 60 0x3f80_0000) 60 ≡ 0)
+    × (refused-by 3 6 (samples 21 0x3f80_0000) 21 ≡ 0)
+    × (refused-by 5 9 (samples 20 0x3f80_0000) 20 ≡ 1)  -- m comes first
+    × (refused-by 3 7 (samples 20 0x3f80_0000) 20 ≡ 16)  -- then r
+    × (refused-by 4 3 (samples 20 0x3f80_0000) 20 ≡ 16)  -- or the product
+    × (refused-by 4 4 (samples 21 0x3f80_0000) 60 ≡ 2)
+unfolding quantise-refusal number-refusal parameter-refusal unless first has-nan code-good width long message-long bch-dimension configuration-long roots-good width-good row-long isNan ofBits
+refusals = (refl, refl, refl, refl, refl, refl, refl, refl, refl, refl, refl, refl, refl, refl, refl, refl)

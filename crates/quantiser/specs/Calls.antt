@@ -1,5 +1,5 @@
--- What `quantise` answers and leaves behind, for every input. Refusals in document 01's order: code 1; lengths 2, 4; samples 7.
--- Assumes nothing: these are definitions.
+-- What `quantise` answers and leaves behind, for every input; z is what the choice of the code is refused by. Refusals in document 01's order:
+-- code 1, 16; lengths 2, 4; samples 7. Assumes nothing: these are definitions.
 use mathlib.Core.Path.{_≡_}
 use mathlib.Core.Bool.{Bool, false, _||_, not}
 use mathlib.Core.List.{List, [], _∷_, map}
@@ -9,7 +9,6 @@ use lib.IntN.{ℤ}
 use lib.ListN.{length}
 use lib.Ieee.{Float, isNan}
 use Rattle.refusal.specs.Refusal.{unless, first, Outcome}
-use Rattle.code.specs.Code.{number-refusal, width}
 use Rattle.code.specs.Bits.{row-long}
 use Rattle.quantiser.specs.Quantise.{quantised}
 
@@ -26,5 +25,5 @@ quantise-refusal m xs o =
     (unless (not (has-nan xs)) 7 0))
 
 -- the row is the samples quantised, each in its place
-unfoldable pub Quantise-says : (code : ℕ) → (samples : List Float) → (answer : ℕ) → (row row-now : List ℤ) → Type 0
-Quantise-says c xs r o p = Outcome (first (number-refusal c) (quantise-refusal (width c) xs (length o))) r (p ≡ map quantised xs) (p ≡ o)
+unfoldable pub Quantise-says : (z m : ℕ) → (samples : List Float) → (answer : ℕ) → (row row-now : List ℤ) → Type 0
+Quantise-says z m xs r o p = Outcome (first z (quantise-refusal m xs (length o))) r (p ≡ map quantised xs) (p ≡ o)

@@ -1,7 +1,9 @@
 // The quantiser: 32-bit float samples to the reliabilities of a row.
-// `quantise` is offered to callers: it takes any input and promises what specs/Calls.antt says, each sample by specs/Quantise.antt.
+// `quantise`, with a code's number, and `quantise_by`, with its m and r, are offered to callers: they take any input and promise what
+// specs/Calls.antt says, each sample by specs/Quantise.antt.
 // For the crates above: `quantise_one` of a sample that is a number, and `any_nan`.
 // What a code is, and how long its row, is left to the crate `code`.
+use code::Chosen;
 use code::Shape;
 ghost use mathlib.Core.Path.{_≡_};
 ghost use mathlib.Core.Bool.{false};
@@ -10,6 +12,7 @@ ghost use Prim.Native.Nat.{_^_, _<_, _≤_, min};
 ghost use lib.IntN.{pos};
 ghost use lib.ListN.{length};
 ghost use lib.Ieee.{binary32, isNan, ofBits, nanBits};
+ghost use Rattle.code.specs.Code.{number-refusal, width, parameter-refusal};
 ghost use Rattle.code.specs.Within.{Coded};
 ghost use Rattle.quantiser.specs.Quantise.{clip, nearest, rounded, quantised};
 ghost use Rattle.quantiser.specs.Calls.{has-nan, quantise-refusal, Quantise-says};
@@ -116,9 +119,23 @@ fn fill(samples: &[f32], row: &mut [i16])
 
 // The n·m samples of a code's row to its reliabilities. Answers 0, or refuses by 1, 2, 4 or 7 and leaves the row as it was.
 pub fn quantise(code: u32, samples: &[f32], row: &mut [i16]) -> u32
-    ensures { λ r. ⌜ Quantise-says code (now (samples .entry)) r (now (row .entry)) (now (row .exit)) ⌝ }
+    ensures { λ r. ⌜ Quantise-says (number-refusal code) (width code) (now (samples .entry)) r (now (row .entry)) (now (row .exit)) ⌝ }
 {
-    let chosen = code::by_number(code);
+    quantise_in(code::by_number(code), samples, row)
+}
+
+// The same, by m and r: refuses by 16 too.
+pub fn quantise_by(m: u32, r: u32, samples: &[f32], row: &mut [i16]) -> u32
+    ensures { λ x. ⌜ Quantise-says (parameter-refusal m r) m (now (samples .entry)) x (now (row .entry)) (now (row .exit)) ⌝ }
+{
+    quantise_in(code::by_parameters(m, r), samples, row)
+}
+
+// `quantise` in a code that was chosen, or refused.
+fn quantise_in(chosen: Chosen, samples: &[f32], row: &mut [i16]) -> u32
+    requires { ⌜ Coded (chosen .shape) ⌝ }
+    ensures { λ r. ⌜ Quantise-says (chosen .number) (chosen .shape .m) (now (samples .entry)) r (now (row .entry)) (now (row .exit)) ⌝ }
+{
     let number = refusal::first(
         chosen.number,
         quantise_refusal(chosen.shape, samples, row.len()),

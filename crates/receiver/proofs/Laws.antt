@@ -10,8 +10,7 @@ use lib.Ieee.{Float, nan}
 use borrow.Author.Tests.{eq-eqb}
 use Rattle.refusal.specs.Refusal.{unless}
 use Rattle.refusal.proofs.Outcomes.{outcome-zero}
-use Rattle.refusal.proofs.Tests.{passed, first-none}
-use Rattle.code.specs.Code.{code-good, number-refusal, width}
+use Rattle.refusal.proofs.Tests.{first-none}
 use Rattle.code.specs.Bits.{row-long}
 use Rattle.metric.specs.Row.{row-bound, reliability-good, row-good}
 use Rattle.quantiser.specs.Quantise.{quantised}
@@ -26,19 +25,19 @@ use Rattle.receiver.proofs.Outcomes.{accepted}
 use Rattle.receiver.specs.Laws.{Received-taken, Singles-quantised, places-of, places, entry, Read-by-kinds, read, from, Read-once}
 
 -- what an accepted call says
-record Accepted (c : ℕ) (ks : List ℕ) (xs : List Float) (p : List ℤ) : Type 0 where
-  code : code-good c ≡ true
-  long : length p ≡ row-long (width c)
+record Accepted (z m : ℕ) (ks : List ℕ) (xs : List Float) (p : List ℤ) : Type 0 where
+  code : z ≡ 0
+  long : length p ≡ row-long m
   spent : total taken ks ≡ length xs
   row : p ≡ received-row (received ks xs)
 
-answered : (c : ℕ) (ks : List ℕ) (xs : List Float) (o p : List ℤ) → Receive-says c ks xs 0 o p → Accepted c ks xs p
-unfolding Receive-says number-refusal
-answered c ks xs o p s =
-    let z = outcome-zero _ _ _ s in
-    let n = first-none _ _ (z .0) in
+answered : (z m : ℕ) (ks : List ℕ) (xs : List Float) (o p : List ℤ) → Receive-says z m ks xs 0 o p → Accepted z m ks xs p
+unfolding Receive-says
+answered z m ks xs o p s =
+    let d = outcome-zero _ _ _ s in
+    let n = first-none _ _ (d .0) in
     let a = accepted _ _ _ _ (n .1) in
-    record { code = passed _ _ _ (n .0) .0; long = ap length (z .1) ∙ a .1 .filled ∙ a .0; spent = a .1 .spent; row = z .1 }
+    record { code = n .0; long = ap length (d .1) ∙ a .1 .filled ∙ a .0; spent = a .1 .spent; row = d .1 }
 
 -- ---- every entry is 0 or a quantised sample
 good : (ss : List Received) → row-good row-bound (received-row ss) ≡ true
@@ -51,7 +50,7 @@ good (Paired p ∷ ss) = rw (reliability (p .in_phase), reliability (p .quadratu
 
 pub received-taken : Received-taken
 unfolding Received-taken
-received-taken c ks xs o p s = let a = answered c ks xs o p s in (a .code, a .long, ap (row-good row-bound) (a .row) ∙ good (received ks xs))
+received-taken z m ks xs o p s = let a = answered z m ks xs o p s in (a .code, a .long, ap (row-good row-bound) (a .row) ∙ good (received ks xs))
 
 -- ---- single samples
 singles : (xs : List Float) → received-row (received (replicate (length xs) 2) xs) ≡ map quantised xs
@@ -79,7 +78,7 @@ singles-refused m xs o e = rw (singles-good (length xs), singles-fill (row-long 
 
 pub singles-quantised : Singles-quantised
 unfolding Singles-quantised Receive-says Quantise-says
-singles-quantised c xs r o p e s = rw (singles xs, singles-refused (width c) xs (length o) e) at s
+singles-quantised z m xs r o p e s = rw (singles xs, singles-refused m xs (length o) e) at s
 
 -- ---- the places that are read
 map-append : {A B : Type 0} (f : A → B) (a b : List A) → map f (a ++ b) ≡ map f a ++ map f b
@@ -102,7 +101,7 @@ rows-read xs (k ∷ ks) i =
 
 pub read-by-kinds : Read-by-kinds
 unfolding Read-by-kinds
-read-by-kinds c ks xs o p s = answered c ks xs o p s .row ∙ rows-read xs ks 0
+read-by-kinds z m ks xs o p s = answered z m ks xs o p s .row ∙ rows-read xs ks 0
 
 -- ---- each of them once
 symbol-once : (k i : ℕ) (ps : List (Option ℕ)) → read (places-of k i ++ ps) ≡ from (taken k) i ++ read ps
@@ -124,4 +123,4 @@ kinds-once (k ∷ ks) i = symbol-once k i _ ∙ ap (_++_ (from (taken k) i)) (ki
 
 pub read-once : Read-once
 unfolding Read-once
-read-once c ks xs o p s = kinds-once ks 0 ∙ ap (λ n. from n 0) (answered c ks xs o p s .spent)
+read-once z m ks xs o p s = kinds-once ks 0 ∙ ap (λ n. from n 0) (answered z m ks xs o p s .spent)

@@ -1,5 +1,5 @@
--- What `receive` answers and leaves behind, for every input. Refusals in this order: code 1; lengths 4; kinds 14, 15; samples 7.
--- Assumes nothing: these are definitions.
+-- What `receive` answers and leaves behind, for every input; z is what the choice of the code is refused by. Refusals in this order: code 1, 16;
+-- lengths 4; kinds 14, 15; samples 7. Assumes nothing: these are definitions.
 use mathlib.Core.Path.{_≡_}
 use mathlib.Core.Bool.{Bool, true, _&&_, not}
 use mathlib.Core.List.{List, [], _∷_}
@@ -9,7 +9,6 @@ use lib.IntN.{ℤ}
 use lib.ListN.{length}
 use lib.Ieee.{Float}
 use Rattle.refusal.specs.Refusal.{unless, first, Outcome}
-use Rattle.code.specs.Code.{number-refusal, width}
 use Rattle.code.specs.Bits.{row-long}
 use Rattle.quantiser.specs.Calls.{has-nan}
 use Rattle.receiver.specs.Receive.{taken, total, received, received-row}
@@ -32,6 +31,5 @@ receive-refusal m ks xs o =
     (unless (not (has-nan xs)) 7 0)))
 
 -- the row is that of the received symbols
-unfoldable pub Receive-says : (code : ℕ) → (kinds : List ℕ) → (samples : List Float) → (answer : ℕ) → (row row-now : List ℤ) → Type 0
-Receive-says c ks xs r o p =
-    Outcome (first (number-refusal c) (receive-refusal (width c) ks xs (length o))) r (p ≡ received-row (received ks xs)) (p ≡ o)
+unfoldable pub Receive-says : (z m : ℕ) → (kinds : List ℕ) → (samples : List Float) → (answer : ℕ) → (row row-now : List ℤ) → Type 0
+Receive-says z m ks xs r o p = Outcome (first z (receive-refusal m ks xs (length o))) r (p ≡ received-row (received ks xs)) (p ≡ o)

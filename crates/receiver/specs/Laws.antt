@@ -7,7 +7,6 @@ use Prim.Native.Nat.{ℕ, zero, suc, _+_}
 use lib.IntN.{ℤ, pos}
 use lib.ListN.{length, getD, replicate}
 use lib.Ieee.{Float, nan}
-use Rattle.code.specs.Code.{code-good, width}
 use Rattle.code.specs.Bits.{row-long}
 use Rattle.metric.specs.Row.{row-bound, row-good}
 use Rattle.quantiser.specs.Quantise.{quantised}
@@ -15,17 +14,17 @@ use Rattle.quantiser.specs.Calls.{Quantise-says}
 use Rattle.receiver.specs.Receive.{taken}
 use Rattle.receiver.specs.Calls.{Receive-says}
 
--- an accepted call leaves a row that the decoder and the marker take
+-- an accepted call has a code, and leaves a row that the decoder and the marker take
 unfoldable pub Received-taken : Type 0
 Received-taken =
-    (c : ℕ) (ks : List ℕ) (xs : List Float) (o p : List ℤ) → Receive-says c ks xs 0 o p →
-    (code-good c ≡ true) × (length p ≡ row-long (width c)) × (row-good row-bound p ≡ true)
+    (z m : ℕ) (ks : List ℕ) (xs : List Float) (o p : List ℤ) → Receive-says z m ks xs 0 o p →
+    (z ≡ 0) × (length p ≡ row-long m) × (row-good row-bound p ≡ true)
 
 -- where every symbol is a single sample, and there are n·m of them, the call does what `quantise` does
 unfoldable pub Singles-quantised : Type 0
 Singles-quantised =
-    (c : ℕ) (xs : List Float) (r : ℕ) (o p : List ℤ) → length xs ≡ row-long (width c) →
-    Receive-says c (replicate (length xs) 2) xs r o p → Quantise-says c xs r o p
+    (z m : ℕ) (xs : List Float) (r : ℕ) (o p : List ℤ) → length xs ≡ row-long m →
+    Receive-says z m (replicate (length xs) 2) xs r o p → Quantise-says z m xs r o p
 
 -- which samples are read, in the order of the row's entries: the place of the sample, or none for a lost bit. No sample is named here
 unfoldable pub places-of : (kind at : ℕ) → List (Option ℕ)
@@ -44,7 +43,7 @@ entry xs none = pos 0
 entry xs (some i) = quantised (getD xs i nan)
 
 unfoldable pub Read-by-kinds : Type 0
-Read-by-kinds = (c : ℕ) (ks : List ℕ) (xs : List Float) (o p : List ℤ) → Receive-says c ks xs 0 o p → p ≡ map (entry xs) (places ks 0)
+Read-by-kinds = (z m : ℕ) (ks : List ℕ) (xs : List Float) (o p : List ℤ) → Receive-says z m ks xs 0 o p → p ≡ map (entry xs) (places ks 0)
 
 -- the places that are read, and so many numbers from one on
 unfoldable pub read : List (Option ℕ) → List ℕ
@@ -58,4 +57,4 @@ from (suc n) i = i ∷ from n (i + 1)
 
 -- every sample is read once, in order
 unfoldable pub Read-once : Type 0
-Read-once = (c : ℕ) (ks : List ℕ) (xs : List Float) (o p : List ℤ) → Receive-says c ks xs 0 o p → read (places ks 0) ≡ from (length xs) 0
+Read-once = (z m : ℕ) (ks : List ℕ) (xs : List Float) (o p : List ℤ) → Receive-says z m ks xs 0 o p → read (places ks 0) ≡ from (length xs) 0

@@ -1,11 +1,14 @@
 // The receiver: symbols that come lost, as one sample or as a pair of samples, to the reliabilities of a row.
-// `receive` is offered to callers: it takes any input and promises what specs/Calls.antt says, each symbol by specs/Receive.antt.
+// `receive`, with a code's number, and `receive_by`, with its m and r, are offered to callers: they take any input and promise what
+// specs/Calls.antt says, each symbol by specs/Receive.antt.
 // What a code is, and how long its row, is left to the crate `code`; the reliability of a sample to the crate `quantiser`.
+use code::Chosen;
 use code::Shape;
 ghost use mathlib.Core.Path.{_≡_};
 ghost use mathlib.Core.List.{[], _∷_};
 ghost use Prim.Native.Nat.{_≤_};
 ghost use lib.ListN.{length};
+ghost use Rattle.code.specs.Code.{number-refusal, width, parameter-refusal};
 ghost use Rattle.code.specs.Within.{Coded};
 ghost use Rattle.receiver.specs.Receive.{symbol, taken, total, received, reliabilities-of, received-row};
 ghost use Rattle.receiver.specs.Calls.{kinds-good, fills, receive-refusal, Receive-says};
@@ -187,9 +190,23 @@ fn fill(kinds: &[u8], samples: &[f32], row: &mut [i16])
 // The received symbols of a code's row to its reliabilities: kinds 0 to 3 stand for a symbol lost with one bit, lost with two, a single
 // sample and a pair. Answers 0, or refuses by 1, 4, 14, 15 or 7 and leaves the row as it was.
 pub fn receive(code: u32, kinds: &[u8], samples: &[f32], row: &mut [i16]) -> u32
-    ensures { λ r. ⌜ Receive-says code (now (kinds .entry)) (now (samples .entry)) r (now (row .entry)) (now (row .exit)) ⌝ }
+    ensures { λ r. ⌜ Receive-says (number-refusal code) (width code) (now (kinds .entry)) (now (samples .entry)) r (now (row .entry)) (now (row .exit)) ⌝ }
 {
-    let chosen = code::by_number(code);
+    receive_in(code::by_number(code), kinds, samples, row)
+}
+
+// The same, by m and r: refuses by 16 too.
+pub fn receive_by(m: u32, r: u32, kinds: &[u8], samples: &[f32], row: &mut [i16]) -> u32
+    ensures { λ x. ⌜ Receive-says (parameter-refusal m r) m (now (kinds .entry)) (now (samples .entry)) x (now (row .entry)) (now (row .exit)) ⌝ }
+{
+    receive_in(code::by_parameters(m, r), kinds, samples, row)
+}
+
+// `receive` in a code that was chosen, or refused.
+fn receive_in(chosen: Chosen, kinds: &[u8], samples: &[f32], row: &mut [i16]) -> u32
+    requires { ⌜ Coded (chosen .shape) ⌝ }
+    ensures { λ r. ⌜ Receive-says (chosen .number) (chosen .shape .m) (now (kinds .entry)) (now (samples .entry)) r (now (row .entry)) (now (row .exit)) ⌝ }
+{
     let number = refusal::first(
         chosen.number,
         receive_refusal(chosen.shape, kinds, samples, row.len()),

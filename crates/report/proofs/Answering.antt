@@ -6,8 +6,7 @@ use Rattle.refusal.specs.Refusal.{unless}
 use Rattle.code.specs.declared.Chosen.{Chosen}
 use Rattle.code.specs.Code.{width, roots, long, is-codeword}
 use Rattle.code.specs.Bits.{row-long}
-use Rattle.code.specs.Within.{Chosen-says}
-use Rattle.code.proofs.Promise.{of-shape, of-number}
+use Rattle.code.proofs.Promise.{of-shape, of-number, By-number, by-number-m, by-number-r, has-number}
 use Rattle.metric.specs.Metric.{Greatest, Decoded, Marked}
 use Rattle.metric.proofs.Promise.{decoded-greatest}
 use Rattle.decoder.specs.Within.{Accepted}
@@ -30,30 +29,30 @@ pub record Decoded-question (q : Question) (best : ℤ) (soft : List ℤ) : Type
   pub word : List ℕ
   pub decoded : Decoded (width (q .code)) (is-codeword (width (q .code)) (roots (q .code))) (q .row) word best soft
 
-module _ {q : Question} {lb ls : ℕ} (h : Holds q lb ls) {a : Chosen} (c : Chosen-says (q .code) a) where
+module _ {q : Question} {lb ls : ℕ} (h : Holds q lb ls) {a : Chosen} (c : By-number (q .code) a) where
   -- nothing is refused
   pub accepted : Accepted (a .shape) (q .row) lb ls
   unfolding row-long
   accepted =
       let g = good-parts reliabilities q (h .good) in let z = c .coded in
-      let n : long (width (q .code)) ≡ a .shape .n = ap long (sym (c .m-is)) ∙ sym (z .n-is) in
+      let n : long (width (q .code)) ≡ a .shape .n = ap long (sym (by-number-m (q .code) c)) ∙ sym (z .n-is) in
       record {
-        input = record { coded = z; length-row = g .row-length ∙ ap row-long (sym (c .m-is)); good-row = g .row-fine };
+        input = record { coded = z; numbered = has-number (q .code) c (g .known); length-row = g .row-length ∙ ap row-long (sym (by-number-m (q .code) c)); good-row = g .row-fine };
         long-word = h .best-is ∙ n;
-        long-soft = h .soft-is ∙ ap₂ _*_ n (sym (c .m-is));
+        long-soft = h .soft-is ∙ ap₂ _*_ n (sym (by-number-m (q .code) c));
       }
 
   pub answered : {w : List ℕ} {d g : ℤ} {so : List ℤ} → g ≡ d → Decoded (a .shape .m) (is-codeword (a .shape .m) (a .shape .r)) (q .row) w d so → Decoded-question q g so
-  answered {w} e x = record { good = good-parts reliabilities q (h .good); word = w; decoded = decoded-as (c .m-is) (c .r-is) e x }
+  answered {w} e x = record { good = good-parts reliabilities q (h .good); word = w; decoded = decoded-as (by-number-m (q .code) c) (by-number-r (q .code) c) e x }
 
 module _ {q : Question} {g : ℤ} {so : List ℤ} (x : Decoded-question q g so) where
-  module _ {a : Chosen} (c : Chosen-says (q .code) a) where
+  module _ {a : Chosen} (c : By-number (q .code) a) where
     -- the marker takes its word, and the decoder has found the best metric
     pub taken : (mark-refusal (a .shape .m) (q .row) (q .word) ≡ 0) × Greatest (a .shape .m) (is-codeword (a .shape .m) (a .shape .r)) (q .row) g
     unfolding mark-refusal unless
     taken =
         let f = x .good in
-        of-shape (λ m r. (mark-refusal m (q .row) (q .word) ≡ 0) × Greatest m (is-codeword m r) (q .row) g) (c .m-is) (c .r-is)
+        of-shape (λ m r. (mark-refusal m (q .row) (q .word) ≡ 0) × Greatest m (is-codeword m r) (q .row) g) (by-number-m (q .code) c) (by-number-r (q .code) c)
         (rw (eq-eqb _ _ (f .row-length), eq-eqb _ _ (f .word-length), f .row-fine, f .word-fine), decoded-greatest _ _ _ (x .word) _ so (x .decoded))
 
     pub line : (k : Mark) {d : ℤ} → Verdict (a .shape .m) (a .shape .r) (q .row) (q .word) k → d ≡ k .shortfall →
@@ -66,7 +65,7 @@ module _ {q : Question} {g : ℤ} {so : List ℤ} (x : Decoded-question q g so) 
           decoded = x .decoded;
           verdict = k .verdict;
           shortfall = d;
-          marked = rw e (of-number (λ m r. Marked (k .verdict) (k .shortfall) m (is-codeword m r) (q .row) (q .word)) (c .m-is) (c .r-is) (v .0));
+          marked = rw e (of-number (λ m r. Marked (k .verdict) (k .shortfall) m (is-codeword m r) (q .row) (q .word)) (by-number-m (q .code) c) (by-number-r (q .code) c) (v .0));
           text-is = refl;
         }
 

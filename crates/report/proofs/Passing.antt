@@ -9,7 +9,7 @@ use borrow.Author.Tests.{eq-eqb}
 use lib.ListN.{length-drop}
 use lib.Seq.{take-all}
 use Rattle.code.specs.declared.Chosen.{Chosen}
-use Rattle.code.specs.Within.{Chosen-says}
+use Rattle.code.proofs.Promise.{By-number, by-number-m}
 use Rattle.sheet.specs.Sheet.{Question, question, reliabilities, head-code, low, as-words, question-in, question-good, all-good, questions}
 use Rattle.sheet.proofs.Items.{both}
 use Rattle.sheet_reader.specs.declared.Step.{Step}
@@ -64,9 +64,9 @@ module _ {bs : List ℕ} {i at b o : ℕ} {s : Step} {rs rs' : List ℤ} {ws ws'
 
 -- ---- its buffers
 pub rooms :
-    (bs : List ℕ) (at : ℕ) {w c k n b d : ℕ} {a : Chosen} → w ≡ getD (as-words bs) at 0 → c ≡ head-code w → Chosen-says c a →
+    (bs : List ℕ) (at : ℕ) {w c k n b d : ℕ} {a : Chosen} → w ≡ getD (as-words bs) at 0 → c ≡ head-code w → By-number c a →
     k ≡ a .shape .bits → n ≡ a .shape .n → b ≡ a .shape .n → d ≡ a .shape .bits → Rooms (code-at bs at) k n b d
-rooms bs at ew ec x p q r t = let z = x .coded in record { row-is = (cc); word-is = (cc); best-is = (cc); soft-is = (cc) }
+rooms bs at {w} {c} ew ec x p q r t = let z = x .coded in let e = by-number-m c x in record { row-is = (cc); word-is = (cc); best-is = (cc); soft-is = (cc) }
 
 -- ---- the next of an accepted sheet
 good-at : (qs rest : List Question) (q : Question) (i : ℕ) → all-good reliabilities qs ≡ true → drop i qs ≡ q ∷ rest → question-good reliabilities q ≡ true

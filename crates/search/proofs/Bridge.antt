@@ -12,7 +12,6 @@ use Rattle.field.proofs.Tests.{widths}
 use Rattle.field.proofs.Xor as X
 use Rattle.code.specs.Code.{code-good, width, roots, long, is-codeword}
 use Rattle.code.specs.Bits.{row-long}
-use Rattle.code.specs.Promise.{Codes-inside}
 use Rattle.code.proofs.Promise.{codes-inside}
 use Rattle.code.proofs.Words.{Below, widen, good, Codeword-parts, codeword-parts}
 use Rattle.split.specs.Split.{layer, syndrome, columns-from, syndromes, padded, Binary}
@@ -105,7 +104,6 @@ module _ (c : ℕ) (g : code-good c ≡ true) (rs : List ℤ) (l : length rs ≡
   r = roots c
 
   w : width-good (width c) ≡ true
-  unfolding Codes-inside
   w = codes-inside c g .0
 
   abbrev L : ℕ → Columns

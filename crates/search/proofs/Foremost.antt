@@ -8,7 +8,6 @@ use Rattle.order.specs.Number.{number}
 use Rattle.order.proofs.Numbers.{number-le, le-number}
 use Rattle.field.proofs.Tests.{widths}
 use Rattle.code.specs.Code.{code-good, width, roots, is-codeword}
-use Rattle.code.specs.Promise.{Codes-inside}
 use Rattle.code.proofs.Promise.{codes-inside}
 use Rattle.code.specs.Bits.{row-long}
 use Rattle.code.proofs.Words.{Below, widen, Codeword-parts, codeword-parts}
@@ -77,7 +76,6 @@ module _ (c : ℕ) (g : code-good c ≡ true) (rs : List ℤ) (l : length rs ≡
   numbers s = sum4 (λ j. weighed j (first j (s j)))
 
   small-symbols : (ws : List ℕ) → is-codeword (width c) (roots c) ws ≡ true → Below 16 ws
-  unfolding Codes-inside
   small-symbols ws cw = widths (λ (m : ℕ). Below (2 ^ m) ws → Below 16 ws) (widen (omega arith) ws) (λ b. b) (width c) (codes-inside c g .0) (codeword-parts (width c) (roots c) ws cw .symbols)
 
   -- the number of the word of first words

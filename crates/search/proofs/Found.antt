@@ -10,7 +10,7 @@ use Rattle.field.specs.Field.{width-good}
 use Rattle.field.proofs.Tests.{widths}
 use Rattle.code.specs.Code.{code-good, width, roots, long, is-codeword}
 use Rattle.code.specs.Bits.{bit-at, row-long}
-use Rattle.code.specs.Promise.{Codes-inside, Both-there}
+use Rattle.code.specs.Promise.{Both-there}
 use Rattle.code.proofs.Promise.{codes-inside}
 use Rattle.code.proofs.Both.{both-there}
 use Rattle.code.proofs.Words.{Below, Codeword-parts, codeword-parts}
@@ -52,7 +52,7 @@ at-held i v p (x ∷ xs) b f = (go (eqb p i) refl, at-held i v (suc p) xs (b .1)
 -- some codeword has v at a bit
 some-with : (c : ℕ) → code-good c ≡ true → (b : ℕ) → b < row-long (width c) → (v : ℕ) → v < 2 →
     (ws : List ℕ) × (is-codeword (width c) (roots c) ws ≡ true) × (bit-at (width c) b ws ≡ v)
-unfolding Both-there Codes-inside
+unfolding Both-there
 some-with c g b h zero hv = both-there (width c) (roots c) b (codes-inside c g .0) (codes-inside c g .2) h .0
 some-with c g b h (suc zero) hv = both-there (width c) (roots c) b (codes-inside c g .0) (codes-inside c g .2) h .1
 some-with c g b h (suc (suc v)) hv = absurd (omega arith)
@@ -60,7 +60,6 @@ some-with c g b h (suc (suc v)) hv = absurd (omega arith)
 module _ (c : ℕ) (g : code-good c ≡ true) (rs : List ℤ) (l : length rs ≡ row-long (width c)) (hs zs os : List ℕ) (y : Spelt (width c) (roots c) rs hs zs os) (big cap : ℕ)
     (light : weight-of rs < big) where
   w : width-good (width c) ≡ true
-  unfolding Codes-inside
   w = codes-inside c g .0
 
   -- the tables of the layers

@@ -16,7 +16,7 @@ use Rattle.field.specs.Field.{width-good}
 use Rattle.field.proofs.Tests.{all, at, and-l, and-r, widths}
 use Rattle.code.specs.declared.Shape.{Shape}
 use Rattle.code.specs.Code.{width, roots, long}
-use Rattle.code.specs.Within.{Coded}
+use Rattle.code.specs.Within.{Coded, Numbered}
 use Rattle.split.specs.Split.{column}
 use Rattle.metric.specs.Cost.{costZero, costOne}
 use Rattle.lanes.proofs.Rows.{four}
@@ -85,8 +85,8 @@ headed m r hs t =
     }
 
 -- those of the code that a shape turns out to be, in a longer table
-pub headed-as : {s : Shape} → (z : Coded s) (d : ℕ) → z .code ≡ d → (hs : List ℕ) → T (columns (width d) (roots d) (take (long (width d)) hs)) → Headed (s .m) (s .r) (take (s .n) hs)
-headed-as z d e hs t = rw (z .n-is, z .m-is, z .r-is, e) (headed (width d) (roots d) (take (long (width d)) hs) t)
+pub headed-as : {s : Shape} → Coded s → (k : Numbered s) (d : ℕ) → k .code ≡ d → (hs : List ℕ) → T (columns (width d) (roots d) (take (long (width d)) hs)) → Headed (s .m) (s .r) (take (s .n) hs)
+headed-as z k d e hs t = rw (z .n-is, k .m-is, k .r-is, e) (headed (width d) (roots d) (take (long (width d)) hs) t)
 
 pub long-le : (m : ℕ) → width-good m ≡ true → long m ≤ 15
 unfolding long

@@ -70,7 +70,7 @@ module _ {s : Shape} {row : List ℤ} {hs zs os t : List ℕ} (z : Input s row) 
   c = number-of s
 
   pub k : Numbered-as s c
-  k = numbered (z .coded)
+  k = numbered (z .numbered)
 
   abbrev pub g : code-good c ≡ true
   g = k .good

@@ -6,7 +6,7 @@ use lib.Seq.{getD-take}
 use Rattle.field.proofs.Tests.{widths}
 use Rattle.code.specs.declared.Shape.{Shape}
 use Rattle.code.specs.Code.{width, roots, long, syndrome-long}
-use Rattle.code.specs.Within.{Coded}
+use Rattle.code.specs.Within.{Coded, Numbered}
 use Rattle.code.proofs.Promise.{codes}
 use Rattle.code.specs.Bits.{row-long}
 use Rattle.split.specs.Split.{cosets}
@@ -22,34 +22,34 @@ use Rattle.search.specs.Within.{reliability, top, big, Spelt, Headed, Co
 room-of : (c : ℕ) → ℕ
 room-of c = let size = 2 ^ syndrome-long (width c) (roots c) in long (width c) * (size * 4) + size * 4
 
-room-is : {s : Shape} → (z : Coded s) → s .n * (s .size * 4) + s .size * 4 ≡ room-of (z .code)
+room-is : {s : Shape} → (z : Coded s) (k : Numbered s) → s .n * (s .size * 4) + s .size * 4 ≡ room-of (k .code)
 unfolding room-of
-room-is z = rw (z .size-is, z .q-is, z .n-is, z .m-is, z .r-is) refl
+room-is z k = rw (z .size-is, z .q-is, z .n-is, k .m-is, k .r-is) refl
 
-pub size-small : {s : Shape} → Coded s → s .size ≤ 64
+pub size-small : {s : Shape} → Coded s → Numbered s → s .size ≤ 64
 unfolding width roots
-size-small z =
-    rw (z .size-is, z .q-is, z .m-is, z .r-is) (codes (λ c. 2 ^ syndrome-long (width c) (roots c) ≤ 64) (omega arith) (omega arith) (omega arith) (z .code) (z .code-is))
+size-small z k =
+    rw (z .size-is, z .q-is, k .m-is, k .r-is) (codes (λ c. 2 ^ syndrome-long (width c) (roots c) ≤ 64) (omega arith) (omega arith) (omega arith) (k .code) (k .code-is))
 
 -- room filled with a number, of which a part is lent
 pub filled : (v k i : ℕ) → k ≤ 256 → i < k → getD (take k (replicate 256 v)) i 0 ≡ v
 filled v k i h l = getD-take k (replicate 256 v) i 0 l ∙ getD-replicate 256 i v 0 (omega arith)
 
 -- by how many syndromes a layer has
-states : {s : Shape} → (z : Coded s) → s .size ≡ 2 ^ syndrome-long (width (z .code)) (roots (z .code))
-states z = rw (z .size-is, z .q-is, z .m-is, z .r-is) refl
+states : {s : Shape} → (z : Coded s) (k : Numbered s) → s .size ≡ 2 ^ syndrome-long (width (k .code)) (roots (k .code))
+states z k = rw (z .size-is, z .q-is, k .m-is, k .r-is) refl
 
 abbrev pub Rooms : (size room : ℕ) → Type 0
 Rooms size room = (size ≡ 8 → room ≡ 256) × (size ≡ 16 → room ≡ 1024) × ((size ≡ 8 → ⊥) → (size ≡ 16 → ⊥) → room ≡ 2048)
 
-pub rooms : {s : Shape} → Coded s → Rooms (s .size) (s .n * (s .size * 4) + s .size * 4)
+pub rooms : {s : Shape} → Coded s → Numbered s → Rooms (s .size) (s .n * (s .size * 4) + s .size * 4)
 unfolding room-of width roots long
-rooms z =
-    rw (room-is z, states z)
+rooms z k =
+    rw (room-is z k, states z k)
     (codes (λ c. Rooms (2 ^ syndrome-long (width c) (roots c)) (room-of c))
     ((λ e. refl), (λ e. absurd (omega arith)), (λ e f. absurd (e refl)))
     ((λ e. absurd (omega arith)), (λ e. absurd (omega arith)), (λ e f. refl))
-    ((λ e. absurd (omega arith)), (λ e. refl), (λ e f. absurd (f refl))) (z .code) (z .code-is))
+    ((λ e. absurd (omega arith)), (λ e. refl), (λ e f. absurd (f refl))) (k .code) (k .code-is))
 
 module _ {s : Shape} {row : List ℤ} (z : Input s row) where
   pub short : s .n ≤ 15

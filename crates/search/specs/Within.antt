@@ -10,7 +10,7 @@ use lib.IntN.{ℤ, pos}
 use Rattle.field.specs.Field.{width-good}
 use Rattle.code.specs.declared.Shape.{Shape}
 use Rattle.code.specs.Code.{long}
-use Rattle.code.specs.Within.{Coded, number-of}
+use Rattle.code.specs.Within.{Coded, Numbered, number-of}
 use Rattle.code.specs.Bits.{row-long}
 use Rattle.split.specs.Split.{column}
 use Rattle.configurations.specs.Configurations.{configurations, listed}
@@ -92,6 +92,7 @@ pub record Symbol (top : ℕ) (z o : List ℕ) : Type 0 where
 -- a code and an accepted row of it
 pub record Input (s : Shape) (row : List ℤ) : Type 0 where
   pub coded : Coded s
+  pub numbered : Numbered s
   pub length-row : length row ≡ row-long (s .m)
   pub good-row : row-good row-bound row ≡ true
 
@@ -117,6 +118,7 @@ count-of s = configurations (number-of s)
 -- the tables by what they are made of, for the walk
 pub record Tables (s : Shape) (hs zs os t : List ℕ) : Type 0 where
   pub coded : Coded s
+  pub numbered : Numbered s
   pub layers : Layers (s .q) (s .size) top hs zs os
   pub made : Made (s .size) big hs zs os 0 t
   pub few : length hs ≤ 15

@@ -10,7 +10,7 @@ ghost use mathlib.Core.Bool.{true};
 ghost use Prim.Native.Nat.{ℕ, _+_, _*_, _/_, _%_, _^_, _<_, _≤_};
 ghost use lib.ListN.{length, getD, take};
 ghost use Rattle.field.specs.Field.{width-good};
-ghost use Rattle.code.specs.Within.{Coded};
+ghost use Rattle.code.specs.Within.{Coded, Numbered};
 ghost use Rattle.metric.specs.Row.{row-bound, reliability-good, row-good};
 ghost use Rattle.metric.specs.Cost.{costZero, costOne, weight-of};
 ghost use Rattle.lanes.specs.Lanes.{lane, put-four};
@@ -28,7 +28,7 @@ pub const CAP: u16 = 2 * BIG + 15 * TOP;
 
 // The columns of a code: the syndromes that a 1 adds at each position. There are n; what follows them says nothing.
 pub fn columns(shape: Shape) -> [u16; 15]
-    requires { ⌜ Coded shape ⌝ }
+    requires { ⌜ Coded shape × Numbered shape ⌝ }
     ensures { λ x. ⌜ Headed (shape .m) (shape .r) (take (shape .n) x) ⌝ }
 {
     if shape.m == 4 {

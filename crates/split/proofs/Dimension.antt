@@ -7,15 +7,15 @@ use lib.Dec.{T, eqb→eq, leb→le}
 use lib.ListN.{replicate, length-append, take-append-drop}
 use lib.Seq.{drop-at, length-take-le}
 use Rattle.field.specs.Field.{xor, doubled, alpha, width-good}
-use Rattle.code.specs.Code.{width, roots, long, syndrome-long}
+use Rattle.code.specs.Code.{width, roots, long, syndrome-long, bch-dimension}
 use Rattle.code.specs.Bits.{bits-of}
-use Rattle.split.specs.Split.{number, column, columns-from, bch-dimension, Binary, Bch-ending, sum}
+use Rattle.split.specs.Split.{number, column, columns-from, Binary, Bch-ending, sum}
 use Rattle.split.specs.Promise.{Syndrome-columns, Bch-dimension, Bch-dimensions}
 use Rattle.field.proofs.Tests.{all, at, and-l, and-r, to-T, widths}
 use Rattle.field.proofs.Xor as X
 use Rattle.code.proofs.Words.{Below}
 use Rattle.split.proofs.Layers as L
-use Rattle.split.proofs.Leaders.{bits-below}
+use Rattle.split.proofs.Numbers.{bits-below}
 use Rattle.split.proofs.Columns.{columns-add, syndrome-columns}
 
 -- THE TESTS. No sum of some of so many columns from position i on is s; and none of these columns is a sum of later ones
@@ -197,4 +197,4 @@ bch-dimension-right m r ds w h n p = let b = L.below 2 ds (to-T p) in (made m r 
 
 pub bch-dimensions : Bch-dimensions
 unfolding Bch-dimensions bch-dimension width roots long
-bch-dimensions = (refl, refl, refl)
+bch-dimensions = (refl, refl, refl, refl, refl)

@@ -1,171 +1,374 @@
--- Each coset of the three codes has one leader. The BCH codes of document 01 are perfect: with t = 1, 3, 1 each coset has exactly one
--- word of weight t or less. So one test over a table of leaders, at the words of weight t or less and at the syndromes, shows both.
+-- Each coset has one leader. The heads give a member of it and the rows every BCH word, so that their sums are all its members: the least of them
+-- by weight and number leads, and no other can.
 -- Assumes nothing.
-use Rattle.basics.proofs.Kit.{_≡_, refl, sym, ap, ap₂, _∙_, Bool, true, false, _&&_, not, cond, List, [], _∷_, ℕ, zero, suc, _+_, _*_, _/_, _%_, _≤_, _<_, arith, length, getD, set, eqb, leb}
-use mathlib.Core.Path.{subst}
+use Rattle.basics.proofs.Kit.{_≡_, refl, sym, ap, ap₂, _∙_, Bool, true, false, _&&_, cond, List, [], _∷_, ℕ, zero, suc, _+_, _-_, _*_, _/_, _%_, _^_, _≤_, _<_, arith, length, drop, eqb, ltb}
+use native.Mathlib.Nat.{not-suc-le-zero, le-refl, le-trans, le-antisymm, eq-or-lt-of-le, le-of-suc-le-suc, lt-of-lt-of-le, mod-lt, zero-lt-suc, zero-mul, add-zero, mul-one, mul-comm, mul-assoc, suc-mul, pow-suc, pow-succ', div-eq-of-lt}
+use native.Mathlib.Numerals.{add-one}
+use lib.Pow.{pow-pos, pow-mono, shr-lt}
+use mathlib.Core.List.{map}
 use mathlib.Core.Logic.{_⊎_, inl, inr}
-use lib.Dec.{T, eqb→eq, leb→le, nleb→lt}
-use lib.ListN.{replicate}
+use lib.Bits as B
+use lib.Count.{ones}
+use lib.Dec.{T, eqb→eq, lit≤}
+use lib.ListN.{replicate, length-drop, length-map}
+use borrow.Author.Tests.{ltb-true, ltb-false}
 use Rattle.field.specs.Field.{width-good, xor, times, times-from, doubled, alpha}
-use Rattle.code.specs.Code.{code-good, width, roots, long, value-from, value-at}
-use Rattle.code.specs.Promise.{Codes-inside}
+use Rattle.field.proofs.Tests.{widths, and-l, and-r}
+use Rattle.field.proofs.Xor as X
+use Rattle.code.specs.Code.{long, message-long, value-from, value-at, syndrome-long, bch-dimension, configuration-long, roots-good, accepted}
 use Rattle.code.specs.Bits.{bits-of}
+use Rattle.code.proofs.Words.{Below, drop-below}
+use Rattle.code.proofs.Accepted.{accepted-parts, at-each, syndrome-room}
+use Rattle.split.specs.Split.{number, syndrome, cosets, Binary, Leader, weight, word-number, sum, all-below, Bch-ending}
 use Rattle.code.specs.declared.Shape.{Shape}
 use Rattle.split.specs.Within.{Coset}
-use Rattle.split.specs.Split.{number, syndrome, cosets, Binary, Leader, weight}
-use Rattle.split.specs.Promise.{Syndrome-inside, Leader-there, One-leader}
-use Rattle.field.proofs.Tests.{all, at, and-l, and-r}
-use Rattle.code.proofs.Words.{Below}
-use Rattle.code.proofs.Promise.{codes, codes-inside}
+use Rattle.split.specs.Members.{where-odd, picked, rank, lower, least-rank, foremost}
+use Rattle.split.specs.Promise.{Bch-dimension, Sum-is-bch, Leader-there, One-leader}
 use Rattle.split.proofs.Layers as L
-use Rattle.split.proofs.Cosets.{syndrome-inside}
+use Rattle.split.proofs.Numbers.{bits-binary, half-lt, bits-number, number-lt, number-bits, weight-ones, bits-xor, drop-bits, sum-cancel, drop-sum}
+use Rattle.split.proofs.Columns.{syndrome-sum}
+use Rattle.split.proofs.Cosets.{sum-is-bch}
+use Rattle.split.proofs.Dimension.{bch-dimension-right}
 
--- a binary word as a number, bit i of position i
-unfoldable pub mask : List ℕ → ℕ
-mask [] = 0
-mask (b ∷ bs) = b + 2 * mask bs
+-- a word is known by its syndrome and its last bits
+pub same-word : (m r : ℕ) (bs ds : List ℕ) → width-good m ≡ true → r ≤ 6 → Binary m bs → Binary m ds → syndrome m r ds ≡ syndrome m r bs →
+    drop (syndrome-long m r) ds ≡ drop (syndrome-long m r) bs → ds ≡ bs
+unfolding Bch-dimension Sum-is-bch bch-dimension
+same-word m r bs ds w h p q e f =
+    let k : ℕ = syndrome-long m r in
+    let n : length bs ≡ length ds = p .count ∙ sym (q .count) in
+    let b : Binary m (sum bs bs) = L.sum-binary m bs bs p p in
+    let one : Bch-ending m r (drop k (sum bs bs)) (sum bs ds) = record {
+      binary = L.sum-binary m bs ds p q;
+      of-code = sum-is-bch m r bs ds w p q e;
+      ends = drop-sum k bs ds n ∙ ap (sum (drop k bs)) f ∙ sym (drop-sum k bs bs refl);
+    } in
+    let two : Bch-ending m r (drop k (sum bs bs)) (sum bs bs) = record { binary = b; of-code = sum-is-bch m r bs bs w p p refl; ends = refl } in
+    let many : length (drop k (sum bs bs)) ≡ long m - k = length-drop k (sum bs bs) ∙ ap (λ (x : ℕ). x - k) (b .count) in
+    let only = bch-dimension-right m r (drop k (sum bs bs)) w h many (L.all-of 2 _ (drop-below 2 k (sum bs bs) (L.bits m _ b))) .1 in
+    sym (sum-cancel bs ds n) ∙ ap (sum bs) (only (sum bs ds) (sum bs bs) one two) ∙ sum-cancel bs bs refl
 
-bits-mask : (bs : List ℕ) → Below 2 bs → bits-of (length bs) (mask bs) ≡ bs
-unfolding bits-of mask
-bits-mask [] p = refl
-bits-mask (b ∷ bs) p =
-    let low : (b + 2 * mask bs) % 2 ≡ b = omega (arith, p .0) in
-    let high : (b + 2 * mask bs) / 2 ≡ mask bs = omega (arith, p .0) in
-    ap₂ (λ (x : ℕ) (y : ℕ). x ∷ bits-of (length bs) y) low high ∙ ap (λ (x : List ℕ). b ∷ x) (bits-mask bs (p .1))
+-- THE TABLES, by m and the number of bits of a syndrome
+unfoldable pub heads : (m q : ℕ) → List ℕ
+heads m q =
+    cond (eqb m 3) (cond (eqb q 3) (1 ∷ 2 ∷ 4 ∷ []) (23 ∷ 46 ∷ 35 ∷ 22 ∷ 58 ∷ 49 ∷ []))
+    (cond (eqb q 4) (1 ∷ 2 ∷ 4 ∷ 8 ∷ [])
+    (cond (eqb q 8) (198 ∷ 93 ∷ 186 ∷ 165 ∷ 199 ∷ 242 ∷ 225 ∷ 95 ∷ [])
+    (693 ∷ 93 ∷ 186 ∷ 372 ∷ 278 ∷ 242 ∷ 835 ∷ 556 ∷ 930 ∷ 627 ∷ [])))
 
-pub bits-below : (n k : ℕ) → Below 2 (bits-of n k)
-unfolding bits-of
-bits-below zero k = tt
-bits-below (suc n) k = (omega arith, bits-below n (k / 2))
+unfoldable pub rows : (m q : ℕ) → List ℕ
+rows m q =
+    cond (eqb m 3) (cond (eqb q 3) (11 ∷ 22 ∷ 39 ∷ 69 ∷ []) (127 ∷ []))
+    (cond (eqb q 4) (19 ∷ 38 ∷ 76 ∷ 139 ∷ 261 ∷ 522 ∷ 1031 ∷ 2062 ∷ 4111 ∷ 8205 ∷ 16393 ∷ [])
+    (cond (eqb q 8) (465 ∷ 627 ∷ 1254 ∷ 2077 ∷ 4154 ∷ 8308 ∷ 16616 ∷ [])
+    (1335 ∷ 2670 ∷ 4587 ∷ 9174 ∷ 17051 ∷ [])))
 
-bits-binary : (m k : ℕ) → Binary m (bits-of (long m) k)
-bits-binary m k = record { count = L.bits-length (long m) k; bits = L.all-of 2 (bits-of (long m) k) (bits-below (long m) k) }
+-- SUMS of a table's numbers
+powers : (many j : ℕ) → List ℕ
+powers zero j = []
+powers (suc k) j = 2 ^ j ∷ powers k (suc j)
 
--- a test at every binary word of length n and weight t or less
-unfoldable pub words : (n t : ℕ) → (List ℕ → Bool) → Bool
-words zero t f = f []
-words (suc n) zero f = words n zero (λ ds. f (0 ∷ ds))
-words (suc n) (suc t) f = words n (suc t) (λ ds. f (0 ∷ ds)) && words n t (λ ds. f (1 ∷ ds))
+powers-long : (k j : ℕ) → length (powers k j) ≡ k
+unfolding powers
+powers-long zero j = refl
+powers-long (suc k) j = ap suc (powers-long k (suc j))
 
-at-word : (n t : ℕ) (f : List ℕ → Bool) → T (words n t f) → (ds : List ℕ) → length ds ≡ n → Below 2 ds → weight ds ≤ t → T (f ds)
-unfolding words weight
-at-word zero t f p [] e b h = p
-at-word zero t f p (d ∷ ds) e b h = absurd (omega arith)
-at-word (suc n) t f p [] e b h = absurd (omega arith)
-at-word (suc n) zero f p (zero ∷ ds) e b h = at-word n zero (λ ds. f (0 ∷ ds)) p ds (omega arith) (b .1) (omega arith)
-at-word (suc n) zero f p (suc d ∷ ds) e b h = absurd (omega arith)
-at-word (suc n) (suc t) f p (zero ∷ ds) e b h =
-    at-word n (suc t) (λ ds. f (0 ∷ ds)) (and-l (words n (suc t) (λ ds. f (0 ∷ ds))) (words n t (λ ds. f (1 ∷ ds))) p) ds (omega arith) (b .1) (omega arith)
-at-word (suc n) (suc t) f p (suc zero ∷ ds) e b h =
-    at-word n t (λ ds. f (1 ∷ ds)) (and-r (words n (suc t) (λ ds. f (0 ∷ ds))) (words n t (λ ds. f (1 ∷ ds))) p) ds (omega arith) (b .1) (omega arith)
-at-word (suc n) (suc t) f p (suc (suc d) ∷ ds) e b h = absurd (omega (arith, b .0))
+evens : (j a : ℕ) → a * 2 ^ suc j ≡ 2 * a * 2 ^ j
+evens j a = ap (λ (x : ℕ). a * x) (pow-succ' 2 j) ∙ sym (ap (λ (x : ℕ). x * 2 ^ j) (mul-comm 2 a) ∙ mul-assoc a 2 (2 ^ j))
 
-pub le-or-lt : (a b : ℕ) → (a ≤ b) ⊎ (b < a)
-le-or-lt a b = go (leb a b) refl
+shifted : (a k b : ℕ) → b < 2 ^ k → xor (a * 2 ^ k) b ≡ a * 2 ^ k + b
+unfolding xor
+shifted = B.xor-shifted
+
+one-power : (j s a b : ℕ) → s ≡ 2 * a + b → b < 2 → xor (cond (eqb b 0) 0 (2 ^ j)) (a * 2 ^ suc j) ≡ s * 2 ^ j
+one-power j s a zero e l = X.zero-l (a * 2 ^ suc j) ∙ evens j a ∙ ap (λ (x : ℕ). x * 2 ^ j) (sym (e ∙ add-zero (2 * a)))
+one-power j s a (suc zero) e l =
+    X.comm (2 ^ j) (a * 2 ^ suc j) ∙ shifted a (suc j) (2 ^ j) (omega (arith, pow-suc 2 j, pow-pos j)) ∙ ap (λ (x : ℕ). x + 2 ^ j) (evens j a)
+    ∙ sym (suc-mul (2 * a) (2 ^ j)) ∙ ap (λ (x : ℕ). x * 2 ^ j) (sym (e ∙ add-one (2 * a)))
+one-power j s a (suc (suc b)) e l = absurd (omega arith)
+
+picked-powers : (k j s : ℕ) → s < 2 ^ k → picked (powers k j) s ≡ s * 2 ^ j
+unfolding powers picked where-odd
+picked-powers zero j s h = let e : s ≡ 0 = omega arith in rw e (sym (zero-mul (2 ^ j)))
+picked-powers (suc k) j s h =
+    ap (xor (cond (eqb (s % 2) 0) 0 (2 ^ j))) (picked-powers k (suc j) (s / 2) (half-lt k s h))
+    ∙ one-power j s (s / 2) (s % 2) (omega arith) (mod-lt s (zero-lt-suc 1))
+
+picked-zeros : (n k : ℕ) → picked (replicate n 0) k ≡ 0
+unfolding picked where-odd
+picked-zeros zero k = refl
+picked-zeros (suc n) k = ap₂ xor (go (eqb (k % 2) 0)) (picked-zeros n (k / 2)) ∙ X.self 0
   where
-    go : (x : Bool) → leb a b ≡ x → (a ≤ b) ⊎ (b < a)
-    go true e = inl (leb→le a b (subst (λ (x : Bool). T x) (sym e) tt))
-    go false e = inr (nleb→lt a b (subst (λ (x : Bool). T (not x)) (sym e) tt))
+    go : (b : Bool) → _≡_ {A = ℕ} (cond b 0 0) 0
+    go true = refl
+    go false = refl
 
--- the leader that a table of numbers gives to a syndrome
-abbrev pub led : (m : ℕ) → (table : List ℕ) → (s : ℕ) → List ℕ
-led m ls s = bits-of (long m) (getD ls s 0)
+picked-lt : (n : ℕ) (ts : List ℕ) (k : ℕ) → Below (2 ^ n) ts → picked ts k < 2 ^ n
+unfolding picked where-odd
+picked-lt n [] k p = pow-pos n
+picked-lt n (t ∷ ts) k p = X.below n _ _ (go (eqb (k % 2) 0)) (picked-lt n ts (k / 2) (p .1))
+  where
+    go : (b : Bool) → cond b 0 t < 2 ^ n
+    go true = pow-pos n
+    go false = p .0
 
--- every word of weight t or less is the leader of its syndrome, and each leader is such a word, with its syndrome
-abbrev pub perfect : (m r t : ℕ) → (table : List ℕ) → Bool
-perfect m r t ls =
-    words (long m) t (λ ds. eqb (mask ds) (getD ls (syndrome m r ds) 0))
-    && all (cosets m r) (λ s. eqb (syndrome m r (led m ls s)) s && leb (weight (led m ls s)) t)
+-- a function that takes sums to sums
+module _ (f : ℕ → ℕ) (add : (a b : ℕ) → f (xor a b) ≡ xor (f a) (f b)) where
+  none : f 0 ≡ 0
+  none = ap f (sym (X.self 0)) ∙ add 0 0 ∙ X.self (f 0)
 
-module _ (m r t : ℕ) (ls : List ℕ) (p : T (perfect m r t ls)) where
-  light : (s : ℕ) → s < cosets m r → T (eqb (syndrome m r (led m ls s)) s && leb (weight (led m ls s)) t)
-  light s h =
-      at (cosets m r) (λ s. eqb (syndrome m r (led m ls s)) s && leb (weight (led m ls s)) t)
-      (and-r (words (long m) t (λ ds. eqb (mask ds) (getD ls (syndrome m r ds) 0))) (all (cosets m r) (λ s. eqb (syndrome m r (led m ls s)) s && leb (weight (led m ls s)) t)) p) s h
-
-  led-light : (s : ℕ) → s < cosets m r → weight (led m ls s) ≤ t
-  led-light s h = leb→le (weight (led m ls s)) t (and-r (eqb (syndrome m r (led m ls s)) s) (leb (weight (led m ls s)) t) (light s h))
-
-  only-light : (s : ℕ) (ds : List ℕ) → Binary m ds → syndrome m r ds ≡ s → weight ds ≤ t → ds ≡ led m ls s
-  only-light s ds b e h =
-      let p2 : Below 2 ds = L.bits m ds b in
-      let f : mask ds ≡ getD ls (syndrome m r ds) 0 =
-      eqb→eq (mask ds) (getD ls (syndrome m r ds) 0)
-      (at-word (long m) t (λ ds. eqb (mask ds) (getD ls (syndrome m r ds) 0))
-      (and-l (words (long m) t (λ ds. eqb (mask ds) (getD ls (syndrome m r ds) 0))) (all (cosets m r) (λ s. eqb (syndrome m r (led m ls s)) s && leb (weight (led m ls s)) t)) p)
-      ds (b .count) p2 h) in
-      sym (bits-mask ds p2) ∙ ap₂ bits-of (b .count) (f ∙ ap (λ (x : ℕ). getD ls x 0) e)
-
-  -- THE TABLE GIVES A LEADER
-  pub leader-at : (s : ℕ) → s < cosets m r → Leader m r s (led m ls s)
-  leader-at s h = record {
-    binary = bits-binary m (getD ls s 0);
-    of-coset = eqb→eq (syndrome m r (led m ls s)) s (and-l (eqb (syndrome m r (led m ls s)) s) (leb (weight (led m ls s)) t) (light s h));
-    least = λ ds b e. pick ds b e (le-or-lt (weight ds) t);
-  }
+  picked-map : (ts : List ℕ) (k : ℕ) → f (picked ts k) ≡ picked (map f ts) k
+  unfolding picked where-odd
+  picked-map [] k = none
+  picked-map (t ∷ ts) k = add _ _ ∙ ap₂ xor (go (eqb (k % 2) 0)) (picked-map ts (k / 2))
     where
-      pick : (ds : List ℕ) → Binary m ds → syndrome m r ds ≡ s → (weight ds ≤ t) ⊎ (t < weight ds) → weight (led m ls s) ≤ weight ds
-      pick ds b e (inl l) = rw (← only-light s ds b e l) (omega arith)
-      pick ds b e (inr l) = omega (arith, led-light s h)
+      go : (b : Bool) → f (cond b 0 t) ≡ cond b 0 (f t)
+      go true = none
+      go false = refl
 
-  -- AND NO OTHER
-  pub only-leader : width-good m ≡ true → (s : ℕ) (bs : List ℕ) → Leader m r s bs → bs ≡ led m ls s
-  unfolding Syndrome-inside
-  only-leader w s bs l =
-      let h : s < cosets m r = rw (← l .of-coset) (syndrome-inside m r bs w (l .binary)) in
-      let k : Leader m r s (led m ls s) = leader-at s h in
-      only-light s bs (l .binary) (l .of-coset) (omega (arith, led-light s h, l .least (led m ls s) (k .binary) (k .of-coset)))
+-- THE TESTS: a head is 0 from position q on and has the syndrome of a single bit; a row has syndrome 0 and ends in a single bit
+same : List ℕ → List ℕ → Bool
+same [] [] = true
+same [] (y ∷ ys) = false
+same (x ∷ xs) [] = false
+same (x ∷ xs) (y ∷ ys) = eqb x y && same xs ys
 
--- the greatest weight of a leader
-unfoldable pub heaviest : (code : ℕ) → ℕ
-heaviest c = cond (eqb c 2) 3 1
+same-is : (xs ys : List ℕ) → T (same xs ys) → xs ≡ ys
+unfolding same
+same-is [] [] t = refl
+same-is [] (y ∷ ys) t = absurd t
+same-is (x ∷ xs) [] t = absurd t
+same-is (x ∷ xs) (y ∷ ys) t = ap₂ _∷_ (eqb→eq x y (and-l (eqb x y) (same xs ys) t)) (same-is xs ys (and-r (eqb x y) (same xs ys) t))
 
--- the table of a code's leaders: the number of each word of weight t or less, at its syndrome
-unfoldable pub gather : (n t : ℕ) → (List ℕ → List ℕ → List ℕ) → (so-far : List ℕ) → List ℕ
-gather zero t f xs = f [] xs
-gather (suc n) zero f xs = gather n zero (λ ds. f (0 ∷ ds)) xs
-gather (suc n) (suc t) f xs = gather n t (λ ds. f (1 ∷ ds)) (gather n (suc t) (λ ds. f (0 ∷ ds)) xs)
+pub syndrome-at : (m r x : ℕ) → ℕ
+syndrome-at m r x = syndrome m r (bits-of (long m) x)
 
-unfoldable pub table : (code : ℕ) → List ℕ
-table c =
-    gather (long (width c)) (heaviest c) (λ ds xs. set xs (syndrome (width c) (roots c) ds) (mask ds)) (replicate (cosets (width c) (roots c)) 0)
+abbrev good-heads : (m r q : ℕ) → Bool
+good-heads m r q = all-below (2 ^ q) (heads m q) && same (map (syndrome-at m r) (heads m q)) (powers q 0)
 
-all-perfect : (c : ℕ) → code-good c ≡ true → T (perfect (width c) (roots c) (heaviest c) (table c))
-unfolding width roots long cosets number syndrome value-from value-at xor times times-from doubled alpha weight mask bits-of words heaviest gather table
-all-perfect = codes (λ c. T (perfect (width c) (roots c) (heaviest c) (table c))) tt tt tt
+abbrev good-rows : (m r q : ℕ) → Bool
+good-rows m r q =
+    (all-below (2 ^ long m) (rows m q) && same (map (syndrome-at m r) (rows m q)) (replicate (long m - q) 0))
+    && same (map (λ x. x / 2 ^ q) (rows m q)) (powers (long m - q) 0)
+
+abbrev good-tables : (m r : ℕ) → Bool
+good-tables m r = good-heads m r (syndrome-long m r) && good-rows m r (syndrome-long m r)
+
+tables-good : (m r : ℕ) → accepted m r ≡ true → T (good-tables m r)
+unfolding heads rows all-below same powers syndrome-at accepted roots-good configuration-long bch-dimension message-long long width-good number syndrome value-from value-at xor times times-from doubled alpha bits-of
+tables-good = at-each good-tables tt tt
+
+-- THE LEAST RANK is that of one of the words, and no more than any of theirs
+lower-l : (a b : ℕ) → lower a b ≤ a
+unfolding lower
+lower-l a b = go (ltb b a) refl
+  where
+    go : (x : Bool) → ltb b a ≡ x → cond x b a ≤ a
+    go true e = omega (arith, ltb-true b a e)
+    go false e = le-refl a
+
+lower-r : (a b : ℕ) → lower a b ≤ b
+unfolding lower
+lower-r a b = go (ltb b a) refl
+  where
+    go : (x : Bool) → ltb b a ≡ x → cond x b a ≤ b
+    go true e = le-refl b
+    go false e = ltb-false b a e
+
+lower-one : (P : ℕ → Type 0) (a b : ℕ) → P a → P b → P (lower a b)
+unfolding lower
+lower-one P a b p q = go (ltb b a)
+  where
+    go : (x : Bool) → P (cond x b a)
+    go true = q
+    go false = p
+
+module _ (rs : List ℕ) (x : ℕ) where
+  least-le : (n k : ℕ) → k < n → least-rank rs x n ≤ rank (xor x (picked rs k))
+  unfolding least-rank
+  least-le zero k h = absurd (not-suc-le-zero h)
+  least-le (suc n) k h = go (least-le n k) (eq-or-lt-of-le (le-of-suc-le-suc h))
+    where
+      go : (k < n → least-rank rs x n ≤ rank (xor x (picked rs k))) → (k ≡ n) ⊎ (k < n) → lower (least-rank rs x n) (rank (xor x (picked rs n))) ≤ rank (xor x (picked rs k))
+      go rest (inl e) = rw e (lower-r (least-rank rs x n) (rank (xor x (picked rs n))))
+      go rest (inr l) = le-trans (lower-l (least-rank rs x n) (rank (xor x (picked rs n)))) (rest l)
+
+  least-one : (P : ℕ → Type 0) → P (rank x) → ((k : ℕ) → P (rank (xor x (picked rs k)))) → (n : ℕ) → P (least-rank rs x n)
+  unfolding least-rank
+  least-one P p q zero = p
+  least-one P p q (suc n) = lower-one P (least-rank rs x n) (rank (xor x (picked rs n))) (least-one P p q n) (q n)
+
+module _ (m r : ℕ) (a : accepted m r ≡ true) where
+  abbrev q : ℕ
+  q = syndrome-long m r
+
+  abbrev hs : List ℕ
+  hs = heads m q
+
+  abbrev rs : List ℕ
+  rs = rows m q
+
+  w : width-good m ≡ true
+  w = accepted-parts m r a .wide
+
+  six : r ≤ 6
+  six = accepted-parts m r a .six
+
+  fits : q ≤ long m
+  fits = syndrome-room m r w six .1
+
+  heads-good : T (good-heads m r q)
+  heads-good = and-l (good-heads m r q) (good-rows m r q) (tables-good m r a)
+
+  rows-good : T (good-rows m r q)
+  rows-good = and-r (good-heads m r q) (good-rows m r q) (tables-good m r a)
+
+  syndrome-add : (x y : ℕ) → syndrome-at m r (xor x y) ≡ xor (syndrome-at m r x) (syndrome-at m r y)
+  unfolding syndrome-at
+  syndrome-add x y = ap (syndrome m r) (bits-xor (long m) x y) ∙ syndrome-sum m r _ _ w (bits-binary m x) (bits-binary m y)
+
+  ends-add : (x y : ℕ) → xor x y / 2 ^ q ≡ xor (x / 2 ^ q) (y / 2 ^ q)
+  unfolding xor
+  ends-add x y = B.xor-shr x y q
+
+  head-lt : (s : ℕ) → picked hs s < 2 ^ q
+  head-lt s = picked-lt q hs s (L.below (2 ^ q) hs (and-l (all-below (2 ^ q) hs) _ heads-good))
+
+  head-syndrome : (s : ℕ) → s < 2 ^ q → syndrome-at m r (picked hs s) ≡ s
+  head-syndrome s h =
+      picked-map (syndrome-at m r) syndrome-add hs s
+      ∙ ap (λ l. picked l s) (same-is _ _ (and-r (all-below (2 ^ q) hs) _ heads-good)) ∙ picked-powers q 0 s h ∙ mul-one s
+
+  row-lt : (k : ℕ) → picked rs k < 2 ^ long m
+  row-lt k = picked-lt (long m) rs k (L.below (2 ^ long m) rs (and-l (all-below (2 ^ long m) rs) _ (and-l (all-below (2 ^ long m) rs && _) _ rows-good)))
+
+  row-syndrome : (k : ℕ) → syndrome-at m r (picked rs k) ≡ 0
+  row-syndrome k =
+      picked-map (syndrome-at m r) syndrome-add rs k
+      ∙ ap (λ l. picked l k) (same-is _ _ (and-r (all-below (2 ^ long m) rs) _ (and-l (all-below (2 ^ long m) rs && _) _ rows-good)))
+      ∙ picked-zeros (long m - q) k
+
+  row-ends : (k : ℕ) → k < 2 ^ (long m - q) → picked rs k / 2 ^ q ≡ k
+  row-ends k h =
+      picked-map (λ x. x / 2 ^ q) ends-add rs k
+      ∙ ap (λ l. picked l k) (same-is _ _ (and-r (all-below (2 ^ long m) rs && _) _ rows-good)) ∙ picked-powers (long m - q) 0 k h ∙ mul-one k
+
+  rows-many : length rs ≡ long m - q
+  rows-many = sym (length-map rs _) ∙ ap length (same-is _ _ (and-r (all-below (2 ^ long m) rs && _) _ rows-good)) ∙ powers-long (long m - q) 0
+
+  -- THE MEMBERS of coset s: each is one, and each word of the coset is one of them
+  module _ (s : ℕ) (inside : s < 2 ^ q) where
+    record Of-coset (x : ℕ) : Type 0 where
+      small : x < 2 ^ long m
+      coset : syndrome-at m r x ≡ s
+
+    base : ℕ
+    base = picked hs s
+
+    base-of : Of-coset base
+    unfolding base
+    base-of = record { small = lt-of-lt-of-le (head-lt s) (pow-mono fits); coset = head-syndrome s inside }
+
+    member-of : (k : ℕ) → Of-coset (xor base (picked rs k))
+    member-of k = record {
+      small = X.below (long m) _ _ (base-of .small) (row-lt k);
+      coset = syndrome-add base (picked rs k) ∙ ap₂ xor (base-of .coset) (row-syndrome k) ∙ X.zero-r s;
+    }
+
+    member-ends : (k : ℕ) → k < 2 ^ (long m - q) → xor base (picked rs k) / 2 ^ q ≡ k
+    unfolding base
+    member-ends k h = ends-add base (picked rs k) ∙ ap₂ xor (div-eq-of-lt (head-lt s)) (row-ends k h) ∙ X.zero-l k
+
+    among : (ds : List ℕ) → Binary m ds → syndrome m r ds ≡ s → (k : ℕ) × (k < 2 ^ (long m - q)) × (word-number ds ≡ xor base (picked rs k))
+    unfolding syndrome-at
+    among ds b e =
+        let x : ℕ = word-number ds in
+        let p = L.bits m ds b in
+        let is : bits-of (long m) x ≡ ds = rw (← b .count) (bits-number ds p) in
+        let small : x < 2 ^ long m = rw (← b .count) (number-lt ds p) in
+        let k : ℕ = x / 2 ^ q in
+        let room : long m - q + q ≡ long m = omega (arith, fits) in
+        let few : k < 2 ^ (long m - q) = shr-lt (long m - q) q (rw room small) in
+        let y : ℕ = xor base (picked rs k) in
+        let equal : bits-of (long m) y ≡ bits-of (long m) x =
+        same-word m r (bits-of (long m) x) (bits-of (long m) y) w six (bits-binary m x) (bits-binary m y)
+        (member-of k .coset ∙ sym (ap (syndrome m r) is ∙ e))
+        (drop-bits q (long m) y fits ∙ ap (bits-of (long m - q)) (member-ends k few) ∙ sym (drop-bits q (long m) x fits)) in
+        (k, few, sym (number-bits (long m) x small) ∙ ap word-number (sym equal) ∙ number-bits (long m) y (member-of k .small))
+
+    -- THE FIRST of them leads
+    record Least (l : ℕ) : Type 0 where
+      word : ℕ
+      of : Of-coset word
+      is : l ≡ rank word
+
+    least : Least (least-rank rs base (2 ^ length rs))
+    least =
+        least-one rs base Least (record { word = base; of = base-of; is = refl })
+        (λ k. record { word = xor base (picked rs k); of = member-of k; is = refl }) (2 ^ length rs)
+
+    pub leads : (x : ℕ) → x ≡ foremost hs rs s → Leader m r s (bits-of (long m) x)
+    unfolding foremost rank base syndrome-at
+    leads x e = rw first-is (record {
+      binary = bits-binary m z;
+      of-coset = least .of .coset;
+      least = λ ds b f. rw (weight-ones (long m) z small, weight-is ds b) (omega (arith, before ds b f, small-15, number-small ds b));
+      first = λ ds b f g. rw (number-bits (long m) z small)
+          (omega (arith, before ds b f, small-15, number-small ds b, sym (weight-is ds b) ∙ g ∙ weight-ones (long m) z small));
+    })
+      where
+        z : ℕ
+        z = least .word
+
+        small : z < 2 ^ long m
+        small = least .of .small
+
+        top : 2 ^ long m ≤ 32768
+        top = unfold long in widths (λ m. 2 ^ long m ≤ 32768) (lit≤ tt) (lit≤ tt) m w
+
+        small-15 : z < 32768
+        small-15 = lt-of-lt-of-le small top
+
+        first-is : x ≡ z
+        first-is = e ∙ ap (λ (l : ℕ). l % 32768) (least .is) ∙ omega (arith, small-15)
+
+        number-small : (ds : List ℕ) → Binary m ds → word-number ds < 32768
+        number-small ds b = lt-of-lt-of-le (rw (← b .count) (number-lt ds (L.bits m ds b))) top
+
+        weight-is : (ds : List ℕ) → Binary m ds → weight ds ≡ ones (word-number ds)
+        weight-is ds b =
+            ap weight (sym (bits-number ds (L.bits m ds b))) ∙ weight-ones (length ds) (word-number ds) (number-lt ds (L.bits m ds b))
+
+        before : (ds : List ℕ) → Binary m ds → syndrome m r ds ≡ s → 32768 * ones z + z ≤ 32768 * ones (word-number ds) + word-number ds
+        before ds b f =
+            let k = among ds b f in
+            rw (← least .is, k .2) (least-le rs base (2 ^ length rs) (k .0) (rw rows-many (k .1)))
 
 -- THE leader of a coset
-unfoldable pub the-leader : (c s : ℕ) → List ℕ
-the-leader c s = led (width c) (table c) s
+unfoldable pub the-leader : (m r s : ℕ) → List ℕ
+the-leader m r s = bits-of (long m) (foremost (heads m (syndrome-long m r)) (rows m (syndrome-long m r)) s)
 
-pub the-leader-leads : (c s : ℕ) → code-good c ≡ true → s < cosets (width c) (roots c) → Leader (width c) (roots c) s (the-leader c s)
-unfolding the-leader
-the-leader-leads c s g h = leader-at (width c) (roots c) (heaviest c) (table c) (all-perfect c g) s h
-
-pub the-only-leader : (c s : ℕ) (bs : List ℕ) → code-good c ≡ true → Leader (width c) (roots c) s bs → bs ≡ the-leader c s
-unfolding the-leader Codes-inside
-the-only-leader c s bs g = only-leader (width c) (roots c) (heaviest c) (table c) (all-perfect c g) (codes-inside c g .0) s bs
+pub the-leader-leads : (m r s : ℕ) → accepted m r ≡ true → s < cosets m r → Leader m r s (the-leader m r s)
+unfolding the-leader cosets
+the-leader-leads m r s a h = leads m r a s h _ refl
 
 pub leader-there : Leader-there
 unfolding Leader-there
-leader-there c s g h = (the-leader c s, the-leader-leads c s g h)
+leader-there m r s a h = (the-leader m r s, the-leader-leads m r s a h)
 
+-- for the function that finds it
+pub found : {h : Shape} {s : ℕ} → Coset h s → (x : ℕ) → x ≡ foremost (heads (h .m) (h .q)) (rows (h .m) (h .q)) s → Leader (h .m) (h .r) s (bits-of (long (h .m)) x)
+found {h} {s} z x e =
+    let c = z .coded in
+    let i : s < 2 ^ syndrome-long (h .m) (h .r) = rw (← c .q-is, ← c .size-is) (z .inside) in
+    leads (h .m) (h .r) (c .accepted-is) s i x (rw (← c .q-is) e)
+
+-- AND NO OTHER: of two leaders each has the least weight, and then the smallest number
 pub one-leader : One-leader
 unfolding One-leader
-one-leader c s bs ds g p q = the-only-leader c s bs g p ∙ sym (the-only-leader c s ds g q)
-
--- for the function that looks a leader up
-pub look-up : (c d : ℕ) → code-good c ≡ true → c ≡ d → (s : ℕ) → s < cosets (width c) (roots c) → Leader (width c) (roots c) s (led (width c) (table d) s)
-look-up c d g e s h = rw (← e) (leader-at (width c) (roots c) (heaviest c) (table c) (all-perfect c g) s h)
-
--- a code's syndromes are as many as its shape says
-pub in-coset : {h : Shape} {s : ℕ} → (z : Coset h s) → s < cosets (width (z .coded .code)) (roots (z .coded .code))
-unfolding cosets
-in-coset z = let d = z .coded in rw (← d .m-is, ← d .r-is, ← d .q-is, ← d .size-is) (z .inside)
-
--- and by the code that it turns out to be
-pub in-code : {h : Shape} {s : ℕ} → (z : Coset h s) (d : ℕ) → z .coded .code ≡ d → s < cosets (width d) (roots d)
-in-code z d e = rw e at (in-coset z)
-
-pub looked-up : {h : Shape} {s : ℕ} → (z : Coset h s) (d x : ℕ) → z .coded .code ≡ d → x ≡ getD (table d) s 0 → Leader (h .m) (h .r) s (bits-of (long (h .m)) x)
-looked-up z d x e f = let c = z .coded in rw (c .m-is, c .r-is, f) (look-up (c .code) d (c .code-is) e _ (in-coset z))
+one-leader m r s bs ds p q =
+    let e : weight bs ≡ weight ds = le-antisymm (p .least ds (q .binary) (q .of-coset)) (q .least bs (p .binary) (p .of-coset)) in
+    let f : word-number bs ≡ word-number ds =
+    le-antisymm (p .first ds (q .binary) (q .of-coset) (sym e)) (q .first bs (p .binary) (p .of-coset) e) in
+    sym (bits-number bs (L.bits m bs (p .binary))) ∙ ap₂ bits-of (p .binary .count ∙ sym (q .binary .count)) f
+    ∙ bits-number ds (L.bits m ds (q .binary))

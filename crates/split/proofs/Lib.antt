@@ -1,10 +1,11 @@
 pub mod Layers
 pub mod Glue
 pub mod Cosets
-pub mod Leaders
+pub mod Numbers
 pub mod Syndromes
+pub mod Columns
+pub mod Dimension
+pub mod Leaders
 pub mod Steps
 pub mod Whole
 pub mod Worked
-pub mod Columns
-pub mod Dimension

@@ -1,44 +1,20 @@
--- The syndromes of a word as the program computes them, for up to four roots.
+-- The syndromes of a word as the program computes them.
 -- Assumes nothing.
-use Rattle.basics.proofs.Kit.{_≡_, refl, sym, ap, _∙_, true, false, List, _++_, ℕ, zero, suc, _+_, _-_, _*_, _^_, _≤_, _<_, arith, length, getD, take, drop, leb}
-use native.Mathlib.Nat.{mul-zero, add-zero, zero-add, add-suc, suc-add, mul-le-mul-right, not-suc-le-zero, le-of-suc-le-suc}
+use Rattle.basics.proofs.Kit.{_≡_, refl, sym, ap, _∙_, true, List, _++_, ℕ, zero, suc, _+_, _-_, _*_, _^_, _≤_, _<_, arith, length, getD, take, drop}
+use native.Mathlib.Nat.{le-trans, add-zero, zero-add, add-suc, suc-add, mul-le-mul-left, mul-le-mul-right, not-suc-le-zero, le-of-suc-le-suc}
 use lib.Dec.{lit≤}
 use lib.ListN.{replicate}
 use lib.Seq.{take-all}
-use borrow.Author.Tests.{le-leb, lt-leb}
 use Rattle.field.specs.Field.{width-good}
-use Rattle.code.specs.Code.{value-at, roots}
-use Rattle.code.specs.declared.Shape.{Shape}
-use Rattle.code.specs.Within.{Coded}
-use Rattle.code.proofs.Promise.{codes}
 use Rattle.split.specs.Split.{layer, syndrome, syndromes, syndromes-from, padded}
 use Rattle.field.proofs.Tests.{widths}
 
-pub one-value : (m r : ℕ) (bs : List ℕ) → r < 3 → value-at m 1 bs ≡ syndrome m r bs
-unfolding syndrome
-one-value m r bs h =
-    let p : leb 3 r ≡ false = lt-leb 3 r h in
-    let q : leb 5 r ≡ false = lt-leb 5 r (omega arith) in
-    rw (p, q) (simp (mul-zero, add-zero))
-
-pub two-values : (m r : ℕ) (bs : List ℕ) → 3 ≤ r → r ≤ 4 → value-at m 1 bs + 2 ^ m * value-at m 3 bs ≡ syndrome m r bs
-unfolding syndrome
-two-values m r bs l h =
-    let p : leb 3 r ≡ true = le-leb 3 r l in
-    let q : leb 5 r ≡ false = lt-leb 5 r (omega arith) in
-    rw (p, q) (simp (mul-zero, add-zero))
-
--- the codes have four roots at most
-pub four-roots : {s : Shape} → (z : Coded s) → s .r ≤ 4
-unfolding roots
-four-roots z = rw (z .r-is) (codes (λ c. roots c ≤ 4) (lit≤ tt) (lit≤ tt) (lit≤ tt) (z .code) (z .code-is))
-
--- a pair of values fits sixteen bits
+-- a syndrome fits sixteen bits
 pub size-small : (m : ℕ) → width-good m ≡ true → 2 ^ m ≤ 16
 size-small = widths (λ (m : ℕ). 2 ^ m ≤ 16) (lit≤ tt) (lit≤ tt)
 
-pub second-fits : (m v : ℕ) → width-good m ≡ true → v < 2 ^ m → 2 ^ m * v ≤ 256
-second-fits m v w h = let s : 2 ^ m ≤ 16 = size-small m w in omega (arith, mul-le-mul-right v s)
+pub product-small : (x y a b : ℕ) → x ≤ a → y ≤ b → x * y ≤ a * b
+product-small x y a b h l = le-trans (mul-le-mul-right y h) (mul-le-mul-left a l)
 
 -- THE PLACES of the tuple
 from-at : (k i m r j : ℕ) (ws : List ℕ) → j < k → getD (syndromes-from k i m r ws) j 0 ≡ syndrome m r (layer (i + j) ws)

@@ -6,16 +6,20 @@ use native.Mathlib.Nat.{not-suc-le-zero, le-of-suc-le-suc, zero-mul, suc-mul, ad
 use lib.ListN.{replicate, length-append, length-take, length-drop, List·getD-append}
 use lib.Seq.{take-at, drop-at, drop-append-add, take-add, drop-drop, length-take-le}
 use borrow.Rule.Slice.PartMut.{putMid}
-use Rattle.code.specs.Code.{code-good, width, roots, long}
+use Rattle.code.specs.Code.{long, accepted}
 use Rattle.code.specs.Bits.{bits-of, row-long}
-use Rattle.code.specs.Promise.{Codes-inside}
 use Rattle.split.specs.Split.{layer, syndrome, syndromes, cosets, padded, Binary, Leader, sum}
-use Rattle.split.specs.Calls.{remainders, Split-right}
-use Rattle.split.specs.Promise.{Syndrome-inside, Sum-is-bch, Parts-are-bch}
-use Rattle.code.proofs.Promise.{codes-inside}
+use Rattle.split.specs.Calls.{remainders, Split-right, Split-says}
+use Rattle.split.specs.Promise.{Syndrome-inside, One-leader, Sum-is-bch, Parts-are-bch}
+use Rattle.code.proofs.Accepted.{accepted-parts}
+use Rattle.code.proofs.Promise.{as-chosen}
+use Rattle.code.specs.declared.Chosen.{Chosen}
+use Rattle.code.specs.Within.{Chosen-says}
+use Rattle.refusal.specs.Refusal.{first, Outcome}
+use Rattle.split.specs.declared.Splitting.{Splitting}
 use Rattle.split.proofs.Layers as L
 use Rattle.split.proofs.Cosets.{syndrome-inside, sum-is-bch}
-use Rattle.split.proofs.Leaders.{the-leader, the-leader-leads, the-only-leader}
+use Rattle.split.proofs.Leaders.{the-leader, the-leader-leads, one-leader}
 use Rattle.split.proofs.Syndromes.{place-at, places}
 
 -- pieces of the same length
@@ -65,53 +69,48 @@ unfolding padded
 padded-at ss j h = List·getD-append ss (replicate (4 - length ss) 0) 0 j h
 
 -- the leaders of a word's layers
-unfoldable pub leads : (c : ℕ) → List ℕ → (j : ℕ) → List ℕ
-leads c ws j = the-leader c (syndrome (width c) (roots c) (layer j ws))
+unfoldable pub leads : (m r : ℕ) → List ℕ → (j : ℕ) → List ℕ
+leads m r ws j = the-leader m r (syndrome m r (layer j ws))
 
-unfoldable pub whole : (c : ℕ) → List ℕ → List ℕ
-whole c ws = remainders (width c) 0 (leads c ws) ws
+unfoldable pub whole : (m r : ℕ) → List ℕ → List ℕ
+whole m r ws = remainders m 0 (leads m r ws) ws
 
-module _ (c : ℕ) (ws tuple : List ℕ) (g : code-good c ≡ true) (n : length ws ≡ long (width c)) (t : tuple ≡ padded (syndromes (width c) (roots c) ws)) where
-  pub its-place : (j : ℕ) → j < width c → getD tuple j 0 ≡ syndrome (width c) (roots c) (layer j ws)
-  its-place j h =
-      ap (λ (l : List ℕ). getD l j 0) t ∙ padded-at (syndromes (width c) (roots c) ws) j (rw (places (width c) (roots c) ws) h)
-      ∙ place-at (width c) (roots c) j ws h
+module _ (m r : ℕ) (ws tuple : List ℕ) (g : accepted m r ≡ true) (n : length ws ≡ long m) (t : tuple ≡ padded (syndromes m r ws)) where
+  pub its-place : (j : ℕ) → j < m → getD tuple j 0 ≡ syndrome m r (layer j ws)
+  its-place j h = ap (λ (l : List ℕ). getD l j 0) t ∙ padded-at (syndromes m r ws) j (rw (places m r ws) h) ∙ place-at m r j ws h
 
-  inside : (j : ℕ) → syndrome (width c) (roots c) (layer j ws) < cosets (width c) (roots c)
-  unfolding Syndrome-inside Codes-inside
-  inside j = syndrome-inside (width c) (roots c) (layer j ws) (codes-inside c g .0) (L.layer-binary (width c) j ws n)
+  inside : (j : ℕ) → syndrome m r (layer j ws) < cosets m r
+  unfolding Syndrome-inside
+  inside j = syndrome-inside m r (layer j ws) (accepted-parts m r g .wide) (L.layer-binary m j ws n)
 
-  pub its-coset : (j : ℕ) → j < width c → getD tuple j 0 < cosets (width c) (roots c)
+  pub its-coset : (j : ℕ) → j < m → getD tuple j 0 < cosets m r
   its-coset j h = rw (its-place j h) (inside j)
 
-  leads-right : (j : ℕ) → Leader (width c) (roots c) (syndrome (width c) (roots c) (layer j ws)) (leads c ws j)
+  leads-right : (j : ℕ) → Leader m r (syndrome m r (layer j ws)) (leads m r ws j)
   unfolding leads
-  leads-right j = the-leader-leads c (syndrome (width c) (roots c) (layer j ws)) g (inside j)
+  leads-right j = the-leader-leads m r (syndrome m r (layer j ws)) g (inside j)
 
-  each : (j : ℕ) → j < width c → length (sum (layer j ws) (leads c ws j)) ≡ length ws
+  each : (j : ℕ) → j < m → length (sum (layer j ws) (leads m r ws j)) ≡ length ws
   each j h =
-      let k : length (leads c ws j) ≡ length ws = leads-right j .binary .count ∙ sym n in
-      L.sum-length (layer j ws) (leads c ws j) (L.layer-length j ws ∙ sym k) ∙ k
+      let k : length (leads m r ws j) ≡ length ws = leads-right j .binary .count ∙ sym n in
+      L.sum-length (layer j ws) (leads m r ws j) (L.layer-length j ws ∙ sym k) ∙ k
 
-  pub whole-length : length (whole c ws) ≡ width c * length ws
+  pub whole-length : length (whole m r ws) ≡ m * length ws
   unfolding whole
-  whole-length = all-length (width c) (leads c ws) ws each
+  whole-length = all-length m (leads m r ws) ws each
 
   -- THE PIECE OF LAYER j is the layer with the leader that the program finds
-  pub piece : (j l : ℕ) → j < width c → Leader (width c) (roots c) (getD tuple j 0) (bits-of (long (width c)) l) →
-      take (length ws) (drop (j * length ws) (whole c ws)) ≡ sum (layer j ws) (bits-of (length ws) l)
-  unfolding whole leads
+  pub piece : (j l : ℕ) → j < m → Leader m r (getD tuple j 0) (bits-of (long m) l) →
+      take (length ws) (drop (j * length ws) (whole m r ws)) ≡ sum (layer j ws) (bits-of (length ws) l)
+  unfolding whole One-leader
   piece j l h p =
-      let e : bits-of (length ws) l ≡ the-leader c (syndrome (width c) (roots c) (layer j ws)) =
-      ap (λ (k : ℕ). bits-of k l) n ∙ the-only-leader c (getD tuple j 0) (bits-of (long (width c)) l) g p ∙ ap (the-leader c) (its-place j h) in
-      piece-at (width c) (leads c ws) ws each j h ∙ ap (sum (layer j ws)) (sym e)
+      let e : bits-of (length ws) l ≡ leads m r ws j =
+      ap (λ (k : ℕ). bits-of k l) n ∙ one-leader m r (syndrome m r (layer j ws)) _ _ (rw (its-place j h) at p) (leads-right j) in
+      piece-at m (leads m r ws) ws each j h ∙ ap (sum (layer j ws)) (sym e)
 
-  pub whole-right : (out : List ℕ) → out ≡ whole c ws → Split-right (width c) (roots c) ws tuple out
+  pub whole-right : (out : List ℕ) → out ≡ whole m r ws → Split-right m r ws tuple out
   unfolding whole
-  whole-right out e = record { tuple = t; leaders = leads c ws; lead = λ j h. leads-right j; left = e }
-
-pub right-as : {a b m r : ℕ} {ws t o : List ℕ} → a ≡ m → b ≡ r → Split-right a b ws t o → Split-right m r ws t o
-right-as e f x = rw (← e, ← f) x
+  whole-right out e = record { tuple = t; leaders = leads m r ws; lead = λ j h. leads-right j; left = e }
 
 -- the next piece has room
 pub fits : (j m n at room : ℕ) → j < m → at ≡ j * n → m * n ≡ room → at + n ≤ room
@@ -146,3 +145,9 @@ parts-are-bch m r ws tuple out w n p = (
     rw (part m r ws tuple out n p j h) (sum-is-bch m r (layer j ws) (p .leaders j) w (L.layer-binary m j ws n) (p .lead j h .binary) (p .lead j h .of-coset)),
   )),
 )
+
+-- what a split says of the chosen m and r it says of those that were asked for
+pub split-as : {z m r : ℕ} {a : Chosen} → Chosen-says z m r a → (ws : List ℕ) (x : Splitting) (o p : List ℕ) →
+    Split-says (a .number) (a .shape .m) (a .shape .r) ws x o p → Split-says z m r ws x o p
+unfolding Split-says first Outcome
+split-as s ws x o p = as-chosen (λ z m r. Split-says z m r ws x o p) (λ n m r k l e. e) s

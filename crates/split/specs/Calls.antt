@@ -1,11 +1,10 @@
--- What `split` answers and leaves behind, for every input. Refusals in document 01's order: code 1; lengths 3, 4; symbols 6; membership 8.
--- Assumes nothing: these are definitions.
+-- What `split` answers and leaves behind, for every input; z is what the choice of the code is refused by. Refusals in document 01's order: code 1, 16;
+-- lengths 3, 4; symbols 6; membership 8. Assumes nothing: these are definitions.
 use mathlib.Core.Path.{_≡_}
 use mathlib.Core.List.{List, [], _∷_, _++_}
 use Prim.Native.Nat.{ℕ, zero, suc, _<_}
 use lib.ListN.{length}
 use Rattle.refusal.specs.Refusal.{first, Outcome}
-use Rattle.code.specs.Code.{number-refusal, width, roots}
 use Rattle.code.specs.Bits.{row-long}
 use Rattle.code.specs.Calls.{member-refusal}
 use Rattle.split.specs.declared.Splitting.{Splitting}
@@ -24,7 +23,7 @@ pub record Split-right (m r : ℕ) (word configuration output : List ℕ) : Type
   pub left : output ≡ remainders m 0 leaders word
 
 -- where the call is refused the configuration is all 0
-unfoldable pub Split-says : (code : ℕ) → (word : List ℕ) → (answer : Splitting) → (output output-now : List ℕ) → Type 0
-Split-says c ws a o p =
-    Outcome (first (number-refusal c) (member-refusal (width c) (roots c) ws (length o) (row-long (width c)))) (a .number) (Split-right (width c) (roots c) ws (a .configuration) p)
+unfoldable pub Split-says : (z m r : ℕ) → (word : List ℕ) → (answer : Splitting) → (output output-now : List ℕ) → Type 0
+Split-says z m r ws a o p =
+    Outcome (first z (member-refusal m r ws (length o) (row-long m))) (a .number) (Split-right m r ws (a .configuration) p)
     ((a .configuration ≡ 0 ∷ 0 ∷ 0 ∷ 0 ∷ []) × (p ≡ o))

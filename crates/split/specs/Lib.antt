@@ -1,4 +1,5 @@
 pub mod Split
+pub mod Members
 pub mod Within
 pub mod Calls
 pub mod Promise

@@ -6,9 +6,9 @@ use mathlib.Core.List.{List}
 use Prim.Native.Nat.{ℕ, _+_, _*_, _≤_, _<_}
 use lib.ListN.{length, getD, take, drop}
 use Rattle.field.specs.Field.{width-good}
-use Rattle.code.specs.Code.{code-good, width, roots, long, symbols-good, is-codeword}
+use Rattle.code.specs.Code.{width, roots, long, symbols-good, is-codeword, bch-dimension, accepted}
 use Rattle.code.specs.Bits.{bit-at, row-long}
-use Rattle.split.specs.Split.{layer, syndrome, columns-from, syndromes, cosets, bch-dimension, valid, all-below, Binary, Leader, Bch-ending, sum}
+use Rattle.split.specs.Split.{layer, syndrome, columns-from, syndromes, cosets, valid, all-below, Binary, Leader, Bch-ending, sum}
 use Rattle.split.specs.Calls.{Split-right}
 
 -- (Layers) bit number i·m + j of a word is the bit of layer j at position i
@@ -29,13 +29,12 @@ Syndrome-inside = (m r : ℕ) (bs : List ℕ) → width-good m ≡ true → Bina
 unfoldable pub Syndrome-columns : Type 0
 Syndrome-columns = (m r : ℕ) (bs : List ℕ) → width-good m ≡ true → Binary m bs → syndrome m r bs ≡ columns-from m r 0 bs
 
--- (Leaders) each coset of the three codes has a leader, and no other
+-- (Leaders) each coset has a leader, and no other
 unfoldable pub Leader-there : Type 0
-Leader-there = (c s : ℕ) → code-good c ≡ true → s < cosets (width c) (roots c) → (bs : List ℕ) × Leader (width c) (roots c) s bs
+Leader-there = (m r s : ℕ) → accepted m r ≡ true → s < cosets m r → (bs : List ℕ) × Leader m r s bs
 
 unfoldable pub One-leader : Type 0
-One-leader =
-    (c s : ℕ) (bs ds : List ℕ) → code-good c ≡ true → Leader (width c) (roots c) s bs → Leader (width c) (roots c) s ds → bs ≡ ds
+One-leader = (m r s : ℕ) (bs ds : List ℕ) → Leader m r s bs → Leader m r s ds → bs ≡ ds
 
 -- (Cosets) a binary word plus a member of its coset, so plus its leader, is a BCH word: its syndrome is 0
 unfoldable pub Sum-is-bch : Type 0
@@ -48,10 +47,11 @@ Bch-dimension =
     (m r : ℕ) (ds : List ℕ) → width-good m ≡ true → r ≤ 6 → length ds ≡ bch-dimension m r → all-below 2 ds ≡ true →
     ((bs : List ℕ) × Bch-ending m r ds bs) × ((bs cs : List ℕ) → Bch-ending m r ds bs → Bch-ending m r ds cs → bs ≡ cs)
 
--- (Dimension) the BCH dimensions of codes 1, 2 and 3
+-- (Dimension) the BCH dimensions of codes 1 to 5
 unfoldable pub Bch-dimensions : Type 0
 Bch-dimensions =
     (bch-dimension (width 1) (roots 1) ≡ 4) × (bch-dimension (width 2) (roots 2) ≡ 1) × (bch-dimension (width 3) (roots 3) ≡ 11)
+    × (bch-dimension (width 4) (roots 4) ≡ 7) × (bch-dimension (width 5) (roots 5) ≡ 5)
 
 -- (Whole) where a split is right, the output is n·m long and each of its layers is a BCH word: binary, with syndrome 0
 unfoldable pub Parts-are-bch : Type 0

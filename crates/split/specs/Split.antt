@@ -1,4 +1,4 @@
--- Layers, syndromes, valid configurations and coset leaders over (m, r), for r from 1 to 6 (document 01, 'Split').
+-- Layers, syndromes, valid configurations and coset leaders over (m, r), for r from 1 to 6 (document 01, 'Split'; document 02, CR 3).
 -- Layers and places of a configuration are counted from 0 here, so layer j is document 01's layer j + 1, and γ_(j+1) is α^j.
 -- Assumes nothing: these are definitions.
 use mathlib.Core.Path.{_≡_}
@@ -43,10 +43,6 @@ columns-from m r i (b ∷ bs) = xor (cond (eqb b 0) 0 (column m r i)) (columns-f
 unfoldable pub cosets : (m r : ℕ) → ℕ
 cosets m r = 2 ^ syndrome-long m r
 
--- the dimension of the BCH code, whose words are the binary words with syndrome 0; `Bch-dimension` says why
-unfoldable pub bch-dimension : (m r : ℕ) → ℕ
-bch-dimension m r = long m - syndrome-long m r
-
 -- the tuple of syndromes of a word's layers
 unfoldable pub syndromes-from : (left j : ℕ) → (m r : ℕ) → (word : List ℕ) → List ℕ
 syndromes-from zero j m r ws = []
@@ -90,6 +86,12 @@ unfoldable pub all-below : (bound : ℕ) → List ℕ → Bool
 all-below n [] = true
 all-below n (x ∷ xs) = ltb x n && all-below n xs
 
+-- a tuple of m syndromes that is valid
+pub record Configuration (m r : ℕ) (ss : List ℕ) : Type 0 where
+  pub count : length ss ≡ m
+  pub syndromes : all-below (cosets m r) ss ≡ true
+  pub is-valid : valid m r ss ≡ true
+
 -- a binary word of the code's length
 pub record Binary (m : ℕ) (bs : List ℕ) : Type 0 where
   pub count : length bs ≡ long m
@@ -99,11 +101,17 @@ unfoldable pub weight : (binary : List ℕ) → ℕ
 weight [] = 0
 weight (b ∷ bs) = b + weight bs
 
--- the leader of a coset is its member of least weight
+-- a binary word as a number, position i weighing 2^i
+unfoldable pub word-number : (binary : List ℕ) → ℕ
+word-number [] = 0
+word-number (b ∷ bs) = b + 2 * word-number bs
+
+-- the leader of a coset is its member of least weight, and of those tied in weight the one with the smallest number
 pub record Leader (m r s : ℕ) (bs : List ℕ) : Type 0 where
   pub binary : Binary m bs
   pub of-coset : syndrome m r bs ≡ s
   pub least : (ds : List ℕ) → Binary m ds → syndrome m r ds ≡ s → weight bs ≤ weight ds
+  pub first : (ds : List ℕ) → Binary m ds → syndrome m r ds ≡ s → weight ds ≡ weight bs → word-number bs ≤ word-number ds
 
 -- a BCH word that ends in these bits
 pub record Bch-ending (m r : ℕ) (ds bs : List ℕ) : Type 0 where

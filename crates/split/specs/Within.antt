@@ -2,7 +2,7 @@
 use mathlib.Core.Path.{_≡_}
 use mathlib.Core.Bool.{true}
 use mathlib.Core.List.{List}
-use Prim.Native.Nat.{ℕ, _≤_, _<_}
+use Prim.Native.Nat.{ℕ, _<_}
 use lib.ListN.{length}
 use Rattle.field.specs.Field.{width-good}
 use Rattle.code.specs.declared.Shape.{Shape}
@@ -22,11 +22,10 @@ pub record Layer-of (m j : ℕ) (word : List ℕ) : Type 0 where
   pub count : length word ≡ long m
   pub inside : j < m
 
--- a word of n symbols, and a number of roots for which a syndrome has the values at α and α^3 alone
-pub record Layers-of (m r : ℕ) (word : List ℕ) : Type 0 where
+-- a word of n symbols
+pub record Layers-of (m : ℕ) (word : List ℕ) : Type 0 where
   pub width-is : width-good m ≡ true
   pub count : length word ≡ long m
-  pub few : r ≤ 4
 
 -- a word of a code, its configuration, and an output of n·m places
 pub record Layered (shape : Shape) (word configuration output : List ℕ) : Type 0 where

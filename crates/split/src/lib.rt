@@ -1,21 +1,31 @@
 // A word as m binary layers: their syndromes, the leaders of their cosets, and the split of a codeword.
-// `split` is offered to callers: it takes any input and promises what specs/Calls.antt says, by the definitions of
-// specs/Split.antt. `leader` and `syndromes_of` are for the crates above. Which configurations are valid, and all of them by
+// `split`, with a code's number, and `split_by`, with its m and r, are offered to callers: they take any input and promise what specs/Calls.antt says,
+// by the definitions of specs/Split.antt. `leader` and `syndromes_of` are for the crates above. Which configurations are valid, and all of them by
 // number, is left to the crate `configurations`; words and codes are the crate `code`'s.
 mod tables;
 
+use code::Chosen;
 use code::Shape;
-use tables::LEADERS_1;
-use tables::LEADERS_2;
-use tables::LEADERS_3;
+use tables::HEADS_3_3;
+use tables::HEADS_3_6;
+use tables::HEADS_4_4;
+use tables::HEADS_4_8;
+use tables::HEADS_4_10;
+use tables::ROWS_3_3;
+use tables::ROWS_3_6;
+use tables::ROWS_4_4;
+use tables::ROWS_4_8;
+use tables::ROWS_4_10;
 ghost use mathlib.Core.Path.{_≡_};
-ghost use mathlib.Core.Bool.{true};
+ghost use mathlib.Core.Bool.{_&&_, cond};
 ghost use Prim.Native.Nat.{_/_, _%_, _^_, _≤_, _<_};
+ghost use lib.Dec.{leb, eqb};
 ghost use lib.ListN.{length};
-ghost use Rattle.field.specs.Field.{width-good};
-ghost use Rattle.code.specs.Code.{long, value-at};
+ghost use Rattle.code.specs.Code.{long, value-at, number-refusal, width, roots, parameter-refusal};
 ghost use Rattle.code.specs.Bits.{bits-of};
-ghost use Rattle.split.specs.Split.{layer, syndrome, syndromes, padded, Leader, sum};
+ghost use Rattle.code.specs.Within.{Coded};
+ghost use Rattle.split.specs.Split.{layer, number, syndrome, syndromes, padded, Leader, sum};
+ghost use Rattle.split.specs.Members.{where-odd, picked, rank, lower, least-rank, foremost};
 ghost use Rattle.split.specs.Within.{Coset, Layer-of, Layers-of, Layered};
 ghost use Rattle.split.specs.Calls.{Split-right, Split-says};
 
@@ -31,14 +41,79 @@ pub fn leader(shape: Shape, s: u16) -> u16
     requires { ⌜ Coset shape s ⌝ }
     ensures { λ x. ⌜ Leader (shape .m) (shape .r) s (bits-of (long (shape .m)) x) ⌝ }
 {
-    let i = s as usize;
-    if shape.m == 4 {
-        return LEADERS_3[i];
+    if shape.m == 3 {
+        if shape.q == 3 {
+            return foremost(&HEADS_3_3, &ROWS_3_3, s);
+        }
+        return foremost(&HEADS_3_6, &ROWS_3_6, s);
     }
-    if shape.r == 2 {
-        return LEADERS_1[i];
+    if shape.q == 4 {
+        return foremost(&HEADS_4_4, &ROWS_4_4, s);
     }
-    LEADERS_2[i]
+    if shape.q == 8 {
+        return foremost(&HEADS_4_8, &ROWS_4_8, s);
+    }
+    foremost(&HEADS_4_10, &ROWS_4_10, s)
+}
+
+// The first member of coset s by weight and number: a member, by the heads, and its sums with every BCH word, by the rows.
+fn foremost(heads: &[u16], rows: &[u16], s: u16) -> u16
+    requires { ⌜ length (now rows) ≤ 11 ⌝ }
+    ensures { λ x. ⌜ x ≡ foremost (now (heads .entry)) (now (rows .entry)) s ⌝ }
+{
+    let word = picked(heads, s as u32);
+    (least_rank(rows, word) % 32768) as u16
+}
+
+// The least rank of a word and of its sums with every BCH word.
+fn least_rank(rows: &[u16], word: u16) -> u32
+    requires { ⌜ length (now rows) ≤ 11 ⌝ }
+    ensures { λ x. ⌜ x ≡ least-rank (now (rows .entry)) word (2 ^ length (now (rows .entry))) ⌝ }
+{
+    let many = 1 << rows.len() as u32;
+    let mut best = rank(word);
+    let mut k: u32 = 0;
+    while k < many {
+        best = lower(best, rank(word ^ picked(rows, k)));
+        k += 1;
+    }
+    best
+}
+
+// The sum of the numbers of a table at the 1 bits of k.
+fn picked(table: &[u16], k: u32) -> u16
+    ensures { λ x. ⌜ x ≡ picked (now (table .entry)) k ⌝ }
+{
+    let mut sum: u16 = 0;
+    let mut rest = k;
+    let mut i: usize = 0;
+    while i < table.len() {
+        sum = sum ^ where_odd(rest, table[i]);
+        rest = rest / 2;
+        i += 1;
+    }
+    sum
+}
+
+// A number where the lowest bit of k is 1, else 0.
+fn where_odd(k: u32, number: u16) -> u16
+    ensures { λ x. ⌜ x ≡ where-odd k number ⌝ }
+{
+    if k % 2 == 0 { 0 } else { number }
+}
+
+// A word's place among others: by its weight, and then by its number.
+fn rank(x: u16) -> u32
+    ensures { λ r. ⌜ r ≡ rank x ⌝ }
+{
+    let word = x as u32;
+    32768 * u32::count_ones(word) + word
+}
+
+fn lower(a: u32, b: u32) -> u32
+    ensures { λ r. ⌜ r ≡ lower a b ⌝ }
+{
+    if b < a { b } else { a }
 }
 
 // The bit of a symbol in layer j.
@@ -51,7 +126,7 @@ fn bit(c: u8, j: u32) -> u8
 
 // The value at α^t of layer j of a word.
 fn layer_value(m: u32, t: u32, j: u32, word: &[u8]) -> u8
-    requires { ⌜ (t < 4) × Layer-of m j (now word) ⌝ }
+    requires { ⌜ (t < 6) × Layer-of m j (now word) ⌝ }
     ensures { λ x. ⌜ x ≡ value-at m t (layer j (now (word .entry))) ⌝ }
 {
     let mut sum: u8 = 0;
@@ -72,21 +147,51 @@ fn wide(x: u8) -> u16
     x as u16
 }
 
+// The second part of a syndrome: the value at α^3, from three roots on.
+fn third(m: u32, r: u32, j: u32, word: &[u8]) -> u16
+    requires { ⌜ Layer-of m j (now word) ⌝ }
+    ensures { λ x. ⌜ x ≡ cond (leb 3 r) (value-at m 3 (layer j (now (word .entry)))) 0 ⌝ }
+{
+    if r < 3 {
+        return 0;
+    }
+    wide(layer_value(m, 3, j, word))
+}
+
+// The last part of a syndrome: for m = 4 the number of the value at α^5, from five roots on.
+fn fifth(m: u32, r: u32, j: u32, word: &[u8]) -> u16
+    requires { ⌜ Layer-of m j (now word) ⌝ }
+    ensures { λ x. ⌜ x ≡ cond (leb 5 r && eqb m 4) (number (value-at m 5 (layer j (now (word .entry))))) 0 ⌝ }
+{
+    if r < 5 {
+        return 0;
+    }
+    if m == 4 {
+        return wide(numbered(layer_value(m, 5, j, word)));
+    }
+    0
+}
+
+// The number of a value of the field of 4: 0, 1, 6 and 7 are numbered 0 to 3.
+fn numbered(v: u8) -> u8
+    ensures { λ x. ⌜ x ≡ number v ⌝ }
+{
+    v % 2 + 2 * (v / 4 % 2)
+}
+
 // The syndrome of layer j of a word.
 fn syndrome_of(m: u32, r: u32, j: u32, word: &[u8]) -> u16
-    requires { ⌜ (r ≤ 4) × Layer-of m j (now word) ⌝ }
+    requires { ⌜ Layer-of m j (now word) ⌝ }
     ensures { λ x. ⌜ x ≡ syndrome m r (layer j (now (word .entry))) ⌝ }
 {
+    let size = wide(field::size(m));
     let first = wide(layer_value(m, 1, j, word));
-    if r < 3 {
-        return first;
-    }
-    first + wide(field::size(m)) * wide(layer_value(m, 3, j, word))
+    first + size * (third(m, r, j, word) + size * fifth(m, r, j, word))
 }
 
 // The configuration of a word: the syndromes of its layers; with m = 3 the fourth place is 0.
 pub fn syndromes_of(m: u32, r: u32, word: &[u8]) -> [u16; 4]
-    requires { ⌜ Layers-of m r (now word) ⌝ }
+    requires { ⌜ Layers-of m (now word) ⌝ }
     ensures { λ x. ⌜ x ≡ padded (syndromes m r (now (word .entry))) ⌝ }
 {
     let mut to = [0u16; 4];
@@ -133,9 +238,23 @@ fn write_layers(shape: Shape, word: &[u8], tuple: [u16; 4], bch: &mut [u8])
 // of each layer when its leader is added. A refused call answers the refusal's number and a configuration of zeros, and
 // keeps the output.
 pub fn split(code: u32, word: &[u8], bch: &mut [u8]) -> Splitting
-    ensures { λ a. ⌜ Split-says code (now (word .entry)) a (now (bch .entry)) (now (bch .exit)) ⌝ }
+    ensures { λ a. ⌜ Split-says (number-refusal code) (width code) (roots code) (now (word .entry)) a (now (bch .entry)) (now (bch .exit)) ⌝ }
 {
-    let chosen = code::by_number(code);
+    split_in(code::by_number(code), word, bch)
+}
+
+// The same, by m and r.
+pub fn split_by(m: u32, r: u32, word: &[u8], bch: &mut [u8]) -> Splitting
+    ensures { λ a. ⌜ Split-says (parameter-refusal m r) m r (now (word .entry)) a (now (bch .entry)) (now (bch .exit)) ⌝ }
+{
+    split_in(code::by_parameters(m, r), word, bch)
+}
+
+// `split` in a code that was chosen, or refused.
+fn split_in(chosen: Chosen, word: &[u8], bch: &mut [u8]) -> Splitting
+    requires { ⌜ Coded (chosen .shape) ⌝ }
+    ensures { λ a. ⌜ Split-says (chosen .number) (chosen .shape .m) (chosen .shape .r) (now (word .entry)) a (now (bch .entry)) (now (bch .exit)) ⌝ }
+{
     let shape = chosen.shape;
     let number = refusal::first(
         chosen.number,

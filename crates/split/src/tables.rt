@@ -1,88 +1,21 @@
-// The leaders of each code by syndrome: bit i is the bit at position i.
-pub const LEADERS_1: [u16; 8] = [0, 1, 2, 8, 4, 64, 16, 32];
+// For each m and number q of a syndrome's bits, words as numbers, bit i at position i: the word 0 from position q on with each syndrome of a single bit,
+// and the BCH word with each single 1 from position q on.
+pub const HEADS_3_3: [u16; 3] = [1, 2, 4];
 
-pub const LEADERS_2: [u16; 64] = [
-    0,
-    104,
-    81,
-    70,
-    35,
-    52,
-    13,
-    26,
-    22,
-    1,
-    56,
-    80,
-    74,
-    34,
-    100,
-    12,
-    69,
-    82,
-    20,
-    3,
-    25,
-    14,
-    72,
-    32,
-    44,
-    68,
-    2,
-    21,
-    112,
-    24,
-    33,
-    73,
-    49,
-    38,
-    96,
-    8,
-    18,
-    5,
-    67,
-    84,
-    88,
-    48,
-    9,
-    97,
-    4,
-    19,
-    42,
-    66,
-    11,
-    28,
-    37,
-    50,
-    40,
-    64,
-    6,
-    17,
-    98,
-    10,
-    76,
-    36,
-    65,
-    41,
-    16,
-    7,
-];
+pub const ROWS_3_3: [u16; 4] = [11, 22, 39, 69];
 
-pub const LEADERS_3: [u16; 16] = [
-    0,
-    1,
-    2,
-    16,
-    4,
-    256,
-    32,
-    1024,
-    8,
-    16384,
-    512,
-    128,
-    64,
-    8192,
-    2048,
-    4096,
-];
+pub const HEADS_3_6: [u16; 6] = [23, 46, 35, 22, 58, 49];
+
+pub const ROWS_3_6: [u16; 1] = [127];
+
+pub const HEADS_4_4: [u16; 4] = [1, 2, 4, 8];
+
+pub const ROWS_4_4: [u16; 11] = [19, 38, 76, 139, 261, 522, 1031, 2062, 4111, 8205, 16393];
+
+pub const HEADS_4_8: [u16; 8] = [198, 93, 186, 165, 199, 242, 225, 95];
+
+pub const ROWS_4_8: [u16; 7] = [465, 627, 1254, 2077, 4154, 8308, 16616];
+
+pub const HEADS_4_10: [u16; 10] = [693, 93, 186, 372, 278, 242, 835, 556, 930, 627];
+
+pub const ROWS_4_10: [u16; 5] = [1335, 2670, 4587, 9174, 17051];

@@ -68,7 +68,89 @@ pub fn agree() -> Tally {
     t = gives(t, 1, 7, 0x8000000, 4, 0, 0, 0, 20, kept);
     t = gives(t, 1, 7, 0x8000000, 6, 0, 0, 0, 21, kept);
     t = gives(t, 1, 7, 0x1000000, 8, 0, 0, 0, 21, kept);
-    gives(t, 2, 7, 0x3610000, 8, 0, 0, 0, 21, kept)
+    t = gives(t, 2, 7, 0x3610000, 8, 0, 0, 0, 21, kept);
+    by_parameters(t)
+}
+
+// By m = 4 and r: the word of message 1 then zeros and another, with the BCH word of each layer as a number, position i weighing 2^i. With six roots
+// a syndrome has the value at α^5, and leaders tie in weight.
+fn by_parameters(tally: Tally) -> Tally {
+    let mut t = parted(tally, 1, 0x210000000000000, 0, [2, 1, 0, 0], [0u16; 4]);
+    t = parted(
+        t,
+        4,
+        0x78cd10000000000,
+        0,
+        [74, 17, 125, 238],
+        [2077, 0, 2077, 17422],
+    );
+    t = parted(
+        t,
+        4,
+        0x585238d27c16b05,
+        0,
+        [46, 116, 113, 45],
+        [21989, 5016, 19287, 627],
+    );
+    t = parted(
+        t,
+        6,
+        0xcac397100000000,
+        0,
+        [449, 60, 451, 676],
+        [0, 0, 0, 1335],
+    );
+    t = parted(
+        t,
+        6,
+        0x39b24838d27c16b,
+        0,
+        [607, 72, 610, 841],
+        [22087, 24909, 10680, 19906],
+    );
+    t = parted(t, 6, 0x78cd10000000000, 8, [0u16; 4], [0u16; 4]);
+    parted(t, 3, 0x78cd10000000000, 16, [0u16; 4], [0u16; 4])
+}
+
+// Splitting 15 symbols answers a number and a configuration, and leaves these layers, or zeros where it is refused.
+fn parted(
+    t: Tally,
+    r: u32,
+    word: u64,
+    number: u32,
+    configuration: [u16; 4],
+    layers: [u16; 4],
+) -> Tally {
+    let symbols = words::symbols(15, word);
+    let mut space = [0u8; 60];
+    let s = split::split_by(4, r, parts::of(&symbols, 15), &mut space);
+    let c = s.configuration;
+    let same = (c[0] ^ configuration[0])
+        | (c[1] ^ configuration[1])
+        | (c[2] ^ configuration[2])
+        | (c[3] ^ configuration[3]);
+    let left = check::same(&space, &layers_of(layers));
+    t.with(s.number == number).with(same == 0).with(left)
+}
+
+// The bits of four numbers, in 15 places each.
+fn layers_of(layers: [u16; 4]) -> [u8; 60] {
+    let mut all = [0u8; 60];
+    let mut a = layers[0];
+    let mut b = layers[1];
+    let mut c = layers[2];
+    let mut d = layers[3];
+    for i in 0..15 {
+        all[i] = (a % 2) as u8;
+        all[15 + i] = (b % 2) as u8;
+        all[30 + i] = (c % 2) as u8;
+        all[45 + i] = (d % 2) as u8;
+        a = a / 2;
+        b = b / 2;
+        c = c / 2;
+        d = d / 2;
+    }
+    all
 }
 
 // Of code 1 the entries of each list: of (5) the position of the leader's one, as a bit, and of (6) and (12) the configuration.

@@ -8,7 +8,7 @@ use Prim.Native.Nat.{ℕ}
 use lib.IntN.{ℤ, pos, negsuc}
 use lib.ListN.{length, replicate}
 use lib.Ieee.{Float, fin, binary32, ofBits}
-use Rattle.code.specs.Code.{width, roots, long, is-codeword}
+use Rattle.code.specs.Code.{number-refusal, width, roots, long, is-codeword}
 use Rattle.code.specs.Calls.{Encode-says}
 use Rattle.split.specs.Split.{syndromes}
 use Rattle.metric.specs.Metric.{metric}
@@ -16,8 +16,10 @@ use Rattle.quantiser.specs.Quantise.{quantised}
 
 -- with n places for the output, the promise of `encode` holds of the answer 0 and this word, and of no other answer and word
 pub record Encodes-to (code : ℕ) (message word : List ℕ) : Type 0 where
-  pub met : (o : List ℕ) → length o ≡ long (width code) → Encode-says code message 0 o word
-  pub only : (answer : ℕ) (o p : List ℕ) → length o ≡ long (width code) → Encode-says code message answer o p → (answer ≡ 0) × (p ≡ word)
+  pub met : (o : List ℕ) → length o ≡ long (width code) → Encode-says (number-refusal code) (width code) (roots code) message 0 o word
+  pub only :
+      (answer : ℕ) (o p : List ℕ) → length o ≡ long (width code) → Encode-says (number-refusal code) (width code) (roots code) message answer o p →
+      (answer ≡ 0) × (p ≡ word)
 
 abbrev pub codeword : (code : ℕ) → (word : List ℕ) → Bool
 codeword c ws = is-codeword (width c) (roots c) ws

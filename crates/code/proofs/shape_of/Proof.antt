@@ -1,31 +1,28 @@
 -- `code::shape_of` meets its contract.
 -- Assumes nothing.
-use Rattle.basics.proofs.Kit.{_≡_, refl, ap, _∙_, true, ℕ, _-_, _<_, arith, needs}
+use Rattle.basics.proofs.Kit.{_≡_, refl, ap, true, ℕ, _-_, _<_, arith, needs}
 use native.Mathlib.Nat.{one-mul, mod-eq-of-lt}
 use lib.Pow.{pow-lt}
 use Rattle.field.specs.Field.{width-good}
 use Rattle.code.specs.Code.{long, message-long}
-use Rattle.code.proofs.Accepted.{width-fine, roots-few, coded, syndrome-short}
+use Rattle.code.proofs.Accepted.{accepted-parts, syndrome-short}
 use Rattle.code.proofs.shape_of.Statement.{statement}
 use Rattle.code.proofs.shape_of.Tie as tie
 
 fine : (c : tie.Start) → width-good (c .args .m) ≡ true
-fine c = rw (c .pre .1) (width-fine (c .pre .0))
+fine c = accepted-parts (c .args .m) (c .args .r) (c .pre) .wide
 
 few : (c : tie.Start) → c .args .r < long (c .args .m)
-few c = rw (c .pre .1, c .pre .2) (roots-few (c .pre .0))
+few c = accepted-parts (c .args .m) (c .args .r) (c .pre) .few
 
 short : (c : tie.After-syndrome-long-of) → c .syndrome-long-of .result < 64
 short c = let a = c .before .before .args in rw (c .syndrome-long-of .ensures) (syndrome-short (a .m) (a .r) (fine (c .before .before)))
 
 returns : tie.Need-returns
 unfolding message-long
-returns c = let s = c .before .before .before in let k = coded (s .pre .0) in (
+returns c = let s = c .before .before .before in (
   record {
-    code = k .0;
-    code-is = k .1;
-    m-is = s .pre .1 ∙ k .2;
-    r-is = s .pre .2 ∙ k .3;
+    accepted-is = s .pre;
     width-is = fine s;
     few = few s;
     n-is = c .before .before .long-of .ensures;

@@ -6,7 +6,8 @@ use Rattle.refusal.proofs.Outcomes.{outcome-done, outcome-refused}
 use Rattle.refusal.proofs.Tests.{first-none}
 use Rattle.refusal.specs.Refusal.{first}
 use Rattle.code.specs.Code.{number-refusal, width}
-use Rattle.code.proofs.Promise.{chosen-refusal}
+use Rattle.code.proofs.Accepted.{number-taken}
+use Rattle.code.proofs.Promise.{chosen-refusal, by-number-m, by-number-r, has-number}
 use Rattle.decoder.specs.Calls.{decode-refusal, Decode-says}
 use Rattle.decoder.proofs.Refusals.{decode-accepted, decoded-as}
 use Rattle.decoder.proofs.decode.Statement.{statement}
@@ -28,8 +29,8 @@ unfolding Decode-says
 returns c = outcome-refused _ _ _ _ (refusal-is (c .before)) (c .if1 .taken) (refl, refl, refl)
 
 decode-accepted-requires : tie.Need-decode-accepted-requires
-decode-accepted-requires c κs = let e = c .before .before in let f = e .before in
-    decode-accepted (chosen f .by-number .ensures .coded) _ _ _ (sym (f .before .decode-refusal .ensures) ∙ first-none _ _ (sym (f .first .ensures) ∙ e .if1 .left) .1)
+decode-accepted-requires c κs = let e = c .before .before in let f = e .before in let n = chosen f .by-number .ensures in let k = start f .args .code in
+    decode-accepted (n .coded) (has-number k n (number-taken k (first-none _ _ (sym (refusal-is f) ∙ e .if1 .left) .0))) _ _ _ (sym (f .before .decode-refusal .ensures) ∙ first-none _ _ (sym (f .first .ensures) ∙ e .if1 .left) .1)
 
 returns-2 : tie.Need-returns-2
 unfolding Decode-says
@@ -37,7 +38,7 @@ returns-2 c = let d = c .before .before .before in let e = d .before .before .be
     outcome-done _ _ _ _
     (sym (refusal-is (e .before)) ∙ e .if1 .left)
     refl
-    (decoded-as (n .m-is) (n .r-is) (toZ-ofZ (record { sfits = d .decode-accepted .ok })) (d .decode-accepted .ensures))
+    (decoded-as (by-number-m _ n) (by-number-r _ n) (toZ-ofZ (record { sfits = d .decode-accepted .ok })) (d .decode-accepted .ensures))
 
 pub decode-spec : {M : Type 1} → statement M
 decode-spec =

@@ -15,7 +15,7 @@ halves : (s : tie.Start) → s .args .shape .n * 2 * 4 ≤ 120
 halves s = omega (arith, short (s .pre .0 .input))
 
 states : (s : tie.Start) → s .args .shape .size * 4 ≤ 256
-states s = omega (arith, size-small (s .pre .0 .input .coded))
+states s = omega (arith, size-small (s .pre .0 .input .coded) (s .pre .0 .input .numbered))
 
 -- where the rooms are made, and where their parts are cut
 abbrev made : tie.After-one-room → tie.After-columns
@@ -46,7 +46,7 @@ pub decode-in-spec : {M : Type 1} → statement M
 decode-in-spec =
     tie.close
     (tie.spec
-    (λ c κs. c .before .before .pre .0 .input .coded)
+    (λ c κs. let i = c .before .before .pre .0 .input in (i .coded, i .numbered))
     (λ c. search needs)
     (λ c. search needs)
     (λ c. search needs)

@@ -10,11 +10,11 @@ excess-spec =
     tie.close
     (tie.spec
     (λ c. search needs)
-    (λ c κs. let t = c .before in let p = t .before .before .pre in (p, sym (rooms (p .input .coded) .0 (t .if1 .taken))))
+    (λ c κs. let t = c .before in let p = t .before .before .pre in (p, sym (rooms (p .input .coded) (p .input .numbered) .0 (t .if1 .taken))))
     (λ c. search needs)
     (λ c. search needs)
-    (λ c κs. let t = c .before in let p = t .before .before .before .pre in (p, sym (rooms (p .input .coded) .1 (t .if2 .taken))))
+    (λ c κs. let t = c .before in let p = t .before .before .before .pre in (p, sym (rooms (p .input .coded) (p .input .numbered) .1 (t .if2 .taken))))
     (λ c. search needs)
     (λ c. search needs)
-    (λ c κs. let e = c .before in let p = e .before .before .before .pre in (p, sym (rooms (p .input .coded) .2 (e .before .if1 .left) (e .if2 .left))))
+    (λ c κs. let e = c .before in let p = e .before .before .before .pre in (p, sym (rooms (p .input .coded) (p .input .numbered) .2 (e .before .if1 .left) (e .if2 .left))))
     (λ c. search needs))

@@ -8,7 +8,8 @@ use Rattle.refusal.proofs.Tests.{first-none}
 use Rattle.refusal.proofs.Outcomes.{outcome-done, outcome-refused}
 use Rattle.refusal.specs.Refusal.{first}
 use Rattle.code.specs.Code.{number-refusal, width, is-codeword}
-use Rattle.code.proofs.Promise.{of-number, chosen-refusal}
+use Rattle.code.proofs.Accepted.{number-taken}
+use Rattle.code.proofs.Promise.{of-number, chosen-refusal, by-number-m, by-number-r, has-number}
 use Rattle.metric.specs.Metric.{Marked}
 use Rattle.metric.proofs.Marks.{marked-none}
 use Rattle.marker.specs.Calls.{mark-refusal, Mark-says}
@@ -32,8 +33,8 @@ taken : (c : tie.Else1) → let f = c .before in let a = start f .args in Mark-t
 taken c = let f = c .before in mark-accepted _ _ _ (sym (f .before .mark-refusal .ensures) ∙ first-none _ _ (sym (f .first .ensures) ∙ c .if1 .left) .1)
 
 codeword : (c : tie.Else2) → let f = c .before .before .before in let a = start f .args in Judged (chosen f .by-number .result .shape) (a .row .now) (a .word .now)
-codeword c = let i = c .before in let e = i .before in
-    judged (chosen (e .before) .by-number .ensures .coded) (taken e) (sym (i .is-codeword .ensures) ∙ not-false _ (c .if2 .left))
+codeword c = let i = c .before in let e = i .before in let f = e .before in let n = chosen f .by-number .ensures in let k = start f .args .code in
+    judged (n .coded) (taken e) (has-number k n (number-taken k (first-none _ _ (sym (refusal-is f) ∙ e .if1 .left) .0))) (sym (i .is-codeword .ensures) ∙ not-false _ (c .if2 .left))
 
 small : (c : tie.After-excess) → c .excess .result < 2 ^ 30
 small c = excess-small (codeword (c .before)) (c .excess .ensures)
@@ -46,7 +47,7 @@ returns-2 : tie.Need-returns-2
 unfolding Mark-says
 returns-2 c = let i = c .before in let e = i .before in let f = e .before in let d = chosen f .by-number .ensures in let a = start f .args in
     outcome-done _ _ _ _ (sym (refusal-is f) ∙ e .if1 .left) refl
-    (of-number (λ m r. Marked 0 (pos 0) m (is-codeword m r) (a .row .now) (a .word .now)) (d .m-is) (d .r-is) (marked-none _ _ _ _ (sym (i .is-codeword .ensures) ∙ not-true _ (c .if2 .taken))))
+    (of-number (λ m r. Marked 0 (pos 0) m (is-codeword m r) (a .row .now) (a .word .now)) (by-number-m _ d) (by-number-r _ d) (marked-none _ _ _ _ (sym (i .is-codeword .ensures) ∙ not-true _ (c .if2 .taken))))
 
 returns-3 : tie.Need-returns-3
 unfolding Mark-says
@@ -54,7 +55,7 @@ returns-3 c = let x = c .before in let e = x .before .before .before in let f = 
     let k = c .verdict-on in
     let v = k .ensures _ _ _ _ (excess-lacks (codeword (x .before)) (x .excess .ensures) (toZ-pos w32 (omega (arith, small x)))) in
     outcome-done _ _ _ _ (sym (refusal-is f) ∙ e .if1 .left) (v .1)
-    (of-number (λ m r. Marked (k .result .verdict) (k .result .shortfall) m (is-codeword m r) (a .row .now) (a .word .now)) (b .ensures .m-is) (b .ensures .r-is) (v .0))
+    (of-number (λ m r. Marked (k .result .verdict) (k .result .shortfall) m (is-codeword m r) (a .row .now) (a .word .now)) (by-number-m _ (b .ensures)) (by-number-r _ (b .ensures)) (v .0))
 
 pub judge-word-spec : {M : Type 1} → statement M
 judge-word-spec =

@@ -1,44 +1,15 @@
--- `quantiser::quantise` meets its contract: nothing is written before the refusal is known, and what is accepted is filled.
+-- `quantiser::quantise` meets its contract.
 -- Assumes nothing.
-use Rattle.basics.proofs.Kit.{_≡_, refl, sym, _∙_, needs, length}
-use Rattle.refusal.proofs.Outcomes.{outcome-done, outcome-refused}
-use Rattle.refusal.proofs.Tests.{first-none}
-use Rattle.refusal.specs.Refusal.{first}
-use Rattle.code.specs.Code.{number-refusal, width}
-use Rattle.code.proofs.Promise.{chosen-refusal}
-use Rattle.quantiser.specs.Calls.{quantise-refusal, Quantise-says}
-use Rattle.quantiser.proofs.Outcomes.{accepted}
+use Rattle.basics.proofs.Kit.{needs}
+use Rattle.quantiser.proofs.Outcomes.{quantise-as}
 use Rattle.quantiser.proofs.quantise.Statement.{statement}
 use Rattle.quantiser.proofs.quantise.Tie as tie
-
-abbrev start : tie.After-first → tie.Start
-start f = f .before .before .before .before
-
-refusal-is : (f : tie.After-first) → let a = start f .args in
-    f .first .result ≡ first (number-refusal (a .code)) (quantise-refusal (width (a .code)) (a .samples .now) (length (a .row .now)))
-refusal-is f = let a = start f .args in
-    chosen-refusal (λ m r. quantise-refusal m (a .samples .now) (length (a .row .now))) (f .before .before .by-number .ensures) (f .first .ensures) (f .before .quantise-refusal .ensures)
-
-fill-requires : tie.Need-fill-requires
-fill-requires c κs = let t = c .before in let f = t .before in
-    accepted _ _ _ (sym (f .before .quantise-refusal .ensures) ∙ first-none _ _ (sym (f .first .ensures) ∙ t .if1 .taken) .1)
-
-returns : tie.Need-returns
-unfolding Quantise-says
-returns c = let w = c .before in let t = w .before .before in outcome-done _ _ _ _ (sym (refusal-is (t .before)) ∙ t .if1 .taken) (t .if1 .taken) (w .fill .ensures)
-
-returns-2 : tie.Need-returns-2
-unfolding Quantise-says
-returns-2 c = outcome-refused _ _ _ _ (refusal-is (c .before)) (c .if1 .left) refl
 
 pub quantise-spec : {M : Type 1} → statement M
 quantise-spec =
     tie.close
     (tie.spec
     (λ c κs. search needs)
-    (λ c κs. search needs)
-    (λ c κs. search needs)
-    fill-requires
+    (λ c κs. c .before .by-number .ensures .coded)
     (λ c. search needs)
-    returns
-    returns-2)
+    (λ c. quantise-as (c .before .before .before .by-number .ensures) _ _ _ _ (c .before .quantise-in .ensures)))

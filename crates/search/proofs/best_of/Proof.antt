@@ -15,7 +15,7 @@ small : (w : tie.After-walk) → w .walk .result .total < cap
 small w = rw (w .walk .ensures .0 .least) (start w .pre .1 .0)
 
 lent : (w : tie.After-walk) → (length (w .walk .last .1 .1 .0) ≡ start w .args .shape .size * 4) × (start w .args .shape .size * 4 ≤ 256)
-lent w = (w .walk .kept .1 .1 .0 ∙ start w .pre .1 .1 .0, omega (arith, size-small (start w .pre .0 .coded)))
+lent w = (w .walk .kept .1 .1 .0 ∙ start w .pre .1 .1 .0, omega (arith, size-small (start w .pre .0 .coded) (start w .pre .0 .numbered)))
 
 walk-requires : tie.Need-walk-requires
 walk-requires c κs = let s = c .before .before .before .before .before .before in (s .pre .0 .tuples, s .pre .1 .1)

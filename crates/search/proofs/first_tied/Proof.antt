@@ -7,7 +7,7 @@ use Rattle.search.proofs.first_tied.Statement.{statement}
 use Rattle.search.proofs.first_tied.Tie as tie
 
 states : (s : tie.Start) → s .args .shape .size * 4 ≤ 256
-states s = omega (arith, size-small (s .pre .0 .coded))
+states s = omega (arith, size-small (s .pre .0 .coded) (s .pre .0 .numbered))
 
 slice-aggregate-first-tied-with : tie.Need-slice-aggregate-first-tied-with
 slice-aggregate-first-tied-with c = sym (length-take-le _ _ (states (c .before .before .before .before .before .before .before .before)))

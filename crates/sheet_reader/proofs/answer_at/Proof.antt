@@ -4,6 +4,7 @@ use Rattle.basics.proofs.Kit.{_≡_, Bool, _&&_, ℕ, needs, eqb}
 use Rattle.code.specs.declared.Shape.{Shape}
 use Rattle.code.specs.Code.{width}
 use Rattle.code.specs.Within.{Coded}
+use Rattle.code.proofs.Promise.{by-number-m}
 use Rattle.sheet.specs.Sheet.{kind, head-code, low, head-kind}
 use Rattle.sheet_reader.specs.declared.Yield.{Yield}
 use Rattle.sheet_reader.specs.Within.{yield-of, answered}
@@ -19,7 +20,7 @@ returns : tie.Need-returns
 returns c =
     let l = c .before in let k = l .before in let b = k .before in let n = b .before .before .before .before in
     let h = n .before in let a = h .before .before .before .args in let z = n .by-number .ensures in
-    answer-is (a .row) (a .word) (h .before .word-at .ensures) (h .head-code-of .ensures) (z .coded) (z .m-is)
+    answer-is (a .row) (a .word) (h .before .word-at .ensures) (h .head-code-of .ensures) (z .coded) (by-number-m _ z)
     (b .both .ensures) (k .kind-of .ensures) (l .low-of .ensures) (c .yield-of .ensures)
 
 pub answer-at-spec : {M : Type 1} → statement M

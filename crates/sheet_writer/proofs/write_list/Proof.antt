@@ -5,6 +5,7 @@ use native.Mathlib.Nat.{le-refl, le-trans, le-add-right}
 use mir.Syntax.{w32, w64}
 use mir.Val.{Fits}
 use mir.Facts.{fits-le, fits-below}
+use Rattle.code.proofs.Promise.{by-number-m}
 use Rattle.code.specs.Code.{width, long}
 use Rattle.code.specs.Bits.{row-long}
 use Rattle.sheet.specs.Sheet.{question, digits, worded, end-kind, question-long, question-words, question-good}
@@ -51,10 +52,10 @@ few-fits : {n : ℕ} → n ≤ 75 → Fits w64 (1 + n) × Fits w64 (4 * (1 + n))
 few-fits h = (record { fits = omega arith }, record { fits = omega arith })
 
 row-is : (b : tie.After-by-number Inv-loop μ-loop) → b .by-number .result .shape .bits ≡ row-long (width (next-code (at b .loop .inv)))
-row-is b = let z = b .by-number .ensures in z .coded .bits-is ∙ ap row-long (z .m-is)
+row-is b = let z = b .by-number .ensures in z .coded .bits-is ∙ ap row-long (by-number-m _ z)
 
 word-is : (b : tie.After-by-number Inv-loop μ-loop) → b .by-number .result .shape .n ≡ long (width (next-code (at b .loop .inv)))
-word-is b = let z = b .by-number .ensures in z .coded .n-is ∙ ap long (z .m-is)
+word-is b = let z = b .by-number .ensures in z .coded .n-is ∙ ap long (by-number-m _ z)
 
 rows-in : (b : tie.After-by-number Inv-loop μ-loop) → at b .loop .row + b .by-number .result .shape .bits ≤ length (now (st (at b) .args .rows))
 rows-in b = sum-in _ (row-is b) (rows-left (at b .loop .inv) (in-loop b .loop-test .taken))

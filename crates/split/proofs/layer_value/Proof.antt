@@ -14,7 +14,7 @@ use Rattle.split.proofs.layer_value.Tie as tie
 
 abbrev Inv-loop : tie.InvT-loop
 Inv-loop m t j word sum₀ e₀ i₀ sum e i =
-    (i ≤ length word) × (e ≡ i * t) × (e ≤ 4 * i) × (xor sum (value-from m t i (drop i (layer j word))) ≡ value-at m t (layer j word))
+    (i ≤ length word) × (e ≡ i * t) × (e ≤ 5 * i) × (xor sum (value-from m t i (drop i (layer j word))) ≡ value-at m t (layer j word))
 
 abbrev μ-loop : tie.MeasureT-loop
 μ-loop m t j word sum₀ e₀ i₀ sum e i = length word - i

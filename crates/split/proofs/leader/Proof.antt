@@ -1,59 +1,69 @@
--- `split::leader` meets its contract: each table has, at its syndrome, each word of weight t or less.
+-- `split::leader` meets its contract.
 -- Assumes nothing.
-use Rattle.basics.proofs.Kit.{_≡_, refl, sym, _∙_, needs}
-use Rattle.field.specs.Field.{xor, times, times-from, doubled, alpha}
-use Rattle.code.specs.Code.{width, roots, long, value-from, value-at}
-use Rattle.code.proofs.Promise.{code-1, code-2, code-3}
-use Rattle.split.specs.Split.{number, syndrome, cosets}
-use Rattle.split.proofs.Leaders.{mask, heaviest, gather, table, in-code, looked-up}
+use Rattle.basics.proofs.Kit.{_≡_, needs}
+use borrow.Author.Tests.{eq-eqb, ne-eqb}
+use Rattle.split.proofs.Leaders.{heads, rows, found}
 use Rattle.split.proofs.leader.Statement.{statement}
 use Rattle.split.proofs.leader.Tie as tie
 
-third : (c : tie.Then1) → c .before .before .pre .coded .code ≡ 3
-third c = let z = c .before .before .pre .coded in code-3 (z .code) (z .code-is) (sym (z .m-is) ∙ c .if1 .taken)
-
-first : (c : tie.Then2) → c .before .before .before .before .pre .coded .code ≡ 1
-first c = let e = c .before .before in let z = e .before .before .pre .coded in
-    code-1 (z .code) (z .code-is) (λ f. e .if1 .left (z .m-is ∙ f)) (sym (z .r-is) ∙ c .if2 .taken)
-
-second : (c : tie.Else2) → c .before .before .before .before .pre .coded .code ≡ 2
-second c = let e = c .before .before in let z = e .before .before .pre .coded in
-    code-2 (z .code) (z .code-is) (λ f. e .if1 .left (z .m-is ∙ f)) (λ f. c .if2 .left (z .r-is ∙ f))
-
-array-read-result : tie.Need-array-read-result
-unfolding width roots cosets
-array-read-result c = in-code (c .before .before .pre) 3 (third c)
-
 returns : tie.Need-returns
-unfolding width roots long cosets number syndrome value-from value-at xor times times-from doubled alpha mask heaviest gather table
-returns c = looked-up (c .before .before .pre) 3 _ (third c) refl
-
-array-read-result-2 : tie.Need-array-read-result-2
-unfolding width roots cosets
-array-read-result-2 c = in-code (c .before .before .before .before .pre) 1 (first c)
+unfolding heads rows
+returns c = let s = c .before .before .before .before .before .before .before in let h = s .args .shape in
+    let e : h .m ≡ 3 = search needs in
+    let f : h .q ≡ 3 = search needs in
+    found (s .pre) _ (rw (eq-eqb (h .m) 3 e, eq-eqb (h .q) 3 f) (c .foremost .ensures))
 
 returns-2 : tie.Need-returns-2
-unfolding width roots long cosets number syndrome value-from value-at xor times times-from doubled alpha mask heaviest gather table
-returns-2 c = looked-up (c .before .before .before .before .pre) 1 _ (first c) refl
-
-array-read-result-3 : tie.Need-array-read-result-3
-unfolding width roots cosets
-array-read-result-3 c = in-code (c .before .before .before .before .pre) 2 (second c)
+unfolding heads rows
+returns-2 c = let s = c .before .before .before .before .before .before .before in let h = s .args .shape in
+    let e : h .m ≡ 3 = search needs in
+    let f : (h .q ≡ 3 → ⊥) = search needs in
+    found (s .pre) _ (rw (eq-eqb (h .m) 3 e, ne-eqb (h .q) 3 f) (c .foremost2 .ensures))
 
 returns-3 : tie.Need-returns-3
-unfolding width roots long cosets number syndrome value-from value-at xor times times-from doubled alpha mask heaviest gather table
-returns-3 c = looked-up (c .before .before .before .before .pre) 2 _ (second c) refl
+unfolding heads rows
+returns-3 c = let s = c .before .before .before .before .before .before .before in let h = s .args .shape in
+    let e : (h .m ≡ 3 → ⊥) = search needs in
+    let f : h .q ≡ 4 = search needs in
+    found (s .pre) _ (rw (ne-eqb (h .m) 3 e, eq-eqb (h .q) 4 f) (c .foremost3 .ensures))
+
+returns-4 : tie.Need-returns-4
+unfolding heads rows
+returns-4 c = let s = c .before .before .before .before .before .before .before .before .before in let h = s .args .shape in
+    let e : (h .m ≡ 3 → ⊥) = search needs in
+    let f : (h .q ≡ 4 → ⊥) = search needs in
+    let g : h .q ≡ 8 = search needs in
+    found (s .pre) _ (rw (ne-eqb (h .m) 3 e, ne-eqb (h .q) 4 f, eq-eqb (h .q) 8 g) (c .foremost4 .ensures))
+
+returns-5 : tie.Need-returns-5
+unfolding heads rows
+returns-5 c = let s = c .before .before .before .before .before .before .before .before .before in let h = s .args .shape in
+    let e : (h .m ≡ 3 → ⊥) = search needs in
+    let f : (h .q ≡ 4 → ⊥) = search needs in
+    let g : (h .q ≡ 8 → ⊥) = search needs in
+    found (s .pre) _ (rw (ne-eqb (h .m) 3 e, ne-eqb (h .q) 4 f, ne-eqb (h .q) 8 g) (c .foremost5 .ensures))
 
 pub leader-spec : {M : Type 1} → statement M
 leader-spec =
     tie.close
     (tie.spec
     (λ c. search needs)
-    array-read-result
+    (λ c. search needs)
+    (λ c κs. search needs)
     returns
     (λ c. search needs)
-    array-read-result-2
+    (λ c. search needs)
+    (λ c κs. search needs)
     returns-2
     (λ c. search needs)
-    array-read-result-3
-    returns-3)
+    (λ c. search needs)
+    (λ c κs. search needs)
+    returns-3
+    (λ c. search needs)
+    (λ c. search needs)
+    (λ c κs. search needs)
+    returns-4
+    (λ c. search needs)
+    (λ c. search needs)
+    (λ c κs. search needs)
+    returns-5)

@@ -1,48 +1,52 @@
 -- `split::syndrome_of` meets its contract.
 -- Assumes nothing.
-use Rattle.basics.proofs.Kit.{_≡_, _∙_, ℕ, _+_, _*_, _^_, _≤_, arith, needs}
+use Rattle.basics.proofs.Kit.{refl, Bool, true, false, _&&_, cond, ℕ, _+_, _*_, _≤_, _<_, arith, needs, eqb, leb}
 use Rattle.code.specs.Code.{value-at}
-use Rattle.split.specs.Split.{layer}
+use Rattle.split.specs.Split.{layer, number, syndrome}
 use Rattle.split.proofs.Layers as L
-use Rattle.split.proofs.Syndromes.{one-value, two-values, size-small, second-fits}
+use Rattle.split.proofs.Glue.{number-lt}
+use Rattle.split.proofs.Syndromes.{size-small, product-small}
 use Rattle.split.proofs.syndrome_of.Statement.{statement}
 use Rattle.split.proofs.syndrome_of.Tie as tie
 
--- the values that are put together, at the places where they are known
-first-is : (c : tie.After-wide) → let a = c .before .before .before .args in c .wide .result ≡ value-at (a .m) 1 (layer (a .j) (a .word .now))
-first-is c = c .wide .ensures ∙ c .before .layer-value .ensures
-
-size-is : (c : tie.After-wide2) → c .wide2 .result ≡ 2 ^ c .before .before .before .before .before .before .args .m
-size-is c = c .wide2 .ensures ∙ c .before .size .ensures
-
-abbrev start : tie.After-layer-value2 → tie.Start
+abbrev start : tie.After-fifth → tie.Start
 start c = c .before .before .before .before .before .before .before
 
-third-is : (c : tie.After-wide3) → let a = start (c .before) .args in c .wide3 .result ≡ value-at (a .m) 3 (layer (a .j) (a .word .now))
-third-is c = c .wide3 .ensures ∙ c .before .layer-value2 .ensures
+-- the parts of a syndrome, and how great they are
+record Parts (c : tie.After-fifth) : Type 0 where
+  size : c .before .before .before .before .wide .result ≤ 16
+  first : c .before .before .wide2 .result < 16
+  third : c .before .third .result < 16
+  fifth : c .fifth .result ≤ 3
 
--- they are small
-small-product : {x y a b : ℕ} → x ≡ a → y ≡ b → a * b ≤ 256 → x * y ≤ 256
-small-product e f h = rw (e, f) h
+if-lt : (b : Bool) (x n : ℕ) → x < n → 0 < n → cond b x 0 < n
+if-lt true x n h l = h
+if-lt false x n h l = l
 
-small : (c : tie.After-wide3) → c .before .before .wide2 .result * c .wide3 .result ≤ 256
-small c = let s = start (c .before) in let m = s .args .m in let w = s .pre .1 .width-is in let bs = layer (s .args .j) (s .args .word .now) in
-    small-product (size-is (c .before .before)) (third-is c) (second-fits m (value-at m 3 bs) w (L.at-lt m w 3 bs (L.layer-below (s .args .j) (s .args .word .now))))
+parts : (c : tie.After-fifth) → Parts c
+parts c =
+    let t = c .before in let f = t .before in let s = f .before .before in let a = start c .args in let w = start c .pre .width-is in
+    let bs = layer (a .j) (a .word .now) in let b = L.layer-below (a .j) (a .word .now) in let sixteen = size-small (a .m) w in
+    let n : number (value-at (a .m) 5 bs) < 4 = number-lt (value-at (a .m) 5 bs) in
+    record {
+      size = rw (s .wide .ensures, s .before .size .ensures) sixteen;
+      first = rw (f .wide2 .ensures, f .before .layer-value .ensures) (omega (arith, sixteen, L.at-lt (a .m) w 1 bs b));
+      third = rw (t .third .ensures) (if-lt (leb 3 (a .r)) (value-at (a .m) 3 bs) 16 (omega (arith, sixteen, L.at-lt (a .m) w 3 bs b)) (omega arith));
+      fifth = rw (c .fifth .ensures) (omega (arith, if-lt (leb 5 (a .r) && eqb (a .m) 4) (number (value-at (a .m) 5 bs)) 4 n (omega arith)));
+    }
 
-add-result : tie.Need-add-result
-add-result c = let s = start (c .before) in let m = s .args .m in let w = s .pre .1 .width-is in let f = c .before .before .before .before .before in
-    let u = L.at-lt m w 1 (layer (s .args .j) (s .args .word .now)) (L.layer-below (s .args .j) (s .args .word .now)) in
-    omega (arith, small c, first-is f, size-small m w, u)
+-- their products
+inner : (c : tie.After-fifth) → c .before .before .before .before .wide .result * c .fifth .result ≤ 48
+inner c = product-small _ _ 16 3 (parts c .size) (parts c .fifth)
+
+outer : (c : tie.After-fifth) →
+    c .before .before .before .before .wide .result * (c .before .third .result + c .before .before .before .before .wide .result * c .fifth .result) ≤ 1008
+outer c = product-small _ _ 16 63 (parts c .size) (omega (arith, inner c, parts c .third))
 
 returns : tie.Need-returns
-returns c = let a = c .before .before .before .before .args in first-is (c .before) ∙ one-value (a .m) (a .r) (layer (a .j) (a .word .now)) (c .if1 .taken)
-
-together : {x y z a b c : ℕ} → x ≡ a → y ≡ b → z ≡ c → x + y * z ≡ a + b * c
-together e f g = rw (e, f, g)
-
-returns-2 : tie.Need-returns-2
-returns-2 c = let s = start (c .before) in let a = s .args in let e = c .before .before .before .before in
-    together (first-is (e .before)) (size-is (c .before .before)) (third-is c) ∙ two-values (a .m) (a .r) (layer (a .j) (a .word .now)) (e .if1 .left) (s .pre .0)
+unfolding syndrome
+returns c = let t = c .before in let f = t .before in let s = f .before .before in
+    rw (f .wide2 .ensures, f .before .layer-value .ensures, s .wide .ensures, s .before .size .ensures, t .third .ensures, c .fifth .ensures) refl
 
 pub syndrome-of-spec : {M : Type 1} → statement M
 syndrome-of-spec =
@@ -50,11 +54,12 @@ syndrome-of-spec =
     (tie.spec
     (λ c κs. search needs)
     (λ c κs. search needs)
-    returns
     (λ c κs. search needs)
     (λ c κs. search needs)
     (λ c κs. search needs)
     (λ c κs. search needs)
-    (λ c. omega (arith, small c))
-    add-result
-    returns-2)
+    (λ c. omega (arith, inner c))
+    (λ c. omega (arith, inner c, parts c .third))
+    (λ c. omega (arith, outer c))
+    (λ c. omega (arith, outer c, parts c .first))
+    returns)

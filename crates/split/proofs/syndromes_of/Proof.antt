@@ -17,7 +17,7 @@ abbrev μ-loop : tie.MeasureT-loop
 
 syndrome-of-requires : tie.Need-syndrome-of-requires Inv-loop μ-loop
 syndrome-of-requires c κs = let s = c .before .before .before in
-    (s .pre .few, record { width-is = s .pre .width-is; count = s .pre .count; inside = c .loop-test .taken })
+    record { width-is = s .pre .width-is; count = s .pre .count; inside = c .loop-test .taken }
 
 mul-to : tie.Need-mul-to Inv-loop μ-loop
 mul-to c = let s = c .before .before .before .before in omega (arith, L.width-small (s .args .m) (s .pre .width-is), c .before .loop-test .taken)

@@ -1,24 +1,20 @@
 -- `split::write_layers` meets its contract: so many pieces are written, and the output behind them is as it was.
 -- Assumes nothing.
-use Rattle.basics.proofs.Kit.{_≡_, refl, sym, ap, ap₂, _∙_, _++_, ℕ, _+_, _-_, _*_, _^_, _≤_, _<_, arith, needs, length, getD, take, drop}
+use Rattle.basics.proofs.Kit.{_≡_, refl, sym, ap, _∙_, _++_, ℕ, _+_, _-_, _*_, _^_, _≤_, arith, needs, length, take, drop}
 use native.Mathlib.Nat.{zero-mul}
 use lib.ListN.{length-take, length-drop}
-use Rattle.code.specs.Code.{width, roots, long, syndrome-long}
-use Rattle.code.specs.Bits.{bits-of}
 use Rattle.code.proofs.Loops.{next-exponent}
-use Rattle.code.specs.Within.{number-of}
-use Rattle.code.proofs.Promise.{Numbered-as, numbered, of-shape, of-number}
-use Rattle.split.specs.Split.{cosets, syndromes, padded, Leader}
+use Rattle.split.specs.Split.{cosets}
 use Rattle.split.proofs.Layers as L
 use Rattle.split.proofs.Steps.{copied}
 use Rattle.code.proofs.Promise.{row-small}
-use Rattle.split.proofs.Whole.{whole, whole-length, whole-right, its-coset, piece, right-as, turn, fits, whole-room, all-written}
+use Rattle.split.proofs.Whole.{whole, whole-length, whole-right, its-coset, piece, turn, fits, whole-room, all-written}
 use Rattle.split.proofs.write_layers.Statement.{statement}
 use Rattle.split.proofs.write_layers.Tie as tie
 
 abbrev Inv-loop : tie.InvT-loop
 Inv-loop shape word bch₀ tuple m n at₀ j₀ bch at j =
-    (j ≤ m) × (at ≡ j * length word) × (length bch ≡ length bch₀) × (bch ≡ take at (whole (number-of shape) word) ++ drop at bch₀)
+    (j ≤ m) × (at ≡ j * length word) × (length bch ≡ length bch₀) × (bch ≡ take at (whole (shape .m) (shape .r) word) ++ drop at bch₀)
 
 abbrev μ-loop : tie.MeasureT-loop
 μ-loop shape word bch₀ tuple m n at₀ j₀ bch at j = m - j
@@ -29,21 +25,10 @@ Place = tie.At-loop Inv-loop μ-loop
 abbrev start : Place → tie.Start Inv-loop μ-loop
 start l = l .before .before .before
 
-abbrev its : (l : Place) → Numbered-as (start l .args .shape) (number-of (start l .args .shape))
-its l = numbered (start l .pre .coded)
+long-as : (l : Place) → let a = start l .args in length (whole (a .shape .m) (a .shape .r) (a .word .now)) ≡ a .shape .m * length (a .word .now)
+long-as l = let a = start l .args in let p = start l .pre in whole-length (a .shape .m) (a .shape .r) (a .word .now) (a .t3) (p .coded .accepted-is) (p .count) (p .tuple)
 
--- what is asked, by the code's number
-count : (l : Place) → length (start l .args .word .now) ≡ long (width (number-of (start l .args .shape)))
-count l = start l .pre .count ∙ ap long (its l .m-is)
-
-tuple : (l : Place) → let a = start l .args in let c = number-of (a .shape) in a .t3 ≡ padded (syndromes (width c) (roots c) (a .word .now))
-tuple l = start l .pre .tuple ∙ ap₂ (λ m r. padded (syndromes m r (start l .args .word .now))) (its l .m-is) (its l .r-is)
-
-long-as : (l : Place) → let a = start l .args in length (whole (number-of (a .shape)) (a .word .now)) ≡ a .shape .m * length (a .word .now)
-long-as l = let a = start l .args in
-    whole-length (number-of (a .shape)) (a .word .now) (a .t3) (its l .good) (count l) (tuple l) ∙ ap (λ (m : ℕ). m * length (a .word .now)) (sym (its l .m-is))
-
-room : (l : Place) → let a = start l .args in length (whole (number-of (a .shape)) (a .word .now)) ≡ length (a .bch .now)
+room : (l : Place) → let a = start l .args in length (whole (a .shape .m) (a .shape .r) (a .word .now)) ≡ length (a .bch .now)
 room l = let a = start l .args in whole-room (a .shape .m) _ _ _ (long-as l) (start l .pre .room) (start l .pre .count)
 
 -- the next piece fits, and its numbers are small
@@ -59,9 +44,9 @@ short l = rw (start l .pre .room) (row-small (start l .args .shape .m) (start l 
 
 leader-requires : tie.Need-leader-requires Inv-loop μ-loop
 unfolding cosets
-leader-requires c κs = let l = c .before in let a = start l .args in let z = start l .pre .coded in
-    let h = its-coset (number-of (a .shape)) (a .word .now) (a .t3) (its l .good) (count l) (tuple l) (l .loop .j) (omega (arith, its l .m-is)) in
-    record { coded = z; inside = omega (arith, z .size-is ∙ ap (λ (q : ℕ). 2 ^ q) (z .q-is), of-shape (λ m r. getD (a .t3) (l .loop .j) 0 < 2 ^ syndrome-long m r) (its l .m-is) (its l .r-is) h) }
+leader-requires c κs = let l = c .before in let a = start l .args in let p = start l .pre in let z = p .coded in
+    let h = its-coset (a .shape .m) (a .shape .r) (a .word .now) (a .t3) (z .accepted-is) (p .count) (p .tuple) (l .loop .j) (c .loop-test .taken) in
+    record { coded = z; inside = omega (arith, z .size-is ∙ ap (λ (q : ℕ). 2 ^ q) (z .q-is), h) }
 
 write-layer-requires : tie.Need-write-layer-requires Inv-loop μ-loop
 write-layer-requires c κs = let i = c .before .before in
@@ -69,17 +54,16 @@ write-layer-requires c κs = let i = c .before .before in
 
 loop-again : tie.Need-loop-again Inv-loop μ-loop
 loop-again c = let w = c .before .before in let f = w .before .before in let i = f .before in let l = i .before in let v = l .loop in let a = start l .args in
-    let d = number-of (a .shape) in let ws = a .word .now in let n = length ws in
-    let p = piece d ws (a .t3) (its l .good) (count l) (tuple l) (v .j) (f .leader .result) (omega (arith, its l .m-is)) (of-number (λ m r. Leader m r (getD (a .t3) (v .j) 0) (bits-of (long m) (f .leader .result))) (its l .m-is) (its l .r-is) (f .leader .ensures)) in
-    let t = turn (whole d ws) (a .bch .now) (v .bch) _ (v .at) n (room l) (omega (arith, next-fits i, v .inv .2, room l)) (v .inv .3)
-    (ap (λ i. take n (drop i (whole d ws))) (v .inv .1) ∙ p ∙ sym (w .write-layer .ensures)) in
+    let q = start l .pre in let to = whole (a .shape .m) (a .shape .r) (a .word .now) in let ws = a .word .now in let n = length ws in
+    let p = piece (a .shape .m) (a .shape .r) ws (a .t3) (q .coded .accepted-is) (q .count) (q .tuple) (v .j) (f .leader .result) (i .loop-test .taken) (f .leader .ensures) in
+    let t = turn to (a .bch .now) (v .bch) _ (v .at) n (room l) (omega (arith, next-fits i, v .inv .2, room l)) (v .inv .3)
+    (ap (λ i. take n (drop i to)) (v .inv .1) ∙ p ∙ sym (w .write-layer .ensures)) in
     (search needs, next-exponent (v .at) (v .j) n (v .inv .1), t .same, t .list)
 
 returns : tie.Need-returns Inv-loop μ-loop
-returns c = let l = c .before in let v = l .loop in let a = start l .args in let d = number-of (a .shape) in let ws = a .word .now in
-    right-as (sym (its l .m-is)) (sym (its l .r-is))
-    (whole-right d ws (a .t3) (its l .good) (count l) (tuple l) (v .bch)
-    (v .inv .3 ∙ copied (whole d ws) (a .bch .now) (v .at) (room l) (all-written _ _ _ _ _ (long-as l) (c .loop-test .left) (v .inv .1))))
+returns c = let l = c .before in let v = l .loop in let a = start l .args in let p = start l .pre in
+    whole-right (a .shape .m) (a .shape .r) (a .word .now) (a .t3) (p .coded .accepted-is) (p .count) (p .tuple) (v .bch)
+    (v .inv .3 ∙ copied (whole (a .shape .m) (a .shape .r) (a .word .now)) (a .bch .now) (v .at) (room l) (all-written _ _ _ _ _ (long-as l) (c .loop-test .left) (v .inv .1)))
 
 pub write-layers-spec : {M : Type 1} → statement M
 write-layers-spec =

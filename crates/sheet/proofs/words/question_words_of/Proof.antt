@@ -3,6 +3,7 @@
 use Rattle.basics.proofs.Kit.{_≡_, ap₂, _∙_, ℕ, _+_, arith, needs}
 use Rattle.code.specs.declared.Shape.{Shape}
 use Rattle.code.specs.Within.{Coded}
+use Rattle.code.proofs.Promise.{by-number-m}
 use Rattle.sheet.specs.declared.Form.{Form}
 use Rattle.sheet.specs.Sheet.{symbols, count, row-words, symbol-words, question-long}
 use Rattle.sheet.proofs.Forms.{symbols-fine, count-le, bits-le, n-le}
@@ -26,7 +27,7 @@ long-is f z e p q = ap₂ _+_ (p ∙ rw (z .bits-is, e)) (q ∙ rw (z .n-is, e))
 
 returns : tie.Need-returns
 returns c = let a = c .before in let s = a .before .before .by-number .ensures in
-    long-is (a .before .before .before .args .f) (s .coded) (s .m-is) (a .count-of .ensures) (c .count-of2 .ensures)
+    long-is (a .before .before .before .args .f) (s .coded) (by-number-m (a .before .before .before .args .code) s) (a .count-of .ensures) (c .count-of2 .ensures)
 
 pub question-words-of-spec : {M : Type 1} → statement M
 question-words-of-spec =
