@@ -4,3 +4,4 @@ pub mod Cost
 pub mod Right
 pub mod Promise
 pub mod Within
+pub mod Scratch

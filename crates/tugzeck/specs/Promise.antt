@@ -7,23 +7,21 @@ use lib.IntN.{ℤ}
 use lib.ListN.{length}
 use lib.Ieee.{Float}
 use Rattle.refusal.specs.Refusal.{first}
-use Rattle.code.specs.Code.{number-refusal, width, long, symbols-good}
+use Rattle.code.specs.Code.{long, symbols-good}
 use Rattle.code.specs.Bits.{row-long}
 use Rattle.quantiser.specs.Calls.{Quantise-says}
 use Rattle.receiver.specs.Calls.{Receive-says}
 use Rattle.decoder.specs.Calls.{decode-refusal}
 use Rattle.marker.specs.Calls.{mark-refusal}
 
--- a row that decoder and marker take: with outputs of their lengths, and with any word of n symbols, neither refuses
-pub record Taken-on (code : ℕ) (row : List ℤ) : Type 0 where
-  pub decoded : first (number-refusal code) (decode-refusal (width code) row (long (width code)) (row-long (width code))) ≡ 0
-  pub marked :
-      (word : List ℕ) → length word ≡ long (width code) → symbols-good (width code) word ≡ true →
-      first (number-refusal code) (mark-refusal (width code) row word) ≡ 0
+-- a row that decoder and marker take in the code chosen, z being what the choice is refused by: with outputs of their lengths, and with any word of n symbols, neither refuses
+pub record Taken-on (z m : ℕ) (row : List ℤ) : Type 0 where
+  pub decoded : first z (decode-refusal m row (long m) (row-long m)) ≡ 0
+  pub marked : (word : List ℕ) → length word ≡ long m → symbols-good m word ≡ true → first z (mark-refusal m row word) ≡ 0
 
 -- such is the row that an accepted call of the quantiser leaves, and of the receiver
 unfoldable pub Quantised-goes-on : Type 0
-Quantised-goes-on = (c : ℕ) (xs : List Float) (o p : List ℤ) → Quantise-says c xs 0 o p → Taken-on c p
+Quantised-goes-on = (z m : ℕ) (xs : List Float) (o p : List ℤ) → Quantise-says z m xs 0 o p → Taken-on z m p
 
 unfoldable pub Received-goes-on : Type 0
-Received-goes-on = (c : ℕ) (ks : List ℕ) (xs : List Float) (o p : List ℤ) → Receive-says c ks xs 0 o p → Taken-on c p
+Received-goes-on = (z m : ℕ) (ks : List ℕ) (xs : List Float) (o p : List ℤ) → Receive-says z m ks xs 0 o p → Taken-on z m p

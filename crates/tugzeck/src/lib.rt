@@ -9,10 +9,13 @@ use report::Listed;
 use sheet_reader::Yield;
 use split::Splitting;
 ghost use mathlib.Core.Path.{_≡_};
+ghost use Rattle.code.specs.Code.{number-refusal, width, roots, parameter-refusal};
 ghost use Rattle.code.specs.Calls.{Encode-says, Read-says, checked, number-of};
 ghost use Rattle.split.specs.Calls.{Split-says};
 ghost use Rattle.decoder.specs.Calls.{Decode-says};
 ghost use Rattle.marker.specs.Calls.{Mark-says};
+ghost use Rattle.decoding.specs.Calls as D;
+ghost use Rattle.marking.specs.Calls as M;
 ghost use Rattle.quantiser.specs.Calls.{Quantise-says};
 ghost use Rattle.receiver.specs.Calls.{Receive-says};
 ghost use Rattle.sheet_writer.specs.Calls.{Write-says};
@@ -38,25 +41,49 @@ pub struct Asked {
 // Writes the codeword of a message of k symbols into n places. Answers 0, or refuses by 1, 3, 4 or 6 and writes nothing.
 #[no_mangle]
 pub extern "C" fn tugzeck_encode(code: u32, message: &[u8], output: &mut [u8]) -> u32
-    ensures { λ r. ⌜ Encode-says code (now (message .entry)) r (now (output .entry)) (now (output .exit)) ⌝ }
+    ensures { λ r. ⌜ Encode-says (number-refusal code) (width code) (roots code) (now (message .entry)) r (now (output .entry)) (now (output .exit)) ⌝ }
 {
     code::encode(code, message, output)
+}
+
+// The same, by m and r: refuses by 16 too, after 1.
+#[no_mangle]
+pub extern "C" fn tugzeck_encode_by(m: u32, r: u32, message: &[u8], output: &mut [u8]) -> u32
+    ensures { λ x. ⌜ Encode-says (parameter-refusal m r) m r (now (message .entry)) x (now (output .entry)) (now (output .exit)) ⌝ }
+{
+    code::encode_by(m, r, message, output)
 }
 
 // Writes the message of a codeword into k places. Answers 0, or refuses by 1, 3, 4, 6 or 8 and writes nothing.
 #[no_mangle]
 pub extern "C" fn tugzeck_read_word(code: u32, word: &[u8], output: &mut [u8]) -> u32
-    ensures { λ r. ⌜ Read-says code (now (word .entry)) r (now (output .entry)) (now (output .exit)) ⌝ }
+    ensures { λ r. ⌜ Read-says (number-refusal code) (width code) (roots code) (now (word .entry)) r (now (output .entry)) (now (output .exit)) ⌝ }
 {
     code::read_word(code, word, output)
+}
+
+// The same, by m and r: refuses by 16 too, after 1.
+#[no_mangle]
+pub extern "C" fn tugzeck_read_word_by(m: u32, r: u32, word: &[u8], output: &mut [u8]) -> u32
+    ensures { λ x. ⌜ Read-says (parameter-refusal m r) m r (now (word .entry)) x (now (output .entry)) (now (output .exit)) ⌝ }
+{
+    code::read_word_by(m, r, word, output)
 }
 
 // Answers 0 for a codeword and 8 for another word, or refuses by 1, 3 or 6.
 #[no_mangle]
 pub extern "C" fn tugzeck_check_word(code: u32, word: &[u8]) -> u32
-    ensures { λ r. ⌜ r ≡ number-of (checked code (now (word .entry))) ⌝ }
+    ensures { λ r. ⌜ r ≡ number-of (checked (number-refusal code) (width code) (roots code) (now (word .entry))) ⌝ }
 {
     number_of(code::check_word(code, word))
+}
+
+// The same, by m and r: refuses by 16 too, after 1.
+#[no_mangle]
+pub extern "C" fn tugzeck_check_word_by(m: u32, r: u32, word: &[u8]) -> u32
+    ensures { λ x. ⌜ x ≡ number-of (checked (parameter-refusal m r) m r (now (word .entry))) ⌝ }
+{
+    number_of(code::check_word_by(m, r, word))
 }
 
 // The number of an answer of the codeword test.
@@ -74,9 +101,17 @@ fn number_of(m: Membership) -> u32
 // 8 with a configuration of zeros and writes nothing.
 #[no_mangle]
 pub extern "C" fn tugzeck_split(code: u32, word: &[u8], bch: &mut [u8]) -> Splitting
-    ensures { λ a. ⌜ Split-says code (now (word .entry)) a (now (bch .entry)) (now (bch .exit)) ⌝ }
+    ensures { λ a. ⌜ Split-says (number-refusal code) (width code) (roots code) (now (word .entry)) a (now (bch .entry)) (now (bch .exit)) ⌝ }
 {
     split::split(code, word, bch)
+}
+
+// The same, by m and r: refuses by 16 too, after 1.
+#[no_mangle]
+pub extern "C" fn tugzeck_split_by(m: u32, r: u32, word: &[u8], bch: &mut [u8]) -> Splitting
+    ensures { λ a. ⌜ Split-says (parameter-refusal m r) m r (now (word .entry)) a (now (bch .entry)) (now (bch .exit)) ⌝ }
+{
+    split::split_by(m, r, word, bch)
 }
 
 // Decodes a row of n·m reliabilities: 0 with the best metric, the first best word in n places and the soft outputs in n·m. Or it refuses by 1,
@@ -93,6 +128,21 @@ pub extern "C" fn tugzeck_decode(
     decoder::decode(code, row, word, soft)
 }
 
+// The same by m and r, at every code that may be chosen, with a scratch of 16,384 numbers lent, all 0 after it. Refuses by 1, 16, 2, 4, 17 or 5.
+#[no_mangle]
+pub extern "C" fn tugzeck_decode_by(
+    m: u32,
+    r: u32,
+    row: &[i16],
+    word: &mut [u8],
+    soft: &mut [i16],
+    scratch: &mut [i32],
+) -> decoding::Decoding
+    ensures { λ d. ⌜ D.Decode-says (parameter-refusal m r) m r (now (row .entry)) d (now (word .entry)) (now (word .exit)) (now (soft .entry)) (now (soft .exit)) (now (scratch .entry)) (now (scratch .exit)) ⌝ }
+{
+    decoding::decode_by(m, r, row, word, soft, scratch)
+}
+
 // Judges a word of n symbols for a row: 0 with the verdict (0 none, 1 short, 2 best) and the shortfall. Or it refuses by 1, 2, 3, 5 or 6 with
 // the verdict 0 and the shortfall 0.
 #[no_mangle]
@@ -102,21 +152,57 @@ pub extern "C" fn tugzeck_mark(code: u32, row: &[i16], word: &[u8]) -> Mark
     marker::judge_word(code, row, word)
 }
 
+// The same by m and r, with a scratch of 16,384 numbers lent, all 0 after it. Refuses by 1, 16, 2, 3, 17, 5 or 6.
+#[no_mangle]
+pub extern "C" fn tugzeck_mark_by(
+    m: u32,
+    r: u32,
+    row: &[i16],
+    word: &[u8],
+    scratch: &mut [i32],
+) -> marking::Mark
+    ensures { λ k. ⌜ M.Mark-says (parameter-refusal m r) m r (now (row .entry)) (now (word .entry)) k (now (scratch .entry)) (now (scratch .exit)) ⌝ }
+{
+    marking::judge_word_by(m, r, row, word, scratch)
+}
+
 // Turns the n·m samples of a row into reliabilities. Answers 0, or refuses by 1, 2, 4 or 7 and writes nothing.
 #[no_mangle]
 pub extern "C" fn tugzeck_quantise(code: u32, samples: &[f32], row: &mut [i16]) -> u32
-    ensures { λ r. ⌜ Quantise-says code (now (samples .entry)) r (now (row .entry)) (now (row .exit)) ⌝ }
+    ensures { λ r. ⌜ Quantise-says (number-refusal code) (width code) (now (samples .entry)) r (now (row .entry)) (now (row .exit)) ⌝ }
 {
     quantiser::quantise(code, samples, row)
+}
+
+// The same, by m and r: refuses by 16 too, after 1.
+#[no_mangle]
+pub extern "C" fn tugzeck_quantise_by(m: u32, r: u32, samples: &[f32], row: &mut [i16]) -> u32
+    ensures { λ x. ⌜ Quantise-says (parameter-refusal m r) m (now (samples .entry)) x (now (row .entry)) (now (row .exit)) ⌝ }
+{
+    quantiser::quantise_by(m, r, samples, row)
 }
 
 // Turns received symbols, by their kinds and samples, into the n·m reliabilities of a row. Answers 0, or refuses by 1, 4, 14, 15 or 7 and
 // writes nothing.
 #[no_mangle]
 pub extern "C" fn tugzeck_receive(code: u32, kinds: &[u8], samples: &[f32], row: &mut [i16]) -> u32
-    ensures { λ r. ⌜ Receive-says code (now (kinds .entry)) (now (samples .entry)) r (now (row .entry)) (now (row .exit)) ⌝ }
+    ensures { λ r. ⌜ Receive-says (number-refusal code) (width code) (now (kinds .entry)) (now (samples .entry)) r (now (row .entry)) (now (row .exit)) ⌝ }
 {
     receiver::receive(code, kinds, samples, row)
+}
+
+// The same, by m and r: refuses by 16 too, after 1.
+#[no_mangle]
+pub extern "C" fn tugzeck_receive_by(
+    m: u32,
+    r: u32,
+    kinds: &[u8],
+    samples: &[f32],
+    row: &mut [i16],
+) -> u32
+    ensures { λ x. ⌜ Receive-says (parameter-refusal m r) m (now (kinds .entry)) (now (samples .entry)) x (now (row .entry)) (now (row .exit)) ⌝ }
+{
+    receiver::receive_by(m, r, kinds, samples, row)
 }
 
 // Judges a whole sheet: 0 with the count of its questions. Or it refuses by 1, 5, 6 or 9 to 13 with the count 0.

@@ -1,0 +1,2 @@
+pub mod Coset
+pub mod Runs

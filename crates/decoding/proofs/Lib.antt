@@ -1,0 +1,5 @@
+pub mod Writing
+pub mod Decodings
+pub mod Finding
+pub mod Refusals
+pub mod Roomed

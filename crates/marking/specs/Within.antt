@@ -1,0 +1,52 @@
+-- What the marker's functions ask and leave. A reader need not believe these definitions. Assumes nothing.
+use mathlib.Core.Path.{_≡_}
+use mathlib.Core.Bool.{true}
+use mathlib.Core.List.{List}
+use Prim.Native.Nat.{ℕ, _+_, _*_, _≤_}
+use lib.ListN.{length}
+use lib.IntN.{ℤ, _-ℤ_}
+use Rattle.code.specs.declared.Shape.{Shape}
+use Rattle.code.specs.Code.{is-codeword}
+use Rattle.metric.specs.Metric.{metric, Greatest, Marked}
+use Rattle.metric.specs.Cost.{cost, Least}
+use Rattle.walk.specs.Walk.{start}
+use Rattle.finder.specs.Within.{slots-of, Input}
+use Rattle.marking.specs.declared.Mark.{Mark}
+
+-- a word's cost is the least cost of a codeword and x
+pub record Short (m r : ℕ) (row : List ℤ) (word : List ℕ) (x : ℕ) : Type 0 where
+  pub least : ℕ
+  pub is-least : Least m (is-codeword m r) row least
+  pub own : cost m row word ≡ least + x
+
+-- an accepted row and a codeword
+pub record Judged (s : Shape) (row : List ℤ) (word : List ℕ) : Type 0 where
+  pub input : Input s row
+  pub codeword : is-codeword (s .m) (s .r) word ≡ true
+
+-- room for the places of the walk and their costs
+pub record Places (s : Shape) (places f : List ℕ) : Type 0 where
+  pub length-places : length places ≡ start (slots-of s) 4
+  pub length-f : length f ≡ length places
+
+-- rooms that are long enough: for two tables, and for the places and their costs
+pub record Roomy (s : Shape) (t places f g : List ℕ) : Type 0 where
+  pub states-t : s .size * 4 ≤ length t
+  pub count-places : start (slots-of s) 4 ≤ length places
+  pub count-f : start (slots-of s) 4 ≤ length f
+  pub states-g : s .size * 4 ≤ length g
+
+-- a codeword's metric is the greatest less d
+pub record Lacking (m r : ℕ) (row : List ℤ) (word : List ℕ) (d : ℤ) : Type 0 where
+  pub codeword : is-codeword m r word ≡ true
+  pub best : ℤ
+  pub greatest : Greatest m (is-codeword m r) row best
+  pub lacks : d ≡ best -ℤ metric m row word
+
+-- a mark that is right, and no refusal
+abbrev pub Verdict : (m r : ℕ) → (row : List ℤ) → (word : List ℕ) → Mark → Type 0
+Verdict m r row word k = Marked (k .verdict) (k .shortfall) m (is-codeword m r) row word × (k .number ≡ 0)
+
+-- of every codeword that lacks d
+abbrev pub Verdict-from : (d : ℤ) → Mark → Type 0
+Verdict-from d k = (m r : ℕ) → (row : List ℤ) → (word : List ℕ) → Lacking m r row word d → Verdict m r row word k

@@ -1,0 +1,5 @@
+pub mod Cases
+pub mod Filled
+pub mod Data
+pub mod Entries
+pub mod Walks

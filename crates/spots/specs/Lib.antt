@@ -1,0 +1,3 @@
+pub mod Spots
+pub mod Promise
+pub mod Filling

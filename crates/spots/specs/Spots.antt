@@ -1,0 +1,29 @@
+-- Where the walk of a code goes: its slots and its steps as the walk takes them, and for each place the entry of a table that it stands for: coset s of
+-- layer j is entry s * 4 + j. A reader need not believe these definitions. Assumes nothing.
+use mathlib.Core.Path.{_≡_}
+use mathlib.Core.List.{List, [], _∷_, _++_}
+use Prim.Native.Nat.{ℕ, suc, _+_, _-_, _*_, _^_, _<_, max}
+use lib.ListN.{length, getD, replicate}
+use Rattle.tails.specs.Tails.{place-columns, marked, steps}
+use Rattle.walk.specs.Walk.{start}
+
+-- how many bits number the places of slot j, and how far the slots are apart: the longest of them
+unfoldable pub slot-bits : (m r j : ℕ) → ℕ
+slot-bits m r j = length (place-columns m r j)
+
+unfoldable pub stride : (m r : ℕ) → ℕ
+stride m r = 2 ^ max (max (slot-bits m r 0) (slot-bits m r 1)) (max (slot-bits m r 2) (slot-bits m r 3))
+
+-- where each slot begins, and where the last one ends
+unfoldable pub slots : (m r : ℕ) → List ℕ
+slots m r = 0 ∷ stride m r ∷ 2 * stride m r ∷ 3 * stride m r ∷ (3 * stride m r + 2 ^ slot-bits m r 3) ∷ []
+
+-- the steps, in twelve rows of four
+unfoldable pub all-steps : (m r : ℕ) → List ℕ
+all-steps m r = steps m r ++ replicate (48 - length (steps m r)) 0
+
+-- the entry of each place
+pub record Placed (m r size : ℕ) (places : List ℕ) : Type 0 where
+  pub long : length places ≡ start (slots m r) 4
+  pub entries : (j p : ℕ) → j < 4 → start (slots m r) j + p < start (slots m r) (suc j) → getD places (start (slots m r) j + p) 0 ≡ marked m r j p * 4 + j
+  pub inside : (p : ℕ) → p < length places → getD places p 0 < size * 4

@@ -1,0 +1,9 @@
+pub mod Picked
+pub mod Accepted
+pub mod Cosets
+pub mod Solved
+pub mod Codewords
+pub mod Gray
+pub mod Walk
+pub mod Words
+pub mod Configured

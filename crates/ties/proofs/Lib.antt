@@ -1,0 +1,4 @@
+pub mod Symbols
+pub mod Turns
+pub mod Firsts
+pub mod Spans

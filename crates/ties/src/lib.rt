@@ -1,0 +1,390 @@
+// Of the tuples that cost the least, the one whose word comes first: where the words of all places that take part agree, these; else a second walk.
+// Its functions are for the crates above; their promises cite specs/Ties.antt.
+ghost use mathlib.Core.Path.{_≡_};
+ghost use mathlib.Core.Bool.{true, cond};
+ghost use Prim.Native.Nat.{ℕ, _+_, _*_, _%_, _^_, _<_, _≤_};
+ghost use lib.Dec.{eqb, ltb};
+ghost use lib.ListN.{length, getD};
+ghost use Rattle.walk.specs.Walk.{start, step, changed-bit, Slots};
+ghost use Rattle.ties.specs.Ties.{number-of, Costs, First-tied, word-at, Agree};
+ghost use Rattle.ties.specs.Turn.{four, cost-at, words-at, Lane, Rows, earlier, meet, None-costs, Before-all, Spans, Widened, Read, Moved};
+
+// 1 where two numbers are the same.
+fn one_if(a: u16, b: u16) -> u16
+    ensures { λ r. ⌜ r ≡ cond (eqb a b) 1 0 ⌝ }
+{
+    if a == b { 1 } else { 0 }
+}
+
+// Not 0 where one of sixteen numbers is the least.
+fn any_of(g: &[u16], p: usize, least: u16) -> u16
+    requires { ⌜ p + 16 ≤ length (now g) ⌝ }
+    ensures { λ r. ⌜ (r ≡ 0 → (x : ℕ) → x < 16 → getD (now (g .entry)) (p + x) 0 ≡ least → ⊥) ⌝ }
+{
+    let mut any = 0;
+    let mut x = 0;
+    while x < 16 {
+        any |= one_if(g[p + x], least);
+        x += 1;
+    }
+    any
+}
+
+// The word of place p: the last 16 bits of its key.
+fn word_of(t: &[u32], places: &[u16], p: usize) -> u16
+    requires { ⌜ p < length (now places) ⌝ }
+    requires { ⌜ getD (now places) p 0 < length (now t) ⌝ }
+    ensures { λ r. ⌜ r ≡ word-at (now (t .entry)) (now (places .entry)) p ⌝ }
+{
+    let k = places[p] as usize;
+    (t[k] % 65536) as u16
+}
+
+// The least and the greatest of some words.
+pub struct Span {
+    pub low: u16,
+    pub high: u16,
+}
+
+// The greater of two words.
+fn greater_of(a: u16, b: u16) -> u16
+    ensures { λ r. ⌜ (a ≤ r) × (b ≤ r) ⌝ }
+{
+    if a <= b { b } else { a }
+}
+
+// A span with one word more, where its number x is the least.
+fn widened(s: Span, x: u16, least: u16, v: u16) -> Span
+    ensures { λ r. ⌜ Widened least x v (s .low) (s .high) (r .low) (r .high) ⌝ }
+{
+    if x != least {
+        return s;
+    }
+    Span {
+        low: lanes::less_of(s.low, v),
+        high: greater_of(s.high, v),
+    }
+}
+
+// The span with the sixteen places from p on; most rows have none that takes part.
+fn row_span(g: &[u16], t: &[u32], places: &[u16], p: usize, least: u16, s: Span) -> Span
+    requires { ⌜ Read (now t) (now places) (now g) (p + 16) ⌝ }
+    ensures { λ r. ⌜ ((a : ℕ) → Spans (now (t .entry)) (now (places .entry)) (now (g .entry)) least a p (s .low) (s .high) → Spans (now (t .entry)) (now (places .entry)) (now (g .entry)) least a (p + 16) (r .low) (r .high)) ⌝ }
+{
+    if any_of(g, p, least) == 0 {
+        return s;
+    }
+    let mut r = s;
+    let mut x = 0;
+    while x < 16 {
+        let v = word_of(t, places, p + x);
+        let m = widened(r, g[p + x], least, v);
+        r = m;
+        x += 1;
+    }
+    r
+}
+
+// Where the row that begins at k begins if it is not to reach past e.
+fn row_before(k: usize, e: usize) -> usize
+    requires { ⌜ 16 ≤ e ⌝ }
+    ensures { λ r. ⌜ (r ≤ k) × (r + 16 ≤ e) × (k < e → k < r + 16) ⌝ }
+{
+    if k <= e - 16 { k } else { e - 16 }
+}
+
+// The span of a slot, from place a to place e.
+fn slot_span(g: &[u16], t: &[u32], places: &[u16], a: usize, e: usize, least: u16) -> Span
+    requires { ⌜ Read (now t) (now places) (now g) e ⌝ }
+    requires { ⌜ a + 16 ≤ e ⌝ }
+    ensures { λ r. ⌜ Spans (now (t .entry)) (now (places .entry)) (now (g .entry)) least a e (r .low) (r .high) ⌝ }
+{
+    let mut s = Span {
+        low: 65535,
+        high: 0,
+    };
+    let mut k = a;
+    while k < e {
+        let p = row_before(k, e);
+        let m = row_span(g, t, places, p, least, s);
+        s = m;
+        k = p + 16;
+    }
+    s
+}
+
+// Where slot j begins.
+fn place_of(sl: &[u16], j: usize) -> usize
+    requires { ⌜ j < length (now sl) ⌝ }
+    ensures { λ r. ⌜ r ≡ start (now (sl .entry)) j ⌝ }
+{
+    sl[j] as usize
+}
+
+// Four words, and whether they are all that take part.
+pub struct Agreed {
+    pub words: [u16; 4],
+    pub all: bool,
+}
+
+// The words of four spans, where each has one.
+fn one_each(s0: Span, s1: Span, s2: Span, s3: Span) -> Agreed
+    ensures { λ r. ⌜ r .words ≡ four (s0 .low) (s1 .low) (s2 .low) (s3 .low) ⌝ }
+    ensures { λ r. ⌜ (r .all ≡ true → (s0 .low ≡ s0 .high) × (s1 .low ≡ s1 .high) × (s2 .low ≡ s2 .high) × (s3 .low ≡ s3 .high)) ⌝ }
+{
+    let words = [s0.low, s1.low, s2.low, s3.low];
+    if s0.low != s0.high {
+        return Agreed {
+            words: words,
+            all: false,
+        };
+    }
+    if s1.low != s1.high {
+        return Agreed {
+            words: words,
+            all: false,
+        };
+    }
+    if s2.low != s2.high {
+        return Agreed {
+            words: words,
+            all: false,
+        };
+    }
+    Agreed {
+        words: words,
+        all: s3.low == s3.high,
+    }
+}
+
+// The words of the places whose number in g is the least, where each slot has one.
+pub fn agree(g: &[u16], t: &[u32], places: &[u16], sl: &[u16], least: u16) -> Agreed
+    requires { ⌜ (length (now g) ≡ length (now places)) × (length (now sl) ≡ 5) × (start (now sl) 4 ≡ length (now places)) ⌝ }
+    requires { ⌜ ((j : ℕ) → j < 4 → start (now sl) j + 16 ≤ start (now sl) (j + 1)) ⌝ }
+    requires { ⌜ ((p : ℕ) → p < length (now places) → getD (now places) p 0 < length (now t)) ⌝ }
+    ensures { λ r. ⌜ (r .all ≡ true → Agree (now (sl .entry)) (now (t .entry)) (now (places .entry)) (now (g .entry)) least (r .words)) ⌝ }
+{
+    let b1 = place_of(sl, 1);
+    let b2 = place_of(sl, 2);
+    let b3 = place_of(sl, 3);
+    let s0 = slot_span(g, t, places, place_of(sl, 0), b1, least);
+    let s1 = slot_span(g, t, places, b1, b2, least);
+    let s2 = slot_span(g, t, places, b2, b3, least);
+    let s3 = slot_span(g, t, places, b3, place_of(sl, 4), least);
+    one_each(s0, s1, s2, s3)
+}
+
+// The word of each place, in place of where its key stands.
+pub fn word_places(t: &[u32], places: &mut [u16])
+    requires { ⌜ ((p : ℕ) → p < length (now places) → getD (now places) p 0 < length (now t)) ⌝ }
+    ensures { λ _. ⌜ (length (now (places .exit)) ≡ length (now (places .entry))) × ((p : ℕ) → p < length (now (places .entry)) → getD (now (places .exit)) p 0 ≡ word-at (now (t .entry)) (now (places .entry)) p) ⌝ }
+{
+    let mut p = 0;
+    while p < places.len() {
+        places[p] = word_of(t, places, p);
+        p += 1;
+    }
+}
+
+// Whether words w come before words v: less has the positions at which w's symbol is the less, and more those at which it is the greater. A layer
+// weighs more than those before it, and the first position at which two symbols differ is the highest bit of the two.
+fn comes_before(w0: u16, w1: u16, w2: u16, w3: u16, v0: u16, v1: u16, v2: u16, v3: u16) -> bool
+    ensures { λ r. ⌜ r ≡ ltb (number-of (four w0 w1 w2 w3)) (number-of (four v0 v1 v2 v3)) ⌝ }
+{
+    let d0 = w0 ^ v0;
+    let d1 = w1 ^ v1;
+    let d2 = w2 ^ v2;
+    let d3 = w3 ^ v3;
+    let a = d0 & v0;
+    let b = a ^ (d1 & (a ^ v1));
+    let c = b ^ (d2 & (b ^ v2));
+    let less = c ^ (d3 & (c ^ v3));
+    let more = (d0 | d1 | d2 | d3) ^ less;
+    more < less
+}
+
+// Where the walk stands: the place of each slot's row.
+pub struct At {
+    pub i0: usize,
+    pub i1: usize,
+    pub i2: usize,
+    pub i3: usize,
+}
+
+// What is in lane x of the row at p.
+fn lane_at(f: &[u16], p: usize, x: usize) -> u16
+    requires { ⌜ p + x < length (now f) ⌝ }
+    ensures { λ r. ⌜ r ≡ getD (now (f .entry)) (p + x) 0 ⌝ }
+{
+    f[p + x]
+}
+
+// What lane x costs.
+fn cost_of(f: &[u16], a: At, x: usize) -> u16
+    requires { ⌜ Lane (length (now f)) (a .i0) (a .i1) (a .i2) (a .i3) x ⌝ }
+    requires { ⌜ cost-at (now f) (a .i0) (a .i1) (a .i2) (a .i3) x < 2 ^ 15 ⌝ }
+    ensures { λ r. ⌜ r ≡ cost-at (now (f .entry)) (a .i0) (a .i1) (a .i2) (a .i3) x ⌝ }
+{
+    lane_at(f, a.i0, x) + lane_at(f, a.i1, x) + lane_at(f, a.i2, x) + lane_at(f, a.i3, x)
+}
+
+// The words of lane x.
+fn words_of(w: &[u16], a: At, x: usize) -> [u16; 4]
+    requires { ⌜ Lane (length (now w)) (a .i0) (a .i1) (a .i2) (a .i3) x ⌝ }
+    ensures { λ r. ⌜ r ≡ words-at (now (w .entry)) (a .i0) (a .i1) (a .i2) (a .i3) x ⌝ }
+{
+    [
+        lane_at(w, a.i0, x),
+        lane_at(w, a.i1, x),
+        lane_at(w, a.i2, x),
+        lane_at(w, a.i3, x),
+    ]
+}
+
+// Not 0 where a lane costs the least.
+fn any_costs(f: &[u16], a: At, least: u16) -> u16
+    requires { ⌜ Rows (now f) (a .i0) (a .i1) (a .i2) (a .i3) ⌝ }
+    ensures { λ r. ⌜ (r ≡ 0 → None-costs (now (f .entry)) (a .i0) (a .i1) (a .i2) (a .i3) least) ⌝ }
+{
+    let mut any = 0;
+    let mut x = 0;
+    while x < 16 {
+        any |= one_if(cost_of(f, a, x), least);
+        x += 1;
+    }
+    any
+}
+
+// Not 0 where lane x costs the least and b does not come before it. Its words are taken one by one, so that the loop over the lanes becomes one of
+// vector instructions.
+fn counts(f: &[u16], w: &[u16], a: At, x: usize, least: u16, b: [u16; 4]) -> u16
+    requires { ⌜ Lane (length (now f)) (a .i0) (a .i1) (a .i2) (a .i3) x ⌝ }
+    requires { ⌜ length (now w) ≡ length (now f) ⌝ }
+    requires { ⌜ cost-at (now f) (a .i0) (a .i1) (a .i2) (a .i3) x < 2 ^ 15 ⌝ }
+    ensures { λ r. ⌜ (r ≡ 0 → cost-at (now (f .entry)) (a .i0) (a .i1) (a .i2) (a .i3) x ≡ least → number-of b < number-of (words-at (now (w .entry)) (a .i0) (a .i1) (a .i2) (a .i3) x)) ⌝ }
+{
+    let v0 = lane_at(w, a.i0, x);
+    let v1 = lane_at(w, a.i1, x);
+    let v2 = lane_at(w, a.i2, x);
+    let v3 = lane_at(w, a.i3, x);
+    let t = cost_of(f, a, x);
+    if comes_before(b[0], b[1], b[2], b[3], v0, v1, v2, v3) {
+        0
+    } else {
+        one_if(t, least)
+    }
+}
+
+// Not 0 where a lane costs the least and b does not come before it.
+fn any_counts(f: &[u16], w: &[u16], a: At, least: u16, b: [u16; 4]) -> u16
+    requires { ⌜ Rows (now f) (a .i0) (a .i1) (a .i2) (a .i3) ⌝ }
+    requires { ⌜ length (now w) ≡ length (now f) ⌝ }
+    ensures { λ r. ⌜ (r ≡ 0 → Before-all (now (f .entry)) (now (w .entry)) (a .i0) (a .i1) (a .i2) (a .i3) least b) ⌝ }
+{
+    let mut any = 0;
+    let mut x = 0;
+    while x < 16 {
+        any |= counts(f, w, a, x, least, b);
+        x += 1;
+    }
+    any
+}
+
+// v where it costs the least and b does not come before it, else b.
+fn earlier_of(least: u16, t: u16, v: [u16; 4], b: [u16; 4]) -> [u16; 4]
+    ensures { λ r. ⌜ r ≡ earlier least t v b ⌝ }
+{
+    if t != least {
+        return b;
+    }
+    if comes_before(b[0], b[1], b[2], b[3], v[0], v[1], v[2], v[3]) {
+        return b;
+    }
+    v
+}
+
+// What the sixteen lanes leave of b, one after another.
+fn meet_lanes(f: &[u16], w: &[u16], a: At, least: u16, b: [u16; 4]) -> [u16; 4]
+    requires { ⌜ Rows (now f) (a .i0) (a .i1) (a .i2) (a .i3) ⌝ }
+    requires { ⌜ length (now w) ≡ length (now f) ⌝ }
+    ensures { λ r. ⌜ r ≡ meet (now (f .entry)) (now (w .entry)) (a .i0) (a .i1) (a .i2) (a .i3) least b 16 ⌝ }
+{
+    let mut r = b;
+    let mut x = 0;
+    while x < 16 {
+        let v = words_of(w, a, x);
+        let m = earlier_of(least, cost_of(f, a, x), v, r);
+        r = m;
+        x += 1;
+    }
+    r
+}
+
+// One turn. Most have no lane that costs the least; and where many do, most have none that comes before what is found.
+fn meet_turn(f: &[u16], w: &[u16], a: At, least: u16, b: [u16; 4]) -> [u16; 4]
+    requires { ⌜ Rows (now f) (a .i0) (a .i1) (a .i2) (a .i3) ⌝ }
+    requires { ⌜ length (now w) ≡ length (now f) ⌝ }
+    ensures { λ r. ⌜ r ≡ meet (now (f .entry)) (now (w .entry)) (a .i0) (a .i1) (a .i2) (a .i3) least b 16 ⌝ }
+{
+    if any_costs(f, a, least) == 0 {
+        return b;
+    }
+    if any_counts(f, w, a, least, b) == 0 {
+        return b;
+    }
+    meet_lanes(f, w, a, least, b)
+}
+
+// What slot j's place is xored with at turn k.
+fn step_at(st: &[u16], k: usize, j: usize) -> usize
+    requires { ⌜ (changed-bit k < 12) × (j < 4) × (length (now st) ≡ 48) ⌝ }
+    ensures { λ r. ⌜ r ≡ step (now (st .entry)) (changed-bit k) j ⌝ }
+{
+    let b = usize::trailing_zeros(k) as usize;
+    st[b * 4 + j] as usize
+}
+
+// The places of turn k, from those of the turn before it.
+fn at_turn(st: &[u16], k: usize, a: At) -> At
+    requires { ⌜ (0 < k → changed-bit k < 12) × (length (now st) ≡ 48) ⌝ }
+    ensures { λ r. ⌜ Moved (now (st .entry)) k (a .i0) (a .i1) (a .i2) (a .i3) (r .i0) (r .i1) (r .i2) (r .i3) ⌝ }
+{
+    if k == 0 {
+        return a;
+    }
+    At {
+        i0: a.i0 ^ step_at(st, k, 0),
+        i1: a.i1 ^ step_at(st, k, 1),
+        i2: a.i2 ^ step_at(st, k, 2),
+        i3: a.i3 ^ step_at(st, k, 3),
+    }
+}
+
+// Of the tuples that cost the least, the words that come first: the same walk again.
+pub fn first_tied(f: &[u16], w: &[u16], sl: &[u16], st: &[u16], n: usize, least: u16) -> [u16; 4]
+    requires { ⌜ Slots n (now f) (now sl) (now st) ⌝ }
+    requires { ⌜ length (now w) ≡ length (now f) ⌝ }
+    requires { ⌜ ((i : ℕ) × Costs n (now f) (now sl) (now st) least i) ⌝ }
+    ensures { λ r. ⌜ First-tied n (now (f .entry)) (now (sl .entry)) (now (st .entry)) (now (w .entry)) least r ⌝ }
+{
+    let i0 = place_of(sl, 0);
+    let i1 = place_of(sl, 1);
+    let i2 = place_of(sl, 2);
+    let i3 = place_of(sl, 3);
+    let mut a = At {
+        i0: i0,
+        i1: i1,
+        i2: i2,
+        i3: i3,
+    };
+    let mut best = [65535u16; 4];
+    let mut k = 0;
+    while k < n {
+        let b = at_turn(st, k, a);
+        a = b;
+        let m = meet_turn(f, w, a, least, best);
+        best = m;
+        k += 1;
+    }
+    best
+}

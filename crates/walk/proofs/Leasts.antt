@@ -1,0 +1,91 @@
+-- The least of sixteen numbers a turn: lane by lane or all in one row, and what one turn more adds to it; and the least for each entry of a table.
+-- Assumes nothing.
+use Rattle.basics.proofs.Kit.{_≡_, refl, sym, ap, _∙_, cond, List, ℕ, suc, _+_, _-_, _*_, _/_, _%_, _≤_, _<_, min, arith, length, getD, set, eqb}
+use native.Mathlib.Nat.{le-antisymm}
+use native.Mathlib.Decide.{decLe, ℕ-discrete}
+use native.Mathlib.Numerals.{add-one}
+use borrow.Author.Tests.{eq-eqb, ne-eqb}
+use lib.ListN.{length-set}
+use lib.Seq.{getD-set-same, getD-set-other}
+use Rattle.trellis.specs.Trellis.{leastOf}
+use Rattle.trellis.proofs.Least.{least-cap, least-le, le-least}
+use Rattle.walk.specs.Turns.{Each}
+
+module _ (f : ℕ → ℕ) (cap : ℕ) where
+  -- lane x of n turns
+  abbrev pub lane-least : (n x : ℕ) → ℕ
+  lane-least n x = leastOf (λ k. f (k * 16 + x)) cap n
+
+  pub lanes-flat : (n : ℕ) → leastOf (lane-least n) cap 16 ≡ leastOf f cap (n * 16)
+  lanes-flat n =
+      le-antisymm
+      (le-least f cap (n * 16) (leastOf (lane-least n) cap 16) (least-cap (lane-least n) cap 16) (λ i h.
+      let e : i / 16 * 16 + i % 16 ≡ i = omega arith in
+      omega (arith, least-le (lane-least n) cap 16 (i % 16) (omega arith), least-le (λ k. f (k * 16 + i % 16)) cap n (i / 16) (omega arith), ap f e)))
+      (le-least (lane-least n) cap 16 (leastOf f cap (n * 16)) (least-cap f cap (n * 16)) (λ x h.
+      le-least (λ k. f (k * 16 + x)) cap n (leastOf f cap (n * 16)) (least-cap f cap (n * 16)) (λ k l. least-le f cap (n * 16) (k * 16 + x) (omega arith))))
+
+  -- m numbers more, each at least the cap
+  pub least-none : (n m : ℕ) → Each m (λ y. cap ≤ f (n + y)) → leastOf f cap (n + m) ≡ leastOf f cap n
+  least-none n m h =
+      le-antisymm
+      (le-least f cap n (leastOf f cap (n + m)) (least-cap f cap (n + m)) (λ k l. least-le f cap (n + m) k (omega arith)))
+      (le-least f cap (n + m) (leastOf f cap n) (least-cap f cap n) (λ k l. go k l (decLe n k)))
+    where
+      go : (k : ℕ) → k < n + m → Dec (n ≤ k) → leastOf f cap n ≤ f k
+      go k l (yes a) =
+          let e : n + (k - n) ≡ k = omega arith in
+          omega (arith, h (k - n) (omega arith), ap f e, least-cap f cap n)
+      go k l (no a) = least-le f cap n k (omega arith)
+
+  -- m numbers more, all but one at least the cap
+  pub least-one : (n m x : ℕ) → x < m → Each m (λ y. (y ≡ x → ⊥) → cap ≤ f (n + y)) → leastOf f cap (n + m) ≡ min (leastOf f cap n) (f (n + x))
+  least-one n m x lx h =
+      le-antisymm
+      (omega (arith, least-le f cap (n + m) (n + x) (omega arith), le-least f cap n (leastOf f cap (n + m)) (least-cap f cap (n + m)) (λ k l. least-le f cap (n + m) k (omega arith))))
+      (le-least f cap (n + m) (min (leastOf f cap n) (f (n + x))) (omega (arith, least-cap f cap n)) (λ k l. go k l (decLe n k) (ℕ-discrete (k - n) x)))
+    where
+      go : (k : ℕ) → k < n + m → Dec (n ≤ k) → Dec (k - n ≡ x) → min (leastOf f cap n) (f (n + x)) ≤ f k
+      go k l (yes a) (yes b) =
+          let e : n + x ≡ k = omega arith in
+          omega (arith, ap f e)
+      go k l (yes a) (no b) =
+          let e : n + (k - n) ≡ k = omega arith in
+          omega (arith, h (k - n) (omega arith) b, ap f e, least-cap f cap n)
+      go k l (no a) b = omega (arith, least-le f cap n k (omega arith))
+
+-- what the first n places say of entry x
+abbrev pub others : (cap : ℕ) → (f g places : List ℕ) → (n x : ℕ) → ℕ
+others cap f g places n x = leastOf (λ p. cond (eqb (getD places p 0) x) (getD g p 0 - getD f p 0) cap) cap n
+
+pub record Scattering (cap : ℕ) (f g places : List ℕ) (size n : ℕ) (a : List ℕ) : Type 0 where
+  pub within : n ≤ length places
+  pub long : length a ≡ size
+  pub entries : Each size (λ x. getD a x 0 ≡ others cap f g places n x)
+
+pub scatter-start : {cap : ℕ} {f g places : List ℕ} {size : ℕ} {a : List ℕ} → length a ≡ size → Each size (λ x. getD a x 0 ≡ cap) → Scattering cap f g places size 0 a
+unfolding leastOf
+scatter-start e h = record { within = omega arith; long = e; entries = h }
+
+pub scatter-more : {cap : ℕ} {f g places : List ℕ} {size n : ℕ} {a h : List ℕ} → Scattering cap f g places size n a → n < length places → getD places n 0 < size →
+    h ≡ set a (getD places n 0) (min (getD a (getD places n 0) 0) (getD g n 0 - getD f n 0)) → Scattering cap f g places size (n + 1) h
+unfolding leastOf
+scatter-more {cap} {f} {g} {places} {size} {n} {a} m l ls e = rw e (record {
+  within = omega arith;
+  long = length-set a s v ∙ m .long;
+  entries = λ x lx. entered x lx (ℕ-discrete s x) ∙ ap (λ (i : ℕ). others cap f g places i x) (sym (add-one n));
+})
+  where
+    s : ℕ
+    s = getD places n 0
+
+    v : ℕ
+    v = min (getD a s 0) (getD g n 0 - getD f n 0)
+
+    entered : (x : ℕ) → x < size → Dec (s ≡ x) → getD (set a s v) x 0 ≡ others cap f g places (suc n) x
+    entered x lx (yes d) =
+        ap (λ (y : ℕ). getD (set a s v) y 0) (sym d) ∙ getD-set-same a s v 0 (omega (arith, m .long))
+        ∙ ap (λ (y : ℕ). min y (getD g n 0 - getD f n 0)) (ap (λ (y : ℕ). getD a y 0) d ∙ m .entries x lx) ∙ rw (eq-eqb s x d) refl
+    entered x lx (no d) =
+        getD-set-other a s x v 0 (λ z. d (sym z)) ∙ m .entries x lx
+        ∙ rw (ne-eqb s x d) (omega (arith, least-cap (λ p. cond (eqb (getD places p 0) x) (getD g p 0 - getD f p 0) cap) cap n))
