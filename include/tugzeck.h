@@ -30,10 +30,19 @@ extern "C" {
 #define TUGZECK_MESSAGE(code) ((code) == 3 ? 13 : (code) == 2 ? 3 : 5)
 #define TUGZECK_ROW(code) ((code) == 3 ? 60 : 21)
 
+/* The same for a code by its parameters: m bits to a symbol (3 or 4) and roots alpha to alpha^r. It may be chosen if r is from 1 to 6 and m times the
+ * difference of the dimensions of the Reed-Solomon and the BCH code is at most 16: with m = 3 each r from 1 to 6, with m = 4 the r 1, 2, 4, 6. */
+#define TUGZECK_WORD_BY(m) ((m) == 4 ? 15 : 7)
+#define TUGZECK_MESSAGE_BY(m, r) (TUGZECK_WORD_BY(m) - (r))
+#define TUGZECK_ROW_BY(m) ((m) == 4 ? 60 : 21)
+
 /* The greatest of these. */
 #define TUGZECK_MOST_WORD 15
-#define TUGZECK_MOST_MESSAGE 13
+#define TUGZECK_MOST_MESSAGE 14
 #define TUGZECK_MOST_ROW 60
+
+/* Numbers of a scratch. */
+#define TUGZECK_SCRATCH 16384
 
 /* The greatest size of a reliability. */
 #define TUGZECK_MOST_RELIABILITY 127
@@ -52,7 +61,7 @@ extern "C" {
 
 /* REFUSALS. 0 stands for none. */
 enum tugzeck_refusal {
-    TUGZECK_CODE = 1,         /* the code is not 1, 2 or 3 */
+    TUGZECK_CODE = 1,         /* the code is not 1, 2 or 3, or m is not 3 or 4 */
     TUGZECK_ROW_LENGTH = 2,   /* a row is not n*m long */
     TUGZECK_WORD_LENGTH = 3,  /* a word is not n, or a message not k, long */
     TUGZECK_OUTPUT = 4,       /* an output has not exactly its length */
@@ -66,7 +75,9 @@ enum tugzeck_refusal {
     TUGZECK_COUNT = 12,       /* a 201st question, or a count that differs */
     TUGZECK_AFTER_END = 13,   /* words after the end of a sheet */
     TUGZECK_SYMBOL_KIND = 14, /* a received symbol's kind is above 3 */
-    TUGZECK_FILL = 15         /* received symbols and samples do not fill the row exactly */
+    TUGZECK_FILL = 15,        /* received symbols and samples do not fill the row exactly */
+    TUGZECK_ROOTS = 16,       /* with this m, a code of r roots may not be chosen */
+    TUGZECK_SCRATCH_LENGTH = 17 /* a scratch is not TUGZECK_SCRATCH long */
 };
 
 /* The kinds of received symbols, a byte each. */
@@ -113,20 +124,29 @@ struct tugzeck_listed {
     size_t length; /* bytes of the text */
 };
 
+/* CODES. A call whose name ends in _by takes the code's m and r in place of its number. It does what the call without _by does, and refuses by the same
+ * numbers in the same order; only, its code is refused by 1 for an m other than 3 and 4, and directly after that by 16. */
+
 /* WORDS. A symbol is a byte; position 0 first. The message stands at the last k positions. */
 
 /* Writes the codeword of a message of k symbols into the n places of `output`. Answers 0, or refuses by 1, 3, 4, 6. */
 uint32_t tugzeck_encode(uint32_t code, const uint8_t *message, size_t message_count, uint8_t *output, size_t output_count);
+uint32_t tugzeck_encode_by(uint32_t m, uint32_t r, const uint8_t *message, size_t message_count, uint8_t *output, size_t output_count);
 
 /* Writes the message of a codeword into the k places of `output`. Answers 0, or refuses by 1, 3, 4, 6, 8. */
 uint32_t tugzeck_read_word(uint32_t code, const uint8_t *word, size_t word_count, uint8_t *output, size_t output_count);
+uint32_t tugzeck_read_word_by(uint32_t m, uint32_t r, const uint8_t *word, size_t word_count, uint8_t *output, size_t output_count);
 
 /* Answers 0 for a codeword and 8 for another word, or refuses by 1, 3, 6. */
 uint32_t tugzeck_check_word(uint32_t code, const uint8_t *word, size_t word_count);
+uint32_t tugzeck_check_word_by(uint32_t m, uint32_t r, const uint8_t *word, size_t word_count);
 
 /* Splits a codeword into layers: 0 and its configuration, and in the n*m places of `bch`, layer 1 first, the word of bits that is left of
- * each layer when the leader of its coset is added. Refuses by 1, 3, 4, 6, 8. */
+ * each layer when the leader of its coset is added: of the coset's words of least weight the one with the smallest number, position i weighing 2^i.
+ * A syndrome is the value at alpha, from three roots on + 2^m times that at alpha^3, and for m = 4 from five on + 256 times the number of that at
+ * alpha^5, where 0, 1, 6, 7 are numbered 0 to 3. Refuses by 1, 3, 4, 6, 8. */
 struct tugzeck_splitting tugzeck_split(uint32_t code, const uint8_t *word, size_t word_count, uint8_t *bch, size_t bch_count);
+struct tugzeck_splitting tugzeck_split_by(uint32_t m, uint32_t r, const uint8_t *word, size_t word_count, uint8_t *bch, size_t bch_count);
 
 /* ROWS. Entry i*m + (j-1) of a row, and of soft outputs, belongs to layer j, the bit of weight 2^(j-1), at position i. A positive reliability
  * favours 0. */
@@ -134,22 +154,32 @@ struct tugzeck_splitting tugzeck_split(uint32_t code, const uint8_t *word, size_
 /* Turns the n*m samples of a row into reliabilities, in the n*m places of `row`: each the nearest whole number to 32 times the sample,
  * halves away from zero, clipped to -127 or 127. Answers 0, or refuses by 1, 2 (`samples`), 4 (`row`), 7. */
 uint32_t tugzeck_quantise(uint32_t code, const float *samples, size_t samples_count, int16_t *row, size_t row_count);
+uint32_t tugzeck_quantise_by(uint32_t m, uint32_t r, const float *samples, size_t samples_count, int16_t *row, size_t row_count);
 
 /* Turns received symbols into the n*m reliabilities of `row`, one symbol after another: `kinds` has a byte for each (enum tugzeck_received),
  * and a symbol takes the samples that come next. A lost bit gives 0, a sample what tugzeck_quantise gives it, a pair in-phase first. Answers 0, or
  * refuses by 1, 4 (`row`), 14, 15 (the symbols have more or fewer than n*m bits, or take more or fewer samples than there are), 7. */
 uint32_t tugzeck_receive(uint32_t code, const uint8_t *kinds, size_t kinds_count, const float *samples, size_t samples_count, int16_t *row,
                          size_t row_count);
+uint32_t tugzeck_receive_by(uint32_t m, uint32_t r, const uint8_t *kinds, size_t kinds_count, const float *samples, size_t samples_count,
+                            int16_t *row, size_t row_count);
 
 /* Decodes a row of n*m reliabilities: 0 and the best metric, in the n places of `word` the codeword that has it or, of several, the first when
  * symbols are compared from position 0, and in the n*m places of `soft` the soft outputs: the greatest metric of a codeword with 0 at that bit
  * less the greatest with 1. Refuses by 1, 2, 4 (`word` or `soft`), 5. */
 struct tugzeck_decoding tugzeck_decode(uint32_t code, const int16_t *row, size_t row_count, uint8_t *word, size_t word_count, int16_t *soft,
                                        size_t soft_count);
+/* By m and r it is lent a scratch of TUGZECK_SCRATCH numbers besides, whatever they are: all 0 after it, unchanged where it refuses. Refuses by 1, 16, 2, 4,
+ * 17 (`scratch`), 5. */
+struct tugzeck_decoding tugzeck_decode_by(uint32_t m, uint32_t r, const int16_t *row, size_t row_count, uint8_t *word, size_t word_count,
+                                          int16_t *soft, size_t soft_count, int32_t *scratch, size_t scratch_count);
 
 /* Marks a word of n symbols, handed in for a row of n*m reliabilities: 0 and the verdict, none (no codeword), short (with the best metric less
  * the word's own) or best, which every codeword with the best metric is. Refuses by 1, 2, 3, 5, 6. */
 struct tugzeck_marking tugzeck_mark(uint32_t code, const int16_t *row, size_t row_count, const uint8_t *word, size_t word_count);
+/* By m and r it is lent a scratch besides, as tugzeck_decode_by is. Refuses by 1, 16, 2, 3, 17 (`scratch`), 5, 6. */
+struct tugzeck_marking tugzeck_mark_by(uint32_t m, uint32_t r, const int16_t *row, size_t row_count, const uint8_t *word, size_t word_count,
+                                       int32_t *scratch, size_t scratch_count);
 
 /* SHEETS. A sheet is bytes: 32-bit words, low byte first. */
 

@@ -40,6 +40,32 @@ int main(void) {
     SAME(tugzeck_check_word(1, other, 7), TUGZECK_NO_CODEWORD);
     SAME(tugzeck_check_word(1, other, 6), TUGZECK_WORD_LENGTH);
 
+    /* By m and r: message 1 then zeros of (15, 11), and the refusals of the choice. */
+    static const uint8_t eleven[TUGZECK_MESSAGE_BY(4, 4)] = {1};
+    static const uint8_t by_four[TUGZECK_WORD_BY(4)] = {7, 8, 12, 13, 1};
+    SAME(tugzeck_encode_by(4, 4, eleven, 11, word, 15), 0);
+    SAME(memcmp(word, by_four, 15), 0);
+    SAME(tugzeck_encode_by(5, 9, eleven, 11, word, 15), TUGZECK_CODE);
+    SAME(tugzeck_encode_by(4, 3, eleven, 12, word, 15), TUGZECK_ROOTS);
+    SAME(tugzeck_encode_by(4, 4, eleven, 10, word, 15), TUGZECK_WORD_LENGTH);
+    SAME(tugzeck_read_word_by(4, 4, by_four, 15, read, 11), 0);
+    SAME(memcmp(read, eleven, 11), 0);
+    SAME(tugzeck_read_word_by(4, 6, by_four, 15, read, 9), TUGZECK_NO_CODEWORD);
+    SAME(tugzeck_check_word_by(4, 4, by_four, 15), 0);
+    SAME(tugzeck_check_word_by(4, 6, by_four, 15), TUGZECK_NO_CODEWORD);
+    SAME(tugzeck_check_word_by(3, 7, by_four, 15), TUGZECK_ROOTS);
+    struct tugzeck_splitting b = tugzeck_split_by(4, 4, by_four, 15, bch, TUGZECK_ROW_BY(4));
+    SAME(b.number, 0);
+    SAME(b.configuration[0], 74);
+    SAME(b.configuration[1], 17);
+    SAME(b.configuration[2], 125);
+    SAME(b.configuration[3], 238);
+    SAME(bch[0], 1);
+    SAME(bch[1], 0);
+    b = tugzeck_split_by(4, 5, by_four, 15, bch, 60);
+    SAME(b.number, TUGZECK_ROOTS);
+    SAME(b.configuration[0] | b.configuration[1] | b.configuration[2] | b.configuration[3], 0);
+
     struct tugzeck_splitting s = tugzeck_split(1, codeword, 7, bch, 21);
     SAME(s.number, 0);
     SAME(s.configuration[0], 5);
@@ -63,6 +89,11 @@ int main(void) {
     SAME(row[2], -1);
     SAME(row[3], 0);
     SAME(row[20], 127);
+    row[20] = 0;
+    SAME(tugzeck_quantise_by(3, 6, samples, 21, row, 21), 0);
+    SAME(row[20], 127);
+    SAME(tugzeck_quantise_by(4, 6, samples, 21, row, 60), TUGZECK_ROW_LENGTH);
+    SAME(tugzeck_quantise_by(3, 0, samples, 21, row, 21), TUGZECK_ROOTS);
     samples[20] = samples[3] / samples[3];
     SAME(tugzeck_quantise(1, samples, 21, row, 21), TUGZECK_SAMPLE);
 
@@ -78,6 +109,10 @@ int main(void) {
     SAME(row[1], -1);
     SAME(row[2] | row[3], 0);
     SAME(row[4], 127);
+    row[4] = 0;
+    SAME(tugzeck_receive_by(3, 1, kinds, 12, received, 3, row, 21), 0);
+    SAME(row[4], 127);
+    SAME(tugzeck_receive_by(2, 1, kinds, 12, received, 3, row, 21), TUGZECK_CODE);
     SAME(tugzeck_receive(1, kind_4, 1, received, 3, row, 21), TUGZECK_SYMBOL_KIND);
     SAME(tugzeck_receive(1, kind_4, 1, received, 3, row, 20), TUGZECK_OUTPUT);
 
@@ -90,6 +125,17 @@ int main(void) {
         SAME(word[i], 7);
     for (int i = 0; i < 21; i++)
         SAME(soft[i], -60);
+    static int32_t scratch[TUGZECK_SCRATCH];
+    scratch[0] = scratch[TUGZECK_SCRATCH - 1] = 9;
+    d = tugzeck_decode_by(3, 2, row, 21, word, 7, soft, 21, scratch, TUGZECK_SCRATCH - 1);
+    SAME(d.number, TUGZECK_SCRATCH_LENGTH);
+    SAME(scratch[0], 9);
+    d = tugzeck_decode_by(3, 2, row, 21, word, 7, soft, 21, scratch, TUGZECK_SCRATCH);
+    SAME(d.number, 0);
+    SAME(d.metric, 210);
+    SAME(soft[20], -60);
+    for (int i = 0; i < TUGZECK_SCRATCH; i++)
+        SAME(scratch[i], 0);
     row[20] = -128;
     d = tugzeck_decode(1, row, 21, word, 7, soft, 21);
     SAME(d.number, TUGZECK_RELIABILITY);
@@ -100,6 +146,9 @@ int main(void) {
     struct tugzeck_marking m = tugzeck_mark(1, row, 21, codeword, 7);
     SAME(m.number, 0);
     SAME(m.verdict, TUGZECK_SHORT);
+    SAME(m.shortfall, 100);
+    m = tugzeck_mark_by(3, 2, row, 21, codeword, 7, scratch, TUGZECK_SCRATCH);
+    SAME(m.number, 0);
     SAME(m.shortfall, 100);
     m = tugzeck_mark(1, row, 21, other, 7);
     SAME(m.number, 0);
@@ -156,6 +205,6 @@ int main(void) {
     SAME(l.number, TUGZECK_OUTPUT);
     SAME(l.length, 0);
 
-    printf("compared: %u answers of all twelve calls through the header\n", compared);
+    printf("compared: %u answers of all twenty calls through the header\n", compared);
     return 0;
 }

@@ -8,6 +8,10 @@
 //! The codes are numbered 1 to 3. A word has [`word_length`] symbols (n) of m bits, a row [`row_length`] reliabilities (n·m): entry
 //! i·m + (j - 1) belongs to layer j, the bit of weight 2^(j-1), at position i. A positive reliability favours 0.
 //!
+//! A function whose name ends in `_by` takes a code's parameters in place of its number: m, 3 or 4, and r, the number of its roots α to α^r. With m = 3 each
+//! r from 1 to 6 may be chosen, with m = 4 the r 1, 2, 4 and 6. It does what the function without `_by` does; only, its code is refused by 1 for another m,
+//! and directly after that by 16 for another r.
+//!
 //! ```
 //! let row = [10i16; 21];
 //! let (mut word, mut soft) = ([0u8; 7], [0i16; 21]);
@@ -71,6 +75,29 @@ pub const fn row_length(code: u32) -> usize {
     }
 }
 
+/// Symbols to a word (n), by m. Widths are 3 and 4; of other numbers this says nothing.
+pub const fn word_length_by(m: u32) -> usize {
+    if m == 4 {
+        15
+    } else {
+        7
+    }
+}
+
+/// Symbols to a message (k), by m and r. Of numbers that no code has this says nothing.
+pub const fn message_length_by(m: u32, r: u32) -> usize {
+    word_length_by(m).saturating_sub(r as usize)
+}
+
+/// Bits to a word, and reliabilities to a row (n·m), by m. Widths are 3 and 4; of other numbers this says nothing.
+pub const fn row_length_by(m: u32) -> usize {
+    if m == 4 {
+        60
+    } else {
+        21
+    }
+}
+
 /// Bytes of the sheet that holds questions of these codes. Codes are 1 to 3; of other numbers this says nothing.
 pub fn sheet_length(codes: &[u32]) -> usize {
     codes.iter().map(|code| if *code == 3 { 96 } else { 40 }).sum::<usize>() + 4
@@ -80,7 +107,7 @@ pub fn sheet_length(codes: &[u32]) -> usize {
 #[derive(Clone, Copy, Debug, PartialEq, Eq, Hash)]
 #[repr(u32)]
 pub enum Refusal {
-    /// The code is not 1, 2 or 3.
+    /// The code is not 1, 2 or 3, or m is not 3 or 4.
     Code = 1,
     /// A row is not n·m long.
     RowLength = 2,
@@ -110,11 +137,15 @@ pub enum Refusal {
     SymbolKind = 14,
     /// Received symbols and samples do not fill the row exactly.
     Fill = 15,
+    /// With this m, a code of r roots may not be chosen.
+    Roots = 16,
+    /// A scratch is not [`SCRATCH`] long.
+    Scratch = 17,
 }
 
 impl Refusal {
     /// Every refusal, by its number.
-    pub const ALL: [Refusal; 15] = [
+    pub const ALL: [Refusal; 17] = [
         Refusal::Code,
         Refusal::RowLength,
         Refusal::WordLength,
@@ -130,6 +161,8 @@ impl Refusal {
         Refusal::AfterEnd,
         Refusal::SymbolKind,
         Refusal::Fill,
+        Refusal::Roots,
+        Refusal::Scratch,
     ];
 
     /// The number that the library answers.
@@ -156,6 +189,8 @@ impl fmt::Display for Refusal {
             Refusal::AfterEnd => "words after the end of a sheet",
             Refusal::SymbolKind => "a received symbol of no kind",
             Refusal::Fill => "received symbols that do not fill the row exactly",
+            Refusal::Roots => "no code with so many roots",
+            Refusal::Scratch => "a scratch of the wrong length",
         };
         write!(f, "refused by {}: {met}", self.number())
     }
@@ -195,10 +230,32 @@ pub fn encode(code: u32, message: &[u8], output: &mut [u8]) -> Result<(), Refusa
     unless_refused(number, ())
 }
 
+/// [`encode`], by m and r. Refuses by 1, 16, 3, 4, 6.
+///
+/// ```
+/// let (mut message, mut word) = ([0u8; 11], [0u8; 15]);
+/// message[0] = 1;
+/// assert_eq!(tugzeck::encode_by(4, 4, &message, &mut word), Ok(()));
+/// assert_eq!(word[..5], [7, 8, 12, 13, 1]);
+/// assert_eq!(tugzeck::encode_by(4, 3, &message, &mut word), Err(tugzeck::Refusal::Roots));
+/// ```
+pub fn encode_by(m: u32, r: u32, message: &[u8], output: &mut [u8]) -> Result<(), Refusal> {
+    // SAFETY: both are slices, and the output is borrowed alone.
+    let number = unsafe { raw::tugzeck_encode_by(m, r, message.as_ptr(), message.len(), output.as_mut_ptr(), output.len()) };
+    unless_refused(number, ())
+}
+
 /// Writes the message of a codeword into k places. Refuses by 1, 3, 4, 6, 8.
 pub fn read_word(code: u32, word: &[u8], output: &mut [u8]) -> Result<(), Refusal> {
     // SAFETY: both are slices, and the output is borrowed alone.
     let number = unsafe { raw::tugzeck_read_word(code, word.as_ptr(), word.len(), output.as_mut_ptr(), output.len()) };
+    unless_refused(number, ())
+}
+
+/// [`read_word`], by m and r. Refuses by 1, 16, 3, 4, 6, 8.
+pub fn read_word_by(m: u32, r: u32, word: &[u8], output: &mut [u8]) -> Result<(), Refusal> {
+    // SAFETY: both are slices, and the output is borrowed alone.
+    let number = unsafe { raw::tugzeck_read_word_by(m, r, word.as_ptr(), word.len(), output.as_mut_ptr(), output.len()) };
     unless_refused(number, ())
 }
 
@@ -211,11 +268,29 @@ pub fn check_word(code: u32, word: &[u8]) -> Result<bool, Refusal> {
     }
 }
 
+/// [`check_word`], by m and r. Refuses by 1, 16, 3, 6.
+pub fn check_word_by(m: u32, r: u32, word: &[u8]) -> Result<bool, Refusal> {
+    // SAFETY: it is a slice.
+    match unsafe { raw::tugzeck_check_word_by(m, r, word.as_ptr(), word.len()) } {
+        8 => Ok(false),
+        number => unless_refused(number, true),
+    }
+}
+
 /// Splits a codeword into layers: answers its configuration (with m = 3 the fourth place is 0), and writes into n·m places, layer 1 first,
-/// the BCH word that is left of each layer when the leader of its coset is added. Refuses by 1, 3, 4, 6, 8.
+/// the BCH word that is left of each layer when the leader of its coset is added: of the coset's words of least weight the one with the smallest number,
+/// position i weighing 2^i. Refuses by 1, 3, 4, 6, 8.
 pub fn split(code: u32, word: &[u8], bch: &mut [u8]) -> Result<[u16; 4], Refusal> {
     // SAFETY: both are slices, and the output is borrowed alone.
     let s = unsafe { raw::tugzeck_split(code, word.as_ptr(), word.len(), bch.as_mut_ptr(), bch.len()) };
+    unless_refused(s.number, s.configuration)
+}
+
+/// [`split`], by m and r. A syndrome is the value at α, from three roots on + 2^m times that at α^3, and for m = 4 from five on + 256 times the number of
+/// that at α^5, where 0, 1, 6, 7 are numbered 0 to 3. Refuses by 1, 16, 3, 4, 6, 8.
+pub fn split_by(m: u32, r: u32, word: &[u8], bch: &mut [u8]) -> Result<[u16; 4], Refusal> {
+    // SAFETY: both are slices, and the output is borrowed alone.
+    let s = unsafe { raw::tugzeck_split_by(m, r, word.as_ptr(), word.len(), bch.as_mut_ptr(), bch.len()) };
     unless_refused(s.number, s.configuration)
 }
 
@@ -224,6 +299,13 @@ pub fn split(code: u32, word: &[u8], bch: &mut [u8]) -> Result<[u16; 4], Refusal
 pub fn quantise(code: u32, samples: &[f32], row: &mut [i16]) -> Result<(), Refusal> {
     // SAFETY: both are slices, and the output is borrowed alone.
     let number = unsafe { raw::tugzeck_quantise(code, samples.as_ptr(), samples.len(), row.as_mut_ptr(), row.len()) };
+    unless_refused(number, ())
+}
+
+/// [`quantise`], by m and r. Refuses by 1, 16, 2 (samples), 4 (row), 7.
+pub fn quantise_by(m: u32, r: u32, samples: &[f32], row: &mut [i16]) -> Result<(), Refusal> {
+    // SAFETY: both are slices, and the output is borrowed alone.
+    let number = unsafe { raw::tugzeck_quantise_by(m, r, samples.as_ptr(), samples.len(), row.as_mut_ptr(), row.len()) };
     unless_refused(number, ())
 }
 
@@ -246,6 +328,14 @@ pub fn receive(code: u32, kinds: &[u8], samples: &[f32], row: &mut [i16]) -> Res
     unless_refused(number, ())
 }
 
+/// [`receive`], by m and r. Refuses by 1, 16, 4, 14, 15, 7.
+pub fn receive_by(m: u32, r: u32, kinds: &[u8], samples: &[f32], row: &mut [i16]) -> Result<(), Refusal> {
+    // SAFETY: all are slices, and the output is borrowed alone.
+    let number =
+        unsafe { raw::tugzeck_receive_by(m, r, kinds.as_ptr(), kinds.len(), samples.as_ptr(), samples.len(), row.as_mut_ptr(), row.len()) };
+    unless_refused(number, ())
+}
+
 /// Decodes a row of n·m reliabilities: answers the best metric, and writes the codeword that has it into n places (of several, the first when
 /// symbols are compared from position 0) and the soft outputs into n·m: the greatest metric of a codeword with 0 at that bit less the greatest
 /// with 1. Refuses by 1, 2, 4, 5.
@@ -255,10 +345,49 @@ pub fn decode(code: u32, row: &[i16], word: &mut [u8], soft: &mut [i16]) -> Resu
     unless_refused(d.number, d.metric)
 }
 
+/// Numbers of the scratch that [`decode_by`] and [`mark_by`] are lent.
+pub const SCRATCH: usize = 16_384;
+
+/// [`decode`], by m and r, with a scratch of [`SCRATCH`] numbers lent besides, whatever they are: all 0 after it, unchanged where it refuses. Refuses by
+/// 1, 16, 2, 4, 17, 5.
+///
+/// ```
+/// let (mut word, mut soft, mut scratch) = ([0u8; 15], [0i16; 60], vec![0i32; tugzeck::SCRATCH]);
+/// assert_eq!(tugzeck::decode_by(4, 4, &[10; 60], &mut word, &mut soft, &mut scratch), Ok(600));
+/// assert_eq!(word, [0; 15]);
+/// ```
+pub fn decode_by(m: u32, r: u32, row: &[i16], word: &mut [u8], soft: &mut [i16], scratch: &mut [i32]) -> Result<i32, Refusal> {
+    // SAFETY: all are slices, and the outputs and the scratch are borrowed apart.
+    let d = unsafe {
+        raw::tugzeck_decode_by(
+            m,
+            r,
+            row.as_ptr(),
+            row.len(),
+            word.as_mut_ptr(),
+            word.len(),
+            soft.as_mut_ptr(),
+            soft.len(),
+            scratch.as_mut_ptr(),
+            scratch.len(),
+        )
+    };
+    unless_refused(d.number, d.metric)
+}
+
 /// Marks a word of n symbols, handed in for a row of n·m reliabilities. Every codeword with the best metric is `Best`. Refuses by 1, 2, 3, 5, 6.
 pub fn mark(code: u32, row: &[i16], word: &[u8]) -> Result<Verdict, Refusal> {
     // SAFETY: both are slices.
-    let m = unsafe { raw::tugzeck_mark(code, row.as_ptr(), row.len(), word.as_ptr(), word.len()) };
+    verdict(unsafe { raw::tugzeck_mark(code, row.as_ptr(), row.len(), word.as_ptr(), word.len()) })
+}
+
+/// [`mark`], by m and r, with a scratch of [`SCRATCH`] numbers lent besides, as [`decode_by`] is. Refuses by 1, 16, 2, 3, 17, 5, 6.
+pub fn mark_by(m: u32, r: u32, row: &[i16], word: &[u8], scratch: &mut [i32]) -> Result<Verdict, Refusal> {
+    // SAFETY: all are slices, and the scratch is borrowed alone.
+    verdict(unsafe { raw::tugzeck_mark_by(m, r, row.as_ptr(), row.len(), word.as_ptr(), word.len(), scratch.as_mut_ptr(), scratch.len()) })
+}
+
+fn verdict(m: raw::Marking) -> Result<Verdict, Refusal> {
     let verdict = match m.verdict {
         0 => Verdict::None,
         1 => Verdict::Short(m.shortfall),

@@ -41,12 +41,27 @@ pub struct Listed {
 
 extern "C" {
     pub fn tugzeck_encode(code: u32, message: *const u8, message_count: usize, output: *mut u8, output_count: usize) -> u32;
+    pub fn tugzeck_encode_by(m: u32, r: u32, message: *const u8, message_count: usize, output: *mut u8, output_count: usize) -> u32;
     pub fn tugzeck_read_word(code: u32, word: *const u8, word_count: usize, output: *mut u8, output_count: usize) -> u32;
+    pub fn tugzeck_read_word_by(m: u32, r: u32, word: *const u8, word_count: usize, output: *mut u8, output_count: usize) -> u32;
     pub fn tugzeck_check_word(code: u32, word: *const u8, word_count: usize) -> u32;
+    pub fn tugzeck_check_word_by(m: u32, r: u32, word: *const u8, word_count: usize) -> u32;
     pub fn tugzeck_split(code: u32, word: *const u8, word_count: usize, bch: *mut u8, bch_count: usize) -> Splitting;
+    pub fn tugzeck_split_by(m: u32, r: u32, word: *const u8, word_count: usize, bch: *mut u8, bch_count: usize) -> Splitting;
     pub fn tugzeck_quantise(code: u32, samples: *const f32, samples_count: usize, row: *mut i16, row_count: usize) -> u32;
+    pub fn tugzeck_quantise_by(m: u32, r: u32, samples: *const f32, samples_count: usize, row: *mut i16, row_count: usize) -> u32;
     pub fn tugzeck_receive(
         code: u32,
+        kinds: *const u8,
+        kinds_count: usize,
+        samples: *const f32,
+        samples_count: usize,
+        row: *mut i16,
+        row_count: usize,
+    ) -> u32;
+    pub fn tugzeck_receive_by(
+        m: u32,
+        r: u32,
         kinds: *const u8,
         kinds_count: usize,
         samples: *const f32,
@@ -63,7 +78,29 @@ extern "C" {
         soft: *mut i16,
         soft_count: usize,
     ) -> Decoding;
+    pub fn tugzeck_decode_by(
+        m: u32,
+        r: u32,
+        row: *const i16,
+        row_count: usize,
+        word: *mut u8,
+        word_count: usize,
+        soft: *mut i16,
+        soft_count: usize,
+        scratch: *mut i32,
+        scratch_count: usize,
+    ) -> Decoding;
     pub fn tugzeck_mark(code: u32, row: *const i16, row_count: usize, word: *const u8, word_count: usize) -> Marking;
+    pub fn tugzeck_mark_by(
+        m: u32,
+        r: u32,
+        row: *const i16,
+        row_count: usize,
+        word: *const u8,
+        word_count: usize,
+        scratch: *mut i32,
+        scratch_count: usize,
+    ) -> Marking;
     pub fn tugzeck_judge_sheet(sheet: *const u8, sheet_count: usize) -> Judgement;
     pub fn tugzeck_question(
         sheet: *const u8,

@@ -11,10 +11,12 @@ mod codes;
 #[rustfmt::skip]
 mod wolf;
 
+mod configured;
 mod draw;
 mod every;
 mod order;
 mod paper;
+mod parameters;
 mod raw_results;
 mod received;
 mod rows;

@@ -1,0 +1,214 @@
+//! Decoder and marker by m and r against an independent search over the configurations of each of the ten codes: every word of every coset is tried, layer by
+//! layer, and the configurations are the layers of the codewords that are zero at all but the last positions, made by encoding and moved.
+
+use crate::codes::Code;
+use crate::draw::Draw;
+use crate::parameters::{code_of, encoded, refusal, syndrome, TEN};
+use crate::{number, Output};
+use tugzeck::{Refusal, Verdict};
+
+struct Search {
+    code: Code,
+    /// The coset of every binary word, position i weighing 2^i, and how many cosets there are.
+    cosets: Vec<usize>,
+    size: usize,
+    configurations: Vec<[usize; 4]>,
+}
+
+/// For each layer and coset: the least cost, the first word that has it (position 0 compared first), and the least with each bit held.
+struct Tables {
+    least: Vec<Vec<u32>>,
+    first: Vec<Vec<u32>>,
+    held: Vec<Vec<[[u32; 2]; 15]>>,
+}
+
+impl Search {
+    fn new(m: u32, r: u32) -> Search {
+        let code = code_of(m, r);
+        let columns: Vec<usize> =
+            (0..code.n).map(|i| syndrome(&code, &(0..code.n).map(|k| u8::from(k == i)).collect::<Vec<u8>>())).collect();
+        let q = columns.iter().map(|c| usize::BITS - c.leading_zeros()).max().expect("a column") as usize;
+        let cosets = (0..1usize << code.n).map(|w| (0..code.n).filter(|i| w >> i & 1 == 1).fold(0, |s, i| s ^ columns[i])).collect();
+        let free = q - code.roots;
+        let configurations = (0..1usize << (free * code.m))
+            .map(|k| {
+                // A message that is zero in its last n - q symbols gives a word that is zero in its last n - q, and moved one that is zero in its first.
+                let mut message = vec![0u8; code.n - code.roots];
+                (0..free).for_each(|i| message[i] = (k >> (i * code.m) & ((1 << code.m) - 1)) as u8);
+                let mut word = encoded(&code, &message);
+                word.rotate_right(code.n - q);
+                let mut tuple = [0; 4];
+                for (j, s) in tuple.iter_mut().enumerate().take(code.m) {
+                    *s = syndrome(&code, &word.iter().map(|c| c >> j & 1).collect::<Vec<u8>>());
+                }
+                tuple
+            })
+            .collect();
+        Search { code, cosets, size: 1 << q, configurations }
+    }
+
+    fn tables(&self, row: &[i16]) -> Tables {
+        let code = &self.code;
+        let mut t = Tables { least: vec![], first: vec![], held: vec![] };
+        for j in 0..code.m {
+            let mut least = vec![u32::MAX; self.size];
+            let mut first = vec![0u32; self.size];
+            let mut held = vec![[[u32::MAX; 2]; 15]; self.size];
+            for (w, s) in self.cosets.iter().enumerate() {
+                let cost: u32 = (0..code.n).map(|i| against(row[i * code.m + j], w >> i & 1)).sum();
+                // The words as numbers whose leading bit is position 0.
+                let turned = (w as u32).reverse_bits() >> (32 - code.n);
+                if (cost, turned) < (least[*s], first[*s]) || least[*s] == u32::MAX {
+                    (least[*s], first[*s]) = (cost, turned);
+                }
+                (0..code.n).for_each(|i| held[*s][i][w >> i & 1] = held[*s][i][w >> i & 1].min(cost));
+            }
+            t.least.push(least);
+            t.first.push(first);
+            t.held.push(held);
+        }
+        t
+    }
+
+    /// The best metric, the first best word and every soft output.
+    fn decode(&self, row: &[i16]) -> (i32, Vec<u8>, Vec<i16>) {
+        let (code, t) = (&self.code, self.tables(row));
+        let total = |c: &[usize; 4]| (0..code.m).map(|j| t.least[j][c[j]]).sum::<u32>();
+        let least = self.configurations.iter().map(total).min().expect("a configuration");
+        let weight: i32 = row.iter().map(|r| i32::from(r.abs())).sum();
+        let word = |c: &[usize; 4]| -> Vec<u8> {
+            (0..code.n).map(|i| (0..code.m).map(|j| ((t.first[j][c[j]] >> (code.n - 1 - i) & 1) as u8) << j).sum()).collect()
+        };
+        let first = self.configurations.iter().filter(|c| total(c) == least).map(word).min().expect("a configuration");
+        let mut pairs = vec![[u32::MAX; 2]; code.bits()];
+        for c in &self.configurations {
+            let sum = total(c);
+            for j in 0..code.m {
+                let others = sum - t.least[j][c[j]];
+                for i in 0..code.n {
+                    for v in 0..2 {
+                        let own = t.held[j][c[j]][i][v];
+                        if own != u32::MAX {
+                            pairs[i * code.m + j][v] = pairs[i * code.m + j][v].min(others + own);
+                        }
+                    }
+                }
+            }
+        }
+        let soft = pairs.iter().map(|p| (2 * p[1] as i32 - 2 * p[0] as i32) as i16).collect();
+        (weight - 2 * least as i32, first, soft)
+    }
+}
+
+fn against(r: i16, bit: usize) -> u32 {
+    if (bit == 1) == (r > 0) && r != 0 {
+        u32::from(r.unsigned_abs())
+    } else {
+        0
+    }
+}
+
+fn metric(code: &Code, row: &[i16], word: &[u8]) -> i32 {
+    (0..code.bits()).map(|b| if word[b / code.m] >> (b % code.m) & 1 == 0 { i32::from(row[b]) } else { -i32::from(row[b]) }).sum()
+}
+
+fn rows(draw: &mut Draw, bits: usize, count: usize) -> Vec<Vec<i16>> {
+    (0..count)
+        .map(|k| match k % 4 {
+            0 if k == 0 => vec![0; bits],
+            1 => (0..bits).map(|_| draw.below(3) as i16 - 1).collect(),
+            2 => (0..bits).map(|_| if draw.below(8) == 0 { draw.below(255) as i16 - 127 } else { 0 }).collect(),
+            _ => (0..bits).map(|_| draw.below(255) as i16 - 127).collect(),
+        })
+        .collect()
+}
+
+#[test]
+fn decodings_and_marks() {
+    let mut draw = Draw::new(33);
+    let (mut count, mut marks) = (0, [0; 3]);
+    for (m, r) in TEN {
+        let search = Search::new(m, r);
+        let code = &search.code;
+        for row in rows(&mut draw, code.bits(), if m == 3 { 60 } else { 12 }) {
+            let (best, first, soft) = search.decode(&row);
+            // The scratch may hold anything before a call.
+            let mut scratch: Vec<i32> = (0..tugzeck::SCRATCH).map(|_| draw.below(1 << 30) as i32 - (1 << 29)).collect();
+            let (mut word, mut out) = (Output::new(code.n), Output::<i16>::new(code.bits()));
+            assert_eq!(tugzeck::decode_by(m, r, &row, word.lent(), out.lent(), &mut scratch), Ok(best), "({m}, {r}), {row:?}");
+            assert_eq!(word.left(), first, "({m}, {r}), {row:?}");
+            assert_eq!(out.left(), soft, "({m}, {r}), {row:?}");
+            assert!(scratch.iter().all(|x| *x == 0));
+            count += 1;
+
+            let other = encoded(code, &draw.word(code.n - code.roots, code.m));
+            let mut none = first.clone();
+            none[draw.below(code.n)] ^= 1;
+            for handed in [first, other, none] {
+                let mut scratch: Vec<i32> = (0..tugzeck::SCRATCH).map(|_| draw.below(1 << 30) as i32).collect();
+                let expected = if !crate::every::is_codeword(code, &handed) {
+                    Verdict::None
+                } else if metric(code, &row, &handed) == best {
+                    Verdict::Best
+                } else {
+                    Verdict::Short(best - metric(code, &row, &handed))
+                };
+                assert_eq!(tugzeck::mark_by(m, r, &row, &handed, &mut scratch), Ok(expected), "({m}, {r}), {row:?}");
+                assert!(scratch.iter().all(|x| *x == 0));
+                marks[match expected {
+                    Verdict::None => 0,
+                    Verdict::Short(_) => 1,
+                    Verdict::Best => 2,
+                }] += 1;
+            }
+        }
+    }
+    println!(
+        "compared: {count} rows of the ten codes decoded by parameters, {} best, {} short and {} other words marked",
+        marks[2], marks[1], marks[0]
+    );
+}
+
+#[test]
+fn refusals() {
+    let mut count = 0;
+    for m in 0..=6 {
+        for r in 0..=8 {
+            let choice = refusal(m, r);
+            let code = if choice == 0 { code_of(m, r) } else { code_of(4, 4) };
+            let first = |own: u32| if choice == 0 { own } else { choice };
+            for (row, word, soft, scratch, value, own) in [
+                (code.bits() + 1, code.n, code.bits(), tugzeck::SCRATCH, 0, 2),
+                (code.bits(), code.n - 1, code.bits(), tugzeck::SCRATCH - 1, 0, 4),
+                (code.bits(), code.n, code.bits() + 1, 0, 0, 4),
+                (code.bits(), code.n, code.bits(), tugzeck::SCRATCH - 1, 128, 17),
+                (code.bits(), code.n, code.bits(), tugzeck::SCRATCH + 1, 0, 17),
+                (code.bits(), code.n, code.bits(), tugzeck::SCRATCH, -128, 5),
+            ] {
+                let row = vec![value; row];
+                let mut room: Vec<i32> = (0..scratch as i32).collect();
+                let (mut a, mut b) = (Output::new(word), Output::<i16>::new(soft));
+                assert_eq!(number(tugzeck::decode_by(m, r, &row, a.lent(), b.lent(), &mut room)), first(own), "({m}, {r})");
+                a.kept();
+                b.kept();
+                assert!(room.iter().enumerate().all(|(i, x)| *x == i as i32));
+                count += 1;
+            }
+            for (row, word, scratch, value, symbol, own) in [
+                (code.bits() + 1, code.n + 1, 0, 128, 16, 2),
+                (code.bits(), code.n + 1, 0, 128, 16, 3),
+                (code.bits(), code.n, 0, 128, 16, 17),
+                (code.bits(), code.n, tugzeck::SCRATCH, 128, 16, 5),
+                (code.bits(), code.n, tugzeck::SCRATCH, 127, 16, 6),
+            ] {
+                let (row, word) = (vec![value; row], vec![symbol; word]);
+                let mut room: Vec<i32> = (0..scratch as i32).collect();
+                assert_eq!(number(tugzeck::mark_by(m, r, &row, &word, &mut room)), first(own), "({m}, {r})");
+                assert!(room.iter().enumerate().all(|(i, x)| *x == i as i32));
+                count += 1;
+            }
+        }
+    }
+    assert_eq!(Refusal::Scratch.number(), 17);
+    println!("compared: {count} refusals of decoder and marker by parameters");
+}
