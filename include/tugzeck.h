@@ -1,4 +1,4 @@
-/* Most-likely words of three short Reed-Solomon codes: the calls of libtugzeck.a for C and C++, on x86-64 Linux.
+/* Most-likely words of short Reed-Solomon codes, three by number and ten by parameters: the calls of libtugzeck.a for C and C++, on x86-64 Linux.
  *
  * Every call is proved for every input: it ends, answers what is said here, refuses bad input by the first number in the order stated at
  * the call, and changes no output then. crates/tugzeck/src/lib.rt has the promises.
@@ -125,7 +125,8 @@ struct tugzeck_listed {
 };
 
 /* CODES. A call whose name ends in _by takes the code's m and r in place of its number. It does what the call without _by does, and refuses by the same
- * numbers in the same order; only, its code is refused by 1 for an m other than 3 and 4, and directly after that by 16. */
+ * numbers in the same order; only, its code is refused by 1 for an m other than 3 and 4, and directly after that by 16, and tugzeck_decode_by and
+ * tugzeck_mark_by are lent a scratch besides, whose length is refused by 17. */
 
 /* WORDS. A symbol is a byte; position 0 first. The message stands at the last k positions. */
 

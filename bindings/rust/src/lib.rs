@@ -1,5 +1,5 @@
-//! Most-likely words of three short Reed-Solomon codes, (7, 5), (7, 3) and (15, 13): safe calls over the static library, which is proved for
-//! every input. One function a call; a call takes any input, refuses bad input by the first [`Refusal`] in the order stated, and
+//! Most-likely words of short Reed-Solomon codes, three by number, (7, 5), (7, 3) and (15, 13), and ten by parameters: safe calls over the static library,
+//! which is proved for every input. One function a call; a call takes any input, refuses bad input by the first [`Refusal`] in the order stated, and
 //! changes no output then. Outputs are lent, each with exactly its length. Nothing is allocated, and there is no global state.
 //!
 //! What the proofs do not cover is this package: that it declares the calls as they are, and hands slices over as pointers and counts.
@@ -10,7 +10,7 @@
 //!
 //! A function whose name ends in `_by` takes a code's parameters in place of its number: m, 3 or 4, and r, the number of its roots α to α^r. With m = 3 each
 //! r from 1 to 6 may be chosen, with m = 4 the r 1, 2, 4 and 6. It does what the function without `_by` does; only, its code is refused by 1 for another m,
-//! and directly after that by 16 for another r.
+//! and directly after that by 16 for another r, and [`decode_by`] and [`mark_by`] are lent a scratch besides, whose length is refused by 17.
 //!
 //! ```
 //! let row = [10i16; 21];

@@ -6,7 +6,39 @@ use std::thread::Builder;
 /// What a call may take of the stack, with room for what the test itself takes.
 const STACK: usize = 64 * 1024;
 
-/// What every call answers, for sixty rows.
+/// The codes that may be chosen by m and r.
+const CHOSEN: [(u32, u32); 10] = [(3, 1), (3, 2), (3, 3), (3, 4), (3, 5), (3, 6), (4, 1), (4, 2), (4, 4), (4, 6)];
+
+/// What every call by parameters answers, for thirty rows.
+fn results_by(seed: u64) -> Vec<String> {
+    let mut draw = Draw::new(seed);
+    let mut scratch = vec![0; tugzeck::SCRATCH];
+    CHOSEN
+        .iter()
+        .cycle()
+        .take(30)
+        .map(|&(m, r)| {
+            let (n, bits) = (tugzeck::word_length_by(m), tugzeck::row_length_by(m));
+            let samples: Vec<f32> = (0..bits).map(|_| f32::from(draw.within(127)) / 32.0).collect();
+            let (mut row, mut word, mut soft) = (vec![0; bits], vec![0; n], vec![0; bits]);
+            let (mut message, mut bch) = (vec![0; tugzeck::message_length_by(m, r)], vec![0; bits]);
+            let answers = (
+                tugzeck::quantise_by(m, r, &samples, &mut row),
+                tugzeck::receive_by(m, r, &vec![2; bits], &samples, &mut row),
+                tugzeck::decode_by(m, r, &row, &mut word, &mut soft, &mut scratch),
+                tugzeck::check_word_by(m, r, &word),
+                tugzeck::read_word_by(m, r, &word, &mut message),
+                tugzeck::encode_by(m, r, &message, &mut word),
+                tugzeck::split_by(m, r, &word, &mut bch),
+                tugzeck::mark_by(m, r, &row, &word, &mut scratch),
+            );
+            assert!(answers.0.is_ok() && answers.2.is_ok() && answers.7 == Ok(tugzeck::Verdict::Best));
+            format!("{answers:?} {row:?} {word:?} {soft:?} {message:?} {bch:?}")
+        })
+        .collect()
+}
+
+/// What every call by number answers, for sixty rows.
 fn results(seed: u64) -> Vec<String> {
     let mut draw = Draw::new(seed);
     let mut text = vec![0; tugzeck::LISTING];
@@ -39,8 +71,9 @@ fn results(seed: u64) -> Vec<String> {
 
 #[test]
 fn at_once_on_small_stacks() {
-    let alone: Vec<_> = (0..8).map(results).collect();
-    let threads: Vec<_> = (0..8).map(|seed| Builder::new().stack_size(STACK).spawn(move || results(seed)).expect("a thread")).collect();
+    let every = |seed| (results(seed), results_by(seed));
+    let alone: Vec<_> = (0..8).map(every).collect();
+    let threads: Vec<_> = (0..8).map(|seed| Builder::new().stack_size(STACK).spawn(move || every(seed)).expect("a thread")).collect();
     let at_once: Vec<_> = threads.into_iter().map(|t| t.join().expect("it ends")).collect();
     assert_eq!(alone, at_once);
     println!("compared: every call from 8 threads at once, each with a stack of {} KiB, and from one thread", STACK / 1024);
