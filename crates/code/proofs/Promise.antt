@@ -19,7 +19,7 @@ use Rattle.code.specs.Calls.{Encode-says, Read-says, encode-refusal, mem
 use Rattle.code.specs.declared.Membership.{Membership}
 use Rattle.code.specs.declared.Shape.{Shape}
 use Rattle.code.specs.declared.Chosen.{Chosen}
-use Rattle.code.specs.Within.{Chosen-says, Numbered, number-of, Message-within}
+use Rattle.code.specs.Within.{Chosen-says, Message-within}
 use Rattle.code.proofs.Accepted.{
   le-or-lt,
   accepted-parts,
@@ -36,44 +36,22 @@ use Rattle.code.proofs.Accepted.{
 use Rattle.code.proofs.Encoding.{encode, encode-good, encode-top, codeword-is}
 
 -- a rule at each code number
-pub codes {ℓ} : (P : ℕ → Type ℓ) → P 1 → P 2 → P 3 → (c : ℕ) → code-good c ≡ true → P c
+pub codes {ℓ} : (P : ℕ → Type ℓ) → P 1 → P 2 → P 3 → P 4 → P 5 → (c : ℕ) → code-good c ≡ true → P c
 unfolding code-good
-codes P a b d c g = go c (leb→le 1 c (and-l (leb 1 c) (leb c 3) (to-T g))) (leb→le c 3 (and-r (leb 1 c) (leb c 3) (to-T g)))
+codes P a b d e f c g = go c (leb→le 1 c (and-l (leb 1 c) (leb c 5) (to-T g))) (leb→le c 5 (and-r (leb 1 c) (leb c 5) (to-T g)))
   where
-    go : (c : ℕ) → 1 ≤ c → c ≤ 3 → P c
+    go : (c : ℕ) → 1 ≤ c → c ≤ 5 → P c
     go zero l h = absurd (not-suc-le-zero l)
     go (suc zero) l h = a
     go (suc (suc zero)) l h = b
     go (suc (suc (suc zero))) l h = d
-    go (suc (suc (suc (suc c)))) l h = absurd (omega arith)
+    go (suc (suc (suc (suc zero)))) l h = e
+    go (suc (suc (suc (suc (suc zero))))) l h = f
+    go (suc (suc (suc (suc (suc (suc c)))))) l h = absurd (omega arith)
 
--- which code has its m and r
-pub code-3 : (c : ℕ) → code-good c ≡ true → width c ≡ 4 → c ≡ 3
-unfolding width
-code-3 = codes (λ c. width c ≡ 4 → c ≡ 3) (λ e. absurd (omega arith)) (λ e. absurd (omega arith)) (λ e. refl)
-
-pub code-1 : (c : ℕ) → code-good c ≡ true → (width c ≡ 4 → ⊥) → roots c ≡ 2 → c ≡ 1
-unfolding width roots
-code-1 = codes (λ c. (width c ≡ 4 → ⊥) → roots c ≡ 2 → c ≡ 1) (λ f e. refl) (λ f e. absurd (omega arith)) (λ f e. absurd (f refl))
-
-pub code-2 : (c : ℕ) → code-good c ≡ true → (width c ≡ 4 → ⊥) → (roots c ≡ 2 → ⊥) → c ≡ 2
-unfolding width roots
-code-2 = codes (λ c. (width c ≡ 4 → ⊥) → (roots c ≡ 2 → ⊥) → c ≡ 2) (λ f e. absurd (e refl)) (λ f e. refl) (λ f e. absurd (f refl))
-
--- its number from m and r
-number-known : (c : ℕ) → code-good c ≡ true → cond (eqb (width c) 4) 3 (cond (eqb (roots c) 2) 1 2) ≡ c
-unfolding width roots
-number-known = codes (λ c. cond (eqb (width c) 4) 3 (cond (eqb (roots c) 2) 1 2) ≡ c) refl refl refl
-
-pub record Numbered-as (s : Shape) (c : ℕ) : Type 0 where
-  pub good : code-good c ≡ true
-  pub m-is : s .m ≡ width c
-  pub r-is : s .r ≡ roots c
-
-pub numbered : {s : Shape} → Numbered s → Numbered-as s (number-of s)
-numbered {s} z =
-    let e : number-of s ≡ z .code = rw (z .m-is, z .r-is) (number-known (z .code) (z .code-is)) in
-    rw e (record { good = z .code-is; m-is = z .m-is; r-is = z .r-is })
+pub few-codes : (c : ℕ) → code-good c ≡ true → c ≤ 5
+unfolding code-good
+few-codes c g = leb→le c 5 (and-r (leb 1 c) (leb c 5) (to-T g))
 
 -- a code by its number
 abbrev pub By-number : (c : ℕ) → (a : Chosen) → Type 0
@@ -85,9 +63,6 @@ module _ (c : ℕ) {a : Chosen} (s : By-number c a) where
 
   pub by-number-r : a .shape .r ≡ roots c
   by-number-r = s .r-is (number-accepted c)
-
-  pub has-number : code-good c ≡ true → Numbered (a .shape)
-  has-number g = record { code = c; code-is = g; m-is = by-number-m; r-is = by-number-r }
 
 -- what holds of a code's m and r, and the other way round
 module _ (P : ℕ → ℕ → Type 0) {a b m r : ℕ} (m-is : a ≡ m) (r-is : b ≡ r) where
@@ -195,9 +170,6 @@ parameters-accepted = parameters-taken
 pub accepted-inside : Accepted-inside
 unfolding Accepted-inside
 accepted-inside m r e = let p = accepted-parts m r e in (p .wide, p .some, p .six, p .few)
-
-pub codes-inside : (c : ℕ) → code-good c ≡ true → (width-good (width c) ≡ true) × (1 ≤ roots c) × (roots c < long (width c))
-codes-inside c g = let p = accepted-parts (width c) (roots c) (number-accepted c) in (p .wide, p .some, p .few)
 
 pub encodes-once : Encodes-once
 unfolding Encodes-once message

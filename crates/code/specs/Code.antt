@@ -8,9 +8,9 @@ use lib.ListN.{length, drop}
 use Rattle.field.specs.Field.{xor, times, alpha, width-good}
 use Rattle.refusal.specs.Refusal.{unless}
 
--- the code numbers: 1 is (7, 5), 2 is (7, 3), 3 is (15, 13)
+-- the code numbers: 1 is (7, 5), 2 is (7, 3), 3 is (15, 13), 4 is (15, 11), 5 is (15, 9)
 unfoldable pub code-good : (code : ℕ) → Bool
-code-good c = leb 1 c && leb c 3
+code-good c = leb 1 c && leb c 5
 
 -- another number is refused by 1
 unfoldable pub number-refusal : (code : ℕ) → ℕ

@@ -1,14 +1,13 @@
 -- What the functions for the crates above ask of their inputs. Assumes nothing: these are definitions.
 use mathlib.Core.Path.{_≡_}
-use mathlib.Core.Bool.{true, cond}
+use mathlib.Core.Bool.{true}
 use mathlib.Core.List.{List}
 use Prim.Native.Nat.{ℕ, _+_, _^_, _≤_, _<_}
-use lib.Dec.{eqb}
 use lib.ListN.{length, drop}
 use Rattle.field.specs.Field.{width-good}
 use Rattle.code.specs.declared.Shape.{Shape}
 use Rattle.code.specs.declared.Chosen.{Chosen}
-use Rattle.code.specs.Code.{code-good, width, roots, long, message-long, symbols-good, is-codeword, message, syndrome-long, accepted}
+use Rattle.code.specs.Code.{long, message-long, symbols-good, is-codeword, message, syndrome-long, accepted}
 use Rattle.code.specs.Bits.{row-long}
 
 -- m and r of a code that may be chosen, with the numbers that follow from them
@@ -29,17 +28,6 @@ pub record Chosen-says (z m r : ℕ) (a : Chosen) : Type 0 where
   pub coded : Coded (a .shape)
   pub m-is : accepted m r ≡ true → a .shape .m ≡ m
   pub r-is : accepted m r ≡ true → a .shape .r ≡ r
-
--- a code that has a number
-pub record Numbered (s : Shape) : Type 0 where
-  pub code : ℕ
-  pub code-is : code-good code ≡ true
-  pub m-is : s .m ≡ width code
-  pub r-is : s .r ≡ roots code
-
--- the number of the code with these m and r
-abbrev pub number-of : Shape → ℕ
-number-of s = cond (eqb (s .m) 4) 3 (cond (eqb (s .r) 2) 1 2)
 
 -- a word of n symbols below 2^m, and a number of roots, or the exponent of one, below n
 pub record Word-within (m r : ℕ) (ws : List ℕ) : Type 0 where

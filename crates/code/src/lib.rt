@@ -222,7 +222,7 @@ fn is_code(code: u32) -> bool
     if code < 1 {
         return false;
     }
-    code <= 3
+    code <= 5
 }
 
 // How many bits a symbol of a code has: m.

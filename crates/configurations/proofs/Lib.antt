@@ -1,4 +1,2 @@
-pub mod Listed
 pub mod Tuples
 pub mod Tabled
-pub mod Valid

@@ -6,17 +6,20 @@ use lib.Dec.{T, eqb→eq, lit≤}
 use lib.Pow.{pow-pos}
 use lib.Seq.{drop-drop}
 use Rattle.field.specs.Field.{width-good, xor, times, times-from, doubled, alpha, square}
-use Rattle.split.specs.Split.{numbered, cosets, layer-value, glued, valid, valid-at, all-below, padded, sum}
-use Rattle.configurations.specs.Configurations.{Configuration, configurations, configuration, of-code-3, listed-from, listed, leading, tuple}
-use Rattle.configurations.specs.Promise.{Table-right}
+use Rattle.code.specs.Code.{long, message-long, bch-dimension, configuration-long, roots-good, accepted}
+use Rattle.split.specs.Split.{numbered, cosets, layer-value, glued, valid, valid-at, all-below, sum}
+use Rattle.configurations.specs.Configurations.{Configuration, tuple-of, listed-from, listed, leading, tuple}
+use Rattle.tails.specs.Tails.{configuration}
+use Rattle.tails.specs.Promise.{Configured, Configured-right}
+use Rattle.configurations.specs.Promise.{Table-right, Table-generated}
 use Rattle.field.proofs.Tests.{and-l, and-r, to-T}
 use Rattle.field.proofs.Xor as X
 use Rattle.field.proofs.Field as F
 use Rattle.code.proofs.Words.{Below}
 use Rattle.split.proofs.Layers.{below}
 use Rattle.split.proofs.Dimension.{xor-zero}
+use Rattle.tails.proofs.Configured.{configured-right}
 use Rattle.configurations.proofs.Tuples.{configured, is-configuration, root-at, so}
-use Rattle.configurations.proofs.Listed.{listed-length}
 
 -- THE TEST. Tuple k is valid, its first two places are the digits of k, and no valid tuple but 0 has 0, 0 before these digits
 entry-good : (k : ℕ) → (ss : List ℕ) → Bool
@@ -26,8 +29,8 @@ table-good : (left k : ℕ) → (table : List ℕ) → Bool
 table-good zero k es = true
 table-good (suc n) k es = entry-good k (take 4 es) && table-good n (suc k) (drop 4 es)
 
-tested : T (table-good 256 0 (listed 3))
-unfolding entry-good table-good listed listed-from configurations configuration of-code-3 leading padded cosets numbered layer-value glued valid valid-at all-below xor times times-from doubled alpha square
+tested : T (table-good 256 0 listed)
+unfolding entry-good table-good listed listed-from tuple-of leading cosets numbered layer-value glued valid valid-at all-below xor times times-from doubled alpha square
 tested = tt
 
 -- what it says of a tuple
@@ -56,8 +59,8 @@ entries (suc n) k es t (suc i) h =
     let f : 4 * suc i ≡ 4 + 4 * i = omega arith in
     rw (e, f, ← drop-drop (4 * i) 4 es) (entries n (suc k) (drop 4 es) (and-r (entry-good k (take 4 es)) _ t) i (omega arith))
 
-at : (k : ℕ) → k < 256 → Entry k (tuple k (listed 3))
-at k h = rw zero-add at (entries 256 0 (listed 3) tested k h)
+at : (k : ℕ) → k < 256 → Entry k (tuple k listed)
+at k h = rw zero-add at (entries 256 0 listed tested k h)
 
 -- COMPLETE. At the first two roots the sum is additive, place by place
 module _ (m : ℕ) (w : width-good m ≡ true) where
@@ -141,15 +144,31 @@ leading-lt ss p =
     fours (λ ss. Below 16 ss → leading 16 ss / 256 < 256) (λ a b c d l. omega (arith, l .0, l .1 .0, l .1 .1 .0, l .1 .1 .1 .0)) ss (p .count)
     (below 16 ss (to-T (p .syndromes)))
 
+counted : length listed ≡ 1024
+unfolding listed listed-from tuple-of
+counted = refl
+
 pub table-right : Table-right
-unfolding Table-right configurations
+unfolding Table-right
 table-right = record {
-  count = listed-length 3;
+  count = counted;
   none-invalid = λ k h. at k h .is;
   none-missing = λ ss p.
       let k : ℕ = leading 16 ss / 256 in
       let h : k < 256 = leading-lt ss p in
-      let e : Entry k (tuple k (listed 3)) = at k h in
-      (k, h, same (tuple k (listed 3)) ss (e .is) p (e .first));
+      let e : Entry k (tuple k listed) = at k h in
+      (k, h, same (tuple k listed) ss (e .is) p (e .first));
   ascending = λ k l h o. omega (arith, at k (omega arith) .first, at l o .first);
+}
+
+-- the generator yields the valid ones too
+generator : Configured 4 2
+unfolding Configured-right accepted roots-good configuration-long message-long bch-dimension long width-good
+generator = configured-right 4 2 refl
+
+pub table-generated : Table-generated
+unfolding Table-generated Table-right configuration-long message-long bch-dimension long
+table-generated = record {
+  each = λ k h. generator .none-missing (tuple k listed) (table-right .none-invalid k h);
+  all = λ b h. table-right .none-missing (configuration 4 2 b) (generator .each-valid b h);
 }

@@ -1,10 +1,12 @@
 -- Tables of costs kept as signed numbers, and restored.
 -- Assumes nothing.
-use Rattle.basics.proofs.Kit.{_≡_, refl, sym, ap, _∙_, List, ℕ, suc, _+_, _-_, _*_, _/_, _^_, _<_, arith, length, getD, set, ℤ, pos, natAbs}
+use Rattle.basics.proofs.Kit.{_≡_, refl, sym, ap, _∙_, Bool, false, List, ℕ, suc, _+_, _-_, _*_, _/_, _^_, _≤_, _<_, arith, length, getD, set, ℤ, pos, negsuc, natAbs}
 use native.Mathlib.Nat.{suc-mul}
 use native.Mathlib.Decide.{ℕ-discrete}
 use lib.Dec.{T}
-use lib.Signed.{nonNeg}
+use lib.Signed.{ltZ, nonNeg}
+use mathlib.Core.Path.{subst}
+use borrow.Author.Tests.{ltb-false}
 use lib.ListN.{length-set}
 use lib.Seq.{getD-set-same, getD-set-other}
 use mir.Facts.{toZ-pos}
@@ -49,7 +51,21 @@ back : (x : ℤ) → (c : Cost x) → toZ w32 (ofZ w32 x) ≡ pos (c .value)
 back x c = let l : c .value < 2 ^ 31 = omega (arith, c .small) in rw (c .is) (toZ-pos w32 l)
 
 pub cost-fits : (x : ℤ) → Cost x → T (nonNeg (toZ w32 (ofZ w32 x))) × Fits w16 (natAbs (toZ w32 (ofZ w32 x)))
-cost-fits x c = rw (back x c) (tt, record { fits = c .small })
+cost-fits x c = rw (back x c) (tt, record { fits = omega (arith, c .small) })
+
+-- and is not cut
+pub most : (x : ℤ) → Cost x → ltZ x (toZ w32 32767) ≡ false → pos 32767 ≡ x
+most x c h =
+    let e : ltZ (pos (c .value)) (pos 32767) ≡ false = rw (c .is) at h in
+    let l : 32767 ≤ c .value = ltb-false (c .value) 32767 e in
+    let v : 32767 ≡ c .value = omega (arith, c .small) in
+    ap pos v ∙ sym (c .is)
+
+pub none-below : {A : Type 0} (x : ℤ) → Cost x → ltZ (toZ w32 4294934528) x ≡ false → A
+none-below x c h = let e : ltZ (negsuc 32767) (pos (c .value)) ≡ false = rw (c .is) at h in absurd (subst (λ (b : Bool). T b) e tt)
+
+pub again : (x : ℤ) → Cost x → toZ w32 (ofZ w32 x) ≡ x
+again x c = back x c ∙ sym (c .is)
 
 pub restored-more : {kept : List ℤ} {n : ℕ} {g₀ g : List ℕ} → Restore g₀ kept → Restored kept n g₀ g → n < length g₀ →
     Restored kept (n + 1) g₀ (set g n (natAbs (toZ w32 (ofZ w32 (getD kept n (pos 0))))))

@@ -112,7 +112,7 @@ pub record Keeps (i : ℕ) (t : List ℕ) (kept kept' : List ℤ) : Type 0 where
 pub record Cost (x : ℤ) : Type 0 where
   pub value : ℕ
   pub is : x ≡ pos value
-  pub small : value < 2 ^ 16
+  pub small : value < 2 ^ 15
 
 pub record Restore (g : List ℕ) (kept : List ℤ) : Type 0 where
   pub inside : length g ≤ length kept

@@ -8,7 +8,7 @@ ghost use Rattle.lanes.specs.Lanes as L;
 ghost use Rattle.lanes.specs.Lanes.{lane, lanes, twofold};
 ghost use Rattle.rows.specs.Rows.{sum, less, Sums};
 ghost use Rattle.coset.specs.Coset.{Layers, Costs, Keys, Kept, Free, Freed, Room};
-ghost use Rattle.coset.specs.Runs.{Pair, paired, Run, RanRows, Top, Fits, Double, Doubled, keyed, Keyable, Tails, Numbered, Behind, Copied, Keeps, Restore, Restored};
+ghost use Rattle.coset.specs.Runs.{Pair, paired, Run, RanRows, Top, Fits, Double, Doubled, keyed, Keyable, Tails, Numbered, Behind, Copied, Keeps, Cost, Restore, Restored};
 
 // Row a with a 0, or row b with a 1, lane by lane the less.
 fn lower(a: [u32; 4], b: [u32; 4], z: [u32; 4], o: [u32; 4]) -> [u32; 4]
@@ -165,6 +165,21 @@ fn keep(t: &[u32], kept: &mut [i32], i: usize)
     }
 }
 
+// A cost as it is: it is neither above what 15 bits and a sign hold nor below it. Said so, several numbers are narrowed by one instruction.
+fn not_above(x: i32) -> i32
+    requires { ⌜ Cost x ⌝ }
+    ensures { λ r. ⌜ r ≡ x ⌝ }
+{
+    if x < 32767 { x } else { 32767 }
+}
+
+fn not_below(x: i32) -> i32
+    requires { ⌜ Cost x ⌝ }
+    ensures { λ r. ⌜ r ≡ x ⌝ }
+{
+    if x > -32768 { x } else { -32768 }
+}
+
 // A table of costs that was kept.
 pub fn restore(kept: &[i32], g: &mut [u16])
     requires { ⌜ Restore (now g) (now kept) ⌝ }
@@ -172,7 +187,7 @@ pub fn restore(kept: &[i32], g: &mut [u16])
 {
     let mut k = 0;
     while k < g.len() {
-        g[k] = kept[k] as u16;
+        g[k] = not_below(not_above(kept[k])) as u16;
         k += 1;
     }
 }

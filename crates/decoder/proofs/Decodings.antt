@@ -13,9 +13,9 @@ use Rattle.metric.specs.Metric.{Decoded}
 use Rattle.metric.specs.Cost.{weight-of, top, Least-with}
 use Rattle.metric.proofs.Costs.{codeword-bits, decoded}
 use Rattle.metric.proofs.Bounds.{weight-le, cost-le}
-use Rattle.soft.specs.Pass.{folded}
+use Rattle.lanes.specs.Lanes.{entry}
 use Rattle.search.specs.Within.{Input}
-use Rattle.decoder.specs.Within.{Best, Softs, Softs-within, Softened}
+use Rattle.decoder.specs.Within.{Best-word, Softs, Softs-within, Softened}
 
 module _ {s : Shape} {row : List ℤ} (z : Input s row) where
   pub row-60 : length row ≤ 60
@@ -24,10 +24,10 @@ module _ {s : Shape} {row : List ℤ} (z : Input s row) where
   pub weight-small : weight-of row ≤ 7620
   weight-small = omega (arith, weight-le row-bound row (z .good-row), row-60)
 
-  pub least-small : {t g word : List ℕ} {least : ℕ} → Best s row t g word least → least ≤ 7620
-  least-small {t} {g} {word} b = omega (arith, b .costs, cost-le (s .m) row word, weight-small)
+  pub least-small : {word : List ℕ} {least : ℕ} → Best-word s row word least → least ≤ 7620
+  least-small {word} b = omega (arith, b .costs, cost-le (s .m) row word, weight-small)
 
-  pub rows-ok : {za oa : List ℕ} {soft : List ℤ} → length za ≡ s .n * 2 * 4 → length oa ≡ s .n * 2 * 4 → length soft ≡ s .n * s .m → Softs s row za oa → Softs-within (s .m) (s .n) za oa soft
+  pub rows-ok : {za oa : List ℕ} {soft : List ℤ} → length za ≡ s .n * 4 → length oa ≡ s .n * 4 → length soft ≡ s .n * s .m → Softs s row za oa → Softs-within (s .m) (s .n) za oa soft
   rows-ok lz lo ls f = record {
     width = z .coded .width-is;
     length-zero = lz;
@@ -36,13 +36,13 @@ module _ {s : Shape} {row : List ℤ} (z : Input s row) where
     small = λ i j li lj. let p = f i j li lj in (p .2, p .3);
   }
 
-  pub decoding : {t g word : List ℕ} {least : ℕ} → Best s row t g word least → {za oa : List ℕ} → Softs s row za oa →
+  pub decoding : {word : List ℕ} {least : ℕ} → Best-word s row word least → {za oa : List ℕ} → Softs s row za oa →
       {before soft : List ℤ} → length before ≡ s .n * s .m → Softened (s .m) za oa (s .n) before soft → {x y : ℤ} {v : ℕ} → x ≡ y → y ≡ pos v -ℤ pos (2 * least) → v ≡ weight-of row →
       Decoded (s .m) (is-codeword (s .m) (s .r)) row word x soft
   unfolding row-long top
-  decoding {t} {g} {word} {least} b {za} {oa} f {before} {soft} lb w {x} {y} {v} ex ey ev =
+  decoding {word} {least} b {za} {oa} f {before} {soft} lb w {x} {y} {v} ex ey ev =
       subst (λ (u : ℤ). Decoded (s .m) (is-codeword (s .m) (s .r)) row word u soft) (sym (ex ∙ ey ∙ ap (λ (u : ℕ). pos u -ℤ pos (2 * least)) ev))
-      (decoded (s .m) (is-codeword (s .m) (s .r)) row (codeword-bits (s .m) (s .r) row (z .length-row)) word least soft (λ k. folded za (k / s .m) (k % s .m)) (λ k. folded oa (k / s .m) (k % s .m)) (b .codeword) (b .costs) (b .is-least) (b .first)
+      (decoded (s .m) (is-codeword (s .m) (s .r)) row (codeword-bits (s .m) (s .r) row (z .length-row)) word least soft (λ k. entry za (k / s .m) (k % s .m)) (λ k. entry oa (k / s .m) (k % s .m)) (b .codeword) (b .costs) (b .is-least) (b .first)
       (w .long ∙ lb ∙ sym row-is) each)
     where
       row-is : length row ≡ s .n * s .m
@@ -52,8 +52,8 @@ module _ {s : Shape} {row : List ℤ} (z : Input s row) where
       three = widths (λ (m : ℕ). 3 ≤ m) (omega arith) (omega arith) (s .m) (z .coded .width-is)
 
       each : (k : ℕ) → k < length row →
-          Least-with (s .m) (is-codeword (s .m) (s .r)) row k 0 (folded za (k / s .m) (k % s .m)) × Least-with (s .m) (is-codeword (s .m) (s .r)) row k 1 (folded oa (k / s .m) (k % s .m))
-          × (getD soft k (pos 0) ≡ pos (2 * folded oa (k / s .m) (k % s .m)) -ℤ pos (2 * folded za (k / s .m) (k % s .m)))
+          Least-with (s .m) (is-codeword (s .m) (s .r)) row k 0 (entry za (k / s .m) (k % s .m)) × Least-with (s .m) (is-codeword (s .m) (s .r)) row k 1 (entry oa (k / s .m) (k % s .m))
+          × (getD soft k (pos 0) ≡ pos (2 * entry oa (k / s .m) (k % s .m)) -ℤ pos (2 * entry za (k / s .m) (k % s .m)))
       each k h =
           let hk : k < s .n * s .m = omega (arith, row-is) in
           let li : k / s .m < s .n = div-lt-iff-lt-mul {k = s .m} (omega (arith, three)) .1 hk in

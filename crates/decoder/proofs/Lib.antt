@@ -1,4 +1,4 @@
-pub mod Finding
 pub mod Writing
-pub mod Refusals
 pub mod Decodings
+pub mod Finding
+pub mod Refusals

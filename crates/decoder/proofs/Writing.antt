@@ -14,10 +14,9 @@ use Rattle.field.specs.Field.{width-good}
 use Rattle.field.proofs.Tests.{widths}
 use Rattle.metric.specs.Cost.{costZero, costOne}
 use Rattle.metric.proofs.Integers as I
-use Rattle.lanes.specs.Lanes.{lane, lanes}
-use Rattle.soft.specs.Pass.{folded}
-use Rattle.lanes.proofs.Rows.{lanes-at}
-use Rattle.search.specs.Within.{big}
+use Rattle.lanes.specs.Lanes.{lane, row}
+use Rattle.lanes.proofs.Rows.{row-at}
+use Rattle.search.specs.Within.{bound}
 use Rattle.decoder.specs.Within.{soft-of, Soft-within, Soft-written, Softs-within, Softened}
 
 -- a difference is no larger than its parts
@@ -34,7 +33,7 @@ minus-is a b ha hb = ap₂ (λ (x y : ℤ). x -ℤ y) (toZ-pos w32 ha) (toZ-pos 
 pub minus-fits : (a b : ℕ) → a < 2 ^ 31 → b < 2 ^ 31 → SFits w32 (pos a -ℤ pos b)
 minus-fits a b ha hb = record { sfits = within a b (2 ^ 31) ha hb }
 
-pub soft-fits : (zero one : ℕ) → zero < big → one < big → SFits w16 (pos (2 * one) -ℤ pos (2 * zero))
+pub soft-fits : (zero one : ℕ) → zero < bound → one < bound → SFits w16 (pos (2 * one) -ℤ pos (2 * zero))
 soft-fits za oa hz ho = record { sfits = within (2 * oa) (2 * za) 32768 (omega arith) (omega arith) }
 
 -- a number that fits both widths, made narrower
@@ -124,20 +123,20 @@ module _ (m n : ℕ) (za oa : List ℕ) (s₀ : List ℤ) (w : Softs-within m n 
   under j = widths (λ (m : ℕ). j < m → j < 4) (λ h. omega arith) (λ h. omega arith) m (w .width)
 
   module _ (i : ℕ) (s : List ℤ) (a : Softened m za oa i s₀ s) (l : i < n) where
-    pub row-ok : Soft-within m (i * m) (lanes (folded za i)) (lanes (folded oa i)) s
+    pub row-ok : Soft-within m (i * m) (row za i) (row oa i) s
     row-ok = record {
       width = w .width;
       fits = omega (arith, a .long, w .length-soft, mul-le-mul-right m l, suc-mul i m);
-      small = λ j lj. rw (lanes-at (folded za i) j (under j lj), lanes-at (folded oa i) j (under j lj)) (w .small i j l lj);
+      small = λ j lj. rw (row-at za i j (under j lj), row-at oa i j (under j lj)) (w .small i j l lj);
     }
 
-    pub rows-more : (s' : List ℤ) → Soft-written m (i * m) (lanes (folded za i)) (lanes (folded oa i)) s s' → Softened m za oa (i + 1) s₀ s'
+    pub rows-more : (s' : List ℤ) → Soft-written m (i * m) (row za i) (row oa i) s s' → Softened m za oa (i + 1) s₀ s'
     rows-more s' x = record { long = x .long ∙ a .long; done = λ k j lk lj. go k j lj (decLe i k) lk }
       where
         go : (k j : ℕ) → j < m → Dec (i ≤ k) → k < i + 1 → getD s' (k * m + j) (pos 0) ≡ soft-of za oa k j
         go k j lj (yes b) h =
             let e : k ≡ i = omega arith in
-            rw e (x .done j lj ∙ ap₂ (λ (p q : ℕ). pos (2 * p) -ℤ pos (2 * q)) (lanes-at (folded oa i) j (under j lj)) (lanes-at (folded za i) j (under j lj)))
+            rw e (x .done j lj ∙ ap₂ (λ (p q : ℕ). pos (2 * p) -ℤ pos (2 * q)) (row-at oa i j (under j lj)) (row-at za i j (under j lj)))
         go k j lj (no b) h = x .kept (k * m + j) (place k j (omega arith) lj) ∙ a .done k j (omega arith) lj
           where
             place : (k j : ℕ) → k < i → j < m → k * m + j < i * m

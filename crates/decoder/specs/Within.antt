@@ -3,45 +3,37 @@ use mathlib.Core.Path.{_≡_}
 use mathlib.Core.Bool.{true}
 use mathlib.Core.List.{List}
 use Prim.Native.Nat.{ℕ, _+_, _*_, _<_, _≤_}
-use lib.ListN.{length, getD}
+use lib.ListN.{length, getD, take}
 use lib.IntN.{ℤ, pos, _-ℤ_}
 use Rattle.field.specs.Field.{width-good}
-use Rattle.order.specs.Order.{not-after}
 use Rattle.code.specs.declared.Shape.{Shape}
 use Rattle.code.specs.Code.{is-codeword}
+use Rattle.order.specs.Order.{not-after}
 use Rattle.metric.specs.Cost.{cost, Least, Least-with}
-use Rattle.lanes.specs.Lanes.{lane}
-use Rattle.soft.specs.Pass.{folded}
-use Rattle.glue.specs.Walk.{Marginals}
-use Rattle.search.specs.Within.{big, cap, tuples-of, count-of, Input}
-
--- what the walk and the trace leave: the least cost, the first codeword that has it, and the least total with each syndrome in each layer
-pub record Best (s : Shape) (row : List ℤ) (t g word : List ℕ) (least : ℕ) : Type 0 where
-  pub codeword : is-codeword (s .m) (s .r) word ≡ true
-  pub costs : cost (s .m) row word ≡ least
-  pub is-least : Least (s .m) (is-codeword (s .m) (s .r)) row least
-  pub first : (vs : List ℕ) → is-codeword (s .m) (s .r) vs ≡ true → cost (s .m) row vs ≡ least → not-after word vs ≡ true
-  pub marginals : Marginals (s .size) (count-of s) cap t (tuples-of s) g
+use Rattle.metric.specs.Scratch.{scratch-long}
+use Rattle.lanes.specs.Lanes.{entry, lane}
+use Rattle.walk.specs.Walk.{start, Marginals}
+use Rattle.search.specs.Within.{cap, bound, slots-of, steps-of, turns-of, Input, Tabled, Laid}
 
 -- the least costs with a 0 and with a 1 at each bit
 abbrev pub Softs : Shape → (row : List ℤ) → (zero one : List ℕ) → Type 0
 Softs s row zs os =
     (i j : ℕ) → i < s .n → j < s .m →
-    Least-with (s .m) (is-codeword (s .m) (s .r)) row (i * s .m + j) 0 (folded zs i j)
-    × Least-with (s .m) (is-codeword (s .m) (s .r)) row (i * s .m + j) 1 (folded os i j)
-    × (folded zs i j < big) × (folded os i j < big)
+    Least-with (s .m) (is-codeword (s .m) (s .r)) row (i * s .m + j) 0 (entry zs i j)
+    × Least-with (s .m) (is-codeword (s .m) (s .r)) row (i * s .m + j) 1 (entry os i j)
+    × (entry zs i j < bound) × (entry os i j < bound)
 
 -- soft output i * m + j from the least costs
 abbrev pub soft-of : (zero one : List ℕ) → (i j : ℕ) → ℤ
-soft-of zs os i j = pos (2 * folded os i j) -ℤ pos (2 * folded zs i j)
+soft-of zs os i j = pos (2 * entry os i j) -ℤ pos (2 * entry zs i j)
 
 -- what `soft_rows` asks
 pub record Softs-within (m n : ℕ) (zero one : List ℕ) (soft : List ℤ) : Type 0 where
   pub width : width-good m ≡ true
-  pub length-zero : length zero ≡ n * 2 * 4
-  pub length-one : length one ≡ n * 2 * 4
+  pub length-zero : length zero ≡ n * 4
+  pub length-one : length one ≡ n * 4
   pub length-soft : length soft ≡ n * m
-  pub small : (i j : ℕ) → i < n → j < m → (folded zero i j < big) × (folded one i j < big)
+  pub small : (i j : ℕ) → i < n → j < m → (entry zero i j < bound) × (entry one i j < bound)
 
 -- the soft outputs of the first n positions are written
 pub record Softened (m : ℕ) (zero one : List ℕ) (n : ℕ) (before soft : List ℤ) : Type 0 where
@@ -52,27 +44,72 @@ pub record Softened (m : ℕ) (zero one : List ℕ) (n : ℕ) (before soft : Lis
 pub record Soft-within (m at : ℕ) (z o : List ℕ) (soft : List ℤ) : Type 0 where
   pub width : width-good m ≡ true
   pub fits : at + m ≤ length soft
-  pub small : (j : ℕ) → j < m → (lane z j < big) × (lane o j < big)
+  pub small : (j : ℕ) → j < m → (lane z j < bound) × (lane o j < bound)
 
 pub record Soft-written (m at : ℕ) (z o : List ℕ) (before soft : List ℤ) : Type 0 where
   pub long : length soft ≡ length before
   pub done : (j : ℕ) → j < m → getD soft (at + j) (pos 0) ≡ pos (2 * lane o j) -ℤ pos (2 * lane z j)
   pub kept : (i : ℕ) → i < at → getD soft i (pos 0) ≡ getD before i (pos 0)
 
--- room for the marginals, all CAP
-pub record Marginal-room (s : Shape) (g : List ℕ) : Type 0 where
-  pub length-g : length g ≡ s .size * 4
-  pub caps : (i : ℕ) → i < s .size * 4 → getD g i 0 ≡ cap
+-- room for the tables, the places of the walk and their costs, and for marginals and tables by turns
+pub record Rooms (s : Shape) (t places f g : List ℕ) : Type 0 where
+  pub length-t : length t ≡ s .size * 4
+  pub length-places : length places ≡ start (slots-of s) 4
+  pub length-f : length f ≡ length places
+  pub states-g : s .size * 4 ≤ length g
+  pub places-g : length places ≤ length g
 
--- room for the least costs with a bit held, and the outputs
-pub record Outputs (s : Shape) (zero one word : List ℕ) (soft : List ℤ) : Type 0 where
-  pub length-zero : length zero ≡ s .n * 2 * 4
-  pub length-one : length one ≡ s .n * 2 * 4
+-- room for costs, for the least costs with a bit held, and the outputs
+pub record Outputs (s : Shape) (zs os zero one word : List ℕ) (soft scratch : List ℤ) : Type 0 where
+  pub length-zs : length zs ≡ s .n * 4
+  pub length-os : length os ≡ s .n * 4
+  pub length-zero : length zero ≡ s .n * 4
+  pub length-one : length one ≡ s .n * 4
   pub length-word : length word ≡ s .n
   pub length-soft : length soft ≡ s .n * s .m
+  pub length-scratch : length scratch ≡ scratch-long
 
 -- an accepted call
-pub record Accepted (s : Shape) (row : List ℤ) (word soft : ℕ) : Type 0 where
+pub record Accepted (s : Shape) (row : List ℤ) (word soft scratch : ℕ) : Type 0 where
   pub input : Input s row
   pub long-word : word ≡ s .n
   pub long-soft : soft ≡ s .n * s .m
+  pub long-scratch : scratch ≡ scratch-long
+
+-- room for costs, for the tables and for the tails
+pub record Tables-room (s : Shape) (zs os t g : List ℕ) (scratch : List ℤ) : Type 0 where
+  pub length-zs : length zs ≡ s .n * 4
+  pub length-os : length os ≡ s .n * 4
+  pub length-t : length t ≡ s .size * 4
+  pub states-g : s .size * 4 ≤ length g
+  pub length-scratch : length scratch ≡ scratch-long
+
+-- the places of a walk with their costs and marginals, which stand for entries of a table
+pub record Others-room (t places f g : List ℕ) : Type 0 where
+  pub length-f : length f ≡ length places
+  pub count-g : length places ≤ length g
+  pub inside : (p : ℕ) → p < length places → getD places p 0 < length t
+  pub own : (p : ℕ) → p < length places → getD f p 0 ≤ getD g p 0
+
+-- the first codeword of least cost
+pub record Best-word (s : Shape) (row : List ℤ) (word : List ℕ) (least : ℕ) : Type 0 where
+  pub codeword : is-codeword (s .m) (s .r) word ≡ true
+  pub costs : cost (s .m) row word ≡ least
+  pub is-least : Least (s .m) (is-codeword (s .m) (s .r)) row least
+  pub first : (vs : List ℕ) → is-codeword (s .m) (s .r) vs ≡ true → cost (s .m) row vs ≡ least → not-after word vs ≡ true
+
+-- what the search leaves: the tables, the places of the walk with their costs and marginals, and the word
+pub record Found (s : Shape) (row : List ℤ) (hs zs os t places f g : List ℕ) (scratch : List ℤ) (word : List ℕ) (least : ℕ) : Type 0 where
+  pub tabled : Tabled s row hs zs os t scratch
+  pub laid : Laid s t places f
+  pub best : Best-word s row word least
+  pub marginals : Marginals (turns-of s) cap f (slots-of s) (steps-of s) (take (length places) g)
+
+-- room for the soft outputs
+pub record Soften-room (s : Shape) (places g : List ℕ) (scratch : List ℤ) (zero one : List ℕ) (soft : List ℤ) : Type 0 where
+  pub states-g : s .size * 4 ≤ length g
+  pub places-g : length places ≤ length g
+  pub length-scratch : length scratch ≡ scratch-long
+  pub length-zero : length zero ≡ s .n * 4
+  pub length-one : length one ≡ s .n * 4
+  pub length-soft : length soft ≡ s .n * s .m

@@ -1,17 +1,22 @@
-// The decoder with its soft outputs. `decode` is offered to callers: it takes any input and promises what specs/Calls.antt says, in the words of
-// the crate metric; how the search goes is no part of the promise. `decode_accepted` is for the crates above, which know that nothing is refused.
+// The decoder with its soft outputs. `decode`, with a code's number, and `decode_by`, with its m and r, are offered to callers: they take any input and
+// promise what specs/Calls.antt says, in the words of the crate metric; how the search goes is no part of the promise. `decode_accepted` is for the
+// crates above, which know that nothing is refused.
+use code::Chosen;
 use code::Shape;
+use search::Best;
 ghost use mathlib.Core.Path.{_≡_};
-ghost use Prim.Native.Nat.{_+_, _*_, _^_, _<_};
-ghost use lib.ListN.{length};
+ghost use Prim.Native.Nat.{ℕ, _+_, _*_, _^_, _<_, _≤_};
+ghost use lib.ListN.{length, getD, take};
 ghost use lib.IntN.{pos, _-ℤ_};
-ghost use Rattle.code.specs.Code.{is-codeword};
+ghost use Rattle.code.specs.Code.{number-refusal, width, roots, is-codeword, parameter-refusal};
 ghost use Rattle.code.specs.Within.{Coded};
 ghost use Rattle.metric.specs.Metric.{Decoded};
-ghost use Rattle.glue.specs.Walk.{Marginals};
-ghost use Rattle.search.specs.Within.{cap, big, tuples-of, count-of, Headed, Input, Buffers, Tabled};
+ghost use Rattle.tails.specs.Tails.{columns};
+ghost use Rattle.walk.specs.Walk.{Marginals, Scattered};
+ghost use Rattle.pass.specs.Pass.{Pass, Passed};
+ghost use Rattle.search.specs.Within.{cap, bound, Input, Roomy, Tabled, Small-keys, Walked, Laid, slots-of, steps-of, turns-of};
 ghost use Rattle.decoder.specs.Calls.{decode-refusal, Decode-says};
-ghost use Rattle.decoder.specs.Within.{Best, Softs, Soft-within, Soft-written, Softs-within, Softened, Marginal-room, Outputs, Accepted};
+ghost use Rattle.decoder.specs.Within.{Soft-within, Soft-written, Softs-within, Softened, Softs, Tables-room, Rooms, Others-room, Found, Soften-room, Outputs, Accepted};
 
 // 0 and the best metric, or the number of a refusal and 0.
 #[repr(C)]
@@ -20,71 +25,15 @@ pub struct Decoding {
     pub metric: i32,
 }
 
-// The least cost of a codeword, and the first codeword that has it, from the tables.
-fn best_word(
-    shape: Shape,
-    row: &[i16],
-    hs: &[u16],
-    zs: &[u16],
-    os: &[u16],
-    t: &[u16],
-    g: &mut [u16],
-    word: &mut [u8],
-) -> u32
-    requires { ⌜ Input shape (now row) ⌝ }
-    requires { ⌜ Tabled shape (now row) (now hs) (now zs) (now os) (now t) ⌝ }
-    requires { ⌜ Marginal-room shape (now g) × (length (now word) ≡ shape .n) ⌝ }
-    ensures { λ x. ⌜ Best shape (now (row .entry)) (now (t .entry)) (now (g .exit)) (now (word .exit)) x ⌝ }
+// Every number of a table the same.
+fn reset(t: &mut [u32], x: u32)
+    ensures { λ _. ⌜ (length (now (t .exit)) ≡ length (now (t .entry))) × ((p : ℕ) → p < length (now (t .entry)) → getD (now (t .exit)) p 0 ≡ x) ⌝ }
 {
-    let best = search::best_of(shape, hs, zs, os, t, g);
-    let at = best.at;
-    trellis::trace_word(
-        t,
-        shape.q,
-        shape.size,
-        hs,
-        zs,
-        os,
-        search::TOP,
-        search::BIG,
-        at,
-        word,
-    );
-    best.total as u32
-}
-
-// The least costs with a 0 and with a 1 at each bit. The tables are used up.
-fn soft_costs(
-    shape: Shape,
-    row: &[i16],
-    hs: &[u16],
-    zs: &[u16],
-    os: &[u16],
-    t: &mut [u16],
-    g: &[u16],
-    zero: &mut [u16],
-    one: &mut [u16],
-)
-    requires { ⌜ Input shape (now row) ⌝ }
-    requires { ⌜ Tabled shape (now row) (now hs) (now zs) (now os) (now t) ⌝ }
-    requires { ⌜ (length (now g) ≡ shape .size * 4) × Marginals (shape .size) (count-of shape) cap (now t) (tuples-of shape) (now g) ⌝ }
-    requires { ⌜ (length (now zero) ≡ shape .n * 2 * 4) × (length (now one) ≡ shape .n * 2 * 4) ⌝ }
-    ensures { λ _. ⌜ Softs shape (now (row .entry)) (now (zero .exit)) (now (one .exit)) ⌝ }
-{
-    glue::subtract(g, t);
-    soft::pass(
-        t,
-        shape.q,
-        shape.size,
-        hs,
-        zs,
-        os,
-        search::TOP,
-        search::BIG,
-        search::CAP,
-        zero,
-        one,
-    );
+    let mut p = 0;
+    while p < t.len() {
+        t[p] = x;
+        p += 1;
+    }
 }
 
 // a less b.
@@ -96,15 +45,15 @@ fn minus(a: u32, b: u32) -> i32
 }
 
 // A soft output: twice the least cost with a 1 less twice that with a 0.
-fn soft_from(zero: u16, one: u16) -> i16
-    requires { ⌜ (zero < big) × (one < big) ⌝ }
+fn soft_from(zero: u32, one: u32) -> i16
+    requires { ⌜ (zero < bound) × (one < bound) ⌝ }
     ensures { λ r. ⌜ r ≡ pos (2 * one) -ℤ pos (2 * zero) ⌝ }
 {
-    minus(2 * (one as u32), 2 * (zero as u32)) as i16
+    minus(2 * one, 2 * zero) as i16
 }
 
 // One position's soft outputs.
-fn soft_row(m: u32, z: [u16; 4], o: [u16; 4], at: usize, soft: &mut [i16])
+fn soft_row(m: u32, z: [u32; 4], o: [u32; 4], at: usize, soft: &mut [i16])
     requires { ⌜ Soft-within m at z o (now soft) ⌝ }
     ensures { λ _. ⌜ Soft-written m at z o (now (soft .entry)) (now (soft .exit)) ⌝ }
 {
@@ -117,7 +66,7 @@ fn soft_row(m: u32, z: [u16; 4], o: [u16; 4], at: usize, soft: &mut [i16])
 }
 
 // All soft outputs.
-fn soft_rows(m: u32, n: usize, zero: &[u16], one: &[u16], soft: &mut [i16])
+fn soft_rows(m: u32, n: usize, zero: &[u32], one: &[u32], soft: &mut [i16])
     requires { ⌜ Softs-within m n (now zero) (now one) (now soft) ⌝ }
     ensures { λ _. ⌜ Softened m (now (zero .entry)) (now (one .entry)) n (now (soft .entry)) (now (soft .exit)) ⌝ }
 {
@@ -125,119 +74,338 @@ fn soft_rows(m: u32, n: usize, zero: &[u16], one: &[u16], soft: &mut [i16])
     let mut i = 0;
     let mut at = 0;
     while i < n {
-        soft_row(m, soft::fold(zero, i), soft::fold(one, i), at, soft);
+        soft_row(m, rows::load(zero, i), rows::load(one, i), at, soft);
         at += w;
         i += 1;
     }
 }
 
-// A decoding, with every buffer lent.
+// The tables of a row. The tails take their turn in the first part of g.
+fn tabulate(
+    shape: Shape,
+    row: &[i16],
+    hs: &[u16],
+    zs: &mut [u32],
+    os: &mut [u32],
+    t: &mut [u32],
+    g: &mut [u16],
+    scratch: &mut [i32],
+)
+    requires { ⌜ Input shape (now row) ⌝ }
+    requires { ⌜ now hs ≡ columns (shape .m) (shape .r) ⌝ }
+    requires { ⌜ Tables-room shape (now zs) (now os) (now t) (now g) (now scratch) ⌝ }
+    ensures { λ _. ⌜ Tabled shape (now (row .entry)) (now (hs .entry)) (now (zs .exit)) (now (os .exit)) (now (t .exit)) (now (scratch .exit)) ⌝ }
+{
+    let states = shape.size * 4;
+    search::of_row(shape, row, hs, zs, os, t, &mut g[..states], scratch);
+}
+
+// The walk over the tables. The marginals take their turn in the first part of g.
+fn walk_over(shape: Shape, t: &[u32], places: &mut [u16], f: &mut [u16], g: &mut [u16]) -> Best
+    requires { ⌜ Coded shape ⌝ }
+    requires { ⌜ Small-keys (now t) ⌝ }
+    requires { ⌜ Rooms shape (now t) (now places) (now f) (now g) ⌝ }
+    ensures { λ r. ⌜ Walked shape (now (t .entry)) (now (places .exit)) (now (f .exit)) (take (length (now (places .entry))) (now (g .exit))) (r .total) (r .words) ⌝ }
+{
+    let count = places.len();
+    search::best_of(shape, t, places, f, &mut g[..count])
+}
+
+// What the other layers cost at the least, for each layer and coset, in place of the tables. The marginals are used up.
+fn others(t: &mut [u32], places: &[u16], f: &[u16], g: &mut [u16])
+    requires { ⌜ Others-room (now t) (now places) (now f) (now g) ⌝ }
+    ensures { λ _. ⌜ Scattered cap (now (f .entry)) (take (length (now (places .entry))) (now (g .entry))) (now (places .entry)) (now (t .exit)) ⌝ }
+{
+    let count = places.len();
+    reset(t, search::CAP as u32);
+    walk::scatter(f, &mut g[..count], places, t, search::CAP as u32);
+}
+
+// The soft pass. The tables behind the columns take their turn in the first part of g.
+fn soft_costs(
+    shape: Shape,
+    hs: &[u16],
+    zs: &[u32],
+    os: &[u32],
+    t: &mut [u32],
+    g: &mut [u16],
+    scratch: &[i32],
+    zero: &mut [u32],
+    one: &mut [u32],
+)
+    requires { ⌜ shape .size * 4 ≤ length (now g) ⌝ }
+    requires { ⌜ Pass (shape .q) (shape .size) cap (now t) (take (shape .size * 4) (now g)) (now hs) (now zs) (now os) (now scratch) (now zero) (now one) ⌝ }
+    ensures { λ _. ⌜ Passed (shape .size) cap (now (t .entry)) (now (hs .entry)) (now (zs .entry)) (now (os .entry)) 0 (length (now (hs .entry))) (now (zero .exit)) ⌝ }
+    ensures { λ _. ⌜ Passed (shape .size) cap (now (t .entry)) (now (hs .entry)) (now (zs .entry)) (now (os .entry)) 1 (length (now (hs .entry))) (now (one .exit)) ⌝ }
+{
+    let states = shape.size * 4;
+    pass::pass(
+        t,
+        &mut g[..states],
+        scratch,
+        shape.q,
+        shape.size,
+        hs,
+        zs,
+        os,
+        search::CAP as u32,
+        zero,
+        one,
+    );
+}
+
+// The search: the tables, the walk, and the word.
+fn find_word(
+    shape: Shape,
+    row: &[i16],
+    hs: &[u16],
+    zs: &mut [u32],
+    os: &mut [u32],
+    t: &mut [u32],
+    places: &mut [u16],
+    f: &mut [u16],
+    g: &mut [u16],
+    word: &mut [u8],
+    scratch: &mut [i32],
+) -> u16
+    requires { ⌜ Input shape (now row) ⌝ }
+    requires { ⌜ now hs ≡ columns (shape .m) (shape .r) ⌝ }
+    requires { ⌜ Tables-room shape (now zs) (now os) (now t) (now g) (now scratch) ⌝ }
+    requires { ⌜ Rooms shape (now t) (now places) (now f) (now g) × (length (now word) ≡ shape .n) ⌝ }
+    ensures { λ x. ⌜ Found shape (now (row .entry)) (now (hs .entry)) (now (zs .exit)) (now (os .exit)) (now (t .exit)) (now (places .exit)) (now (f .exit)) (now (g .exit)) (now (scratch .exit)) (now (word .exit)) x ⌝ }
+{
+    tabulate(shape, row, hs, zs, os, t, g, scratch);
+    let best = walk_over(shape, t, places, f, g);
+    let words = best.words;
+    search::write_word(words, word);
+    best.total
+}
+
+// The soft outputs, from what the search left. The tables are used up.
+fn soften(
+    shape: Shape,
+    row: &[i16],
+    hs: &[u16],
+    zs: &[u32],
+    os: &[u32],
+    t: &mut [u32],
+    places: &[u16],
+    f: &[u16],
+    g: &mut [u16],
+    scratch: &[i32],
+    zero: &mut [u32],
+    one: &mut [u32],
+    soft: &mut [i16],
+)
+    requires { ⌜ Input shape (now row) ⌝ }
+    requires { ⌜ Tabled shape (now row) (now hs) (now zs) (now os) (now t) (now scratch) ⌝ }
+    requires { ⌜ Laid shape (now t) (now places) (now f) ⌝ }
+    requires { ⌜ Marginals (turns-of shape) cap (now f) (slots-of shape) (steps-of shape) (take (length (now places)) (now g)) ⌝ }
+    requires { ⌜ Soften-room shape (now places) (now g) (now scratch) (now zero) (now one) (now soft) ⌝ }
+    ensures { λ _. ⌜ Softs shape (now (row .entry)) (now (zero .exit)) (now (one .exit)) ⌝ }
+    ensures { λ _. ⌜ Softened (shape .m) (now (zero .exit)) (now (one .exit)) (shape .n) (now (soft .entry)) (now (soft .exit)) ⌝ }
+{
+    others(t, places, f, g);
+    soft_costs(shape, hs, zs, os, t, g, scratch, zero, one);
+    soft_rows(shape.m, shape.n, zero, one, soft);
+}
+
+// A decoding, with every buffer lent. Marginals, tails and the tables behind the columns take turns in g.
 fn decode_with(
     shape: Shape,
     row: &[i16],
     hs: &[u16],
-    zs: &mut [u16],
-    os: &mut [u16],
-    t: &mut [u16],
+    zs: &mut [u32],
+    os: &mut [u32],
+    t: &mut [u32],
+    places: &mut [u16],
+    f: &mut [u16],
     g: &mut [u16],
-    zero: &mut [u16],
-    one: &mut [u16],
+    zero: &mut [u32],
+    one: &mut [u32],
     word: &mut [u8],
     soft: &mut [i16],
+    scratch: &mut [i32],
 ) -> i32
     requires { ⌜ Input shape (now row) ⌝ }
-    requires { ⌜ Headed (shape .m) (shape .r) (now hs) ⌝ }
-    requires { ⌜ Buffers shape (now zs) (now os) (now t) ⌝ }
-    requires { ⌜ Marginal-room shape (now g) × Outputs shape (now zero) (now one) (now word) (now soft) ⌝ }
+    requires { ⌜ now hs ≡ columns (shape .m) (shape .r) ⌝ }
+    requires { ⌜ Rooms shape (now t) (now places) (now f) (now g) ⌝ }
+    requires { ⌜ Outputs shape (now zs) (now os) (now zero) (now one) (now word) (now soft) (now scratch) ⌝ }
     ensures { λ x. ⌜ Decoded (shape .m) (is-codeword (shape .m) (shape .r)) (now (row .entry)) (now (word .exit)) x (now (soft .exit)) ⌝ }
 {
-    search::of_row(shape, row, hs, zs, os, t);
-    let least = best_word(shape, row, hs, zs, os, t, g, word);
-    soft_costs(shape, row, hs, zs, os, t, g, zero, one);
-    soft_rows(shape.m, shape.n, zero, one, soft);
-    minus(search::weight(row), 2 * least)
+    let least = find_word(shape, row, hs, zs, os, t, places, f, g, word, scratch);
+    soften(
+        shape,
+        row,
+        hs,
+        zs,
+        os,
+        t,
+        places,
+        f,
+        g,
+        scratch,
+        zero,
+        one,
+        soft,
+    );
+    minus(search::weight(row), 2 * (least as u32))
 }
 
-// The same with the tables lent, and room of its own for the rest.
-fn decode_in(shape: Shape, row: &[i16], t: &mut [u16], word: &mut [u8], soft: &mut [i16]) -> i32
-    requires { ⌜ Accepted shape (now row) (length (now word)) (length (now soft)) ⌝ }
-    requires { ⌜ length (now t) ≡ shape .n * (shape .size * 4) + shape .size * 4 ⌝ }
+// With the rooms for tables and places lent, which may be longer than the code needs.
+fn decode_in(
+    shape: Shape,
+    row: &[i16],
+    t: &mut [u32],
+    places: &mut [u16],
+    f: &mut [u16],
+    g: &mut [u16],
+    word: &mut [u8],
+    soft: &mut [i16],
+    scratch: &mut [i32],
+) -> i32
+    requires { ⌜ Accepted shape (now row) (length (now word)) (length (now soft)) (length (now scratch)) ⌝ }
+    requires { ⌜ Roomy shape (now t) (now places) (now f) (now g) ⌝ }
     ensures { λ x. ⌜ Decoded (shape .m) (is-codeword (shape .m) (shape .r)) (now (row .entry)) (now (word .exit)) x (now (soft .exit)) ⌝ }
 {
-    let columns = search::columns(shape);
+    let columns = spots::columns(shape.m, shape.r);
     let hs: &[u16] = &columns;
-    let mut zs_room = [0u16; 60];
-    let zs: &mut [u16] = &mut zs_room;
-    let mut os_room = [0u16; 60];
-    let os: &mut [u16] = &mut os_room;
-    let mut g_room = [search::CAP; 256];
-    let g: &mut [u16] = &mut g_room;
-    let mut zero_room = [0u16; 120];
-    let zero: &mut [u16] = &mut zero_room;
-    let mut one_room = [0u16; 120];
-    let one: &mut [u16] = &mut one_room;
+    let mut zs_room = [0u32; 60];
+    let zs: &mut [u32] = &mut zs_room;
+    let mut os_room = [0u32; 60];
+    let os: &mut [u32] = &mut os_room;
+    let mut zero_room = [0u32; 60];
+    let zero: &mut [u32] = &mut zero_room;
+    let mut one_room = [0u32; 60];
+    let one: &mut [u32] = &mut one_room;
     let n = shape.n;
-    let places = n * 4;
-    let halves = n * 2 * 4;
+    let wide = n * 4;
     let states = shape.size * 4;
+    let count = search::places_of(shape);
     decode_with(
         shape,
         row,
         &hs[..n],
-        &mut zs[..places],
-        &mut os[..places],
-        t,
-        &mut g[..states],
-        &mut zero[..halves],
-        &mut one[..halves],
+        &mut zs[..wide],
+        &mut os[..wide],
+        &mut t[..states],
+        &mut places[..count],
+        &mut f[..count],
+        g,
+        &mut zero[..wide],
+        &mut one[..wide],
         word,
         soft,
+        scratch,
     )
 }
 
-// A decoding of an accepted call, with tables of the size that its code needs: zeroing the largest would cost the smallest code a tenth of its
-// instructions. The largest are filled with BIG, which takes a tenth of what zeroing takes; nothing reads them before they are written.
-pub fn decode_accepted(shape: Shape, row: &[i16], word: &mut [u8], soft: &mut [i16]) -> i32
-    requires { ⌜ Accepted shape (now row) (length (now word)) (length (now soft)) ⌝ }
+// A decoding of an accepted call, which leaves in the scratch what it does. The rooms are of the size that its code needs: making the largest would cost
+// the smallest code as much as its search. They are filled with a number that is not 0, which takes a tenth of what zeroing takes; nothing reads them before
+// they are written.
+pub fn decode_accepted(
+    shape: Shape,
+    row: &[i16],
+    word: &mut [u8],
+    soft: &mut [i16],
+    scratch: &mut [i32],
+) -> i32
+    requires { ⌜ Accepted shape (now row) (length (now word)) (length (now soft)) (length (now scratch)) ⌝ }
     ensures { λ x. ⌜ Decoded (shape .m) (is-codeword (shape .m) (shape .r)) (now (row .entry)) (now (word .exit)) x (now (soft .exit)) ⌝ }
 {
-    let size = shape.size;
-    if size == 8 {
-        let mut t = [0u16; 256];
-        return decode_in(shape, row, &mut t, word, soft);
+    if search::places_of(shape) <= 400 {
+        let mut t = [search::CAP as u32; 256];
+        let mut places = [search::CAP; 400];
+        let mut f = [search::CAP; 400];
+        let mut g = [search::CAP; 400];
+        return decode_in(
+            shape,
+            row,
+            &mut t,
+            &mut places,
+            &mut f,
+            &mut g,
+            word,
+            soft,
+            scratch,
+        );
     }
-    if size == 16 {
-        let mut t = [0u16; 1024];
-        return decode_in(shape, row, &mut t, word, soft);
-    }
-    let mut t = [search::BIG; 2048];
-    decode_in(shape, row, &mut t, word, soft)
+    let mut t = [search::CAP as u32; 4096];
+    let mut places = [search::CAP; 4096];
+    let mut f = [search::CAP; 4096];
+    let mut g = [search::CAP; 4096];
+    decode_in(
+        shape,
+        row,
+        &mut t,
+        &mut places,
+        &mut f,
+        &mut g,
+        word,
+        soft,
+        scratch,
+    )
 }
 
 // What a call is refused by after its code, 0 for nothing.
-fn decode_refusal(shape: Shape, row: &[i16], word: usize, soft: usize) -> u32
+fn decode_refusal(shape: Shape, row: &[i16], word: usize, soft: usize, scratch: usize) -> u32
     requires { ⌜ Coded shape ⌝ }
-    ensures { λ r. ⌜ r ≡ decode-refusal (shape .m) (now (row .entry)) word soft ⌝ }
+    ensures { λ r. ⌜ r ≡ decode-refusal (shape .m) (now (row .entry)) word soft scratch ⌝ }
 {
     let contents = refusal::unless(metric::is_row(metric::BOUND, row), 5, 0);
-    let soft_room = refusal::unless(soft == shape.bits, 4, contents);
+    let scratch_room = refusal::unless(scratch == 16384, 17, contents);
+    let soft_room = refusal::unless(soft == shape.bits, 4, scratch_room);
     let word_room = refusal::unless(word == shape.n, 4, soft_room);
     refusal::unless(row.len() == shape.bits, 2, word_room)
 }
 
-// The decoder: the first best word, its metric and the soft outputs of a row.
-pub fn decode(code: u32, row: &[i16], word: &mut [u8], soft: &mut [i16]) -> Decoding
-    ensures { λ r. ⌜ Decode-says code (now (row .entry)) r (now (word .entry)) (now (word .exit)) (now (soft .entry)) (now (soft .exit)) ⌝ }
+// The decoder: the first best word, its metric and the soft outputs of a row; the scratch is all 0 after it.
+pub fn decode(
+    code: u32,
+    row: &[i16],
+    word: &mut [u8],
+    soft: &mut [i16],
+    scratch: &mut [i32],
+) -> Decoding
+    ensures { λ d. ⌜ Decode-says (number-refusal code) (width code) (roots code) (now (row .entry)) d (now (word .entry)) (now (word .exit)) (now (soft .entry)) (now (soft .exit)) (now (scratch .entry)) (now (scratch .exit)) ⌝ }
 {
-    let chosen = code::by_number(code);
+    decode_chosen(code::by_number(code), row, word, soft, scratch)
+}
+
+// The same, by m and r.
+pub fn decode_by(
+    m: u32,
+    r: u32,
+    row: &[i16],
+    word: &mut [u8],
+    soft: &mut [i16],
+    scratch: &mut [i32],
+) -> Decoding
+    ensures { λ d. ⌜ Decode-says (parameter-refusal m r) m r (now (row .entry)) d (now (word .entry)) (now (word .exit)) (now (soft .entry)) (now (soft .exit)) (now (scratch .entry)) (now (scratch .exit)) ⌝ }
+{
+    decode_chosen(code::by_parameters(m, r), row, word, soft, scratch)
+}
+
+// `decode` in a code that was chosen, or refused.
+fn decode_chosen(
+    chosen: Chosen,
+    row: &[i16],
+    word: &mut [u8],
+    soft: &mut [i16],
+    scratch: &mut [i32],
+) -> Decoding
+    requires { ⌜ Coded (chosen .shape) ⌝ }
+    ensures { λ d. ⌜ Decode-says (chosen .number) (chosen .shape .m) (chosen .shape .r) (now (row .entry)) d (now (word .entry)) (now (word .exit)) (now (soft .entry)) (now (soft .exit)) (now (scratch .entry)) (now (scratch .exit)) ⌝ }
+{
     let shape = chosen.shape;
     let number = refusal::first(
         chosen.number,
-        decode_refusal(shape, row, word.len(), soft.len()),
+        decode_refusal(shape, row, word.len(), soft.len(), scratch.len()),
     );
     if number != 0 {
         return Decoding { number, metric: 0 };
     }
-    let metric = decode_accepted(shape, row, word, soft);
+    let metric = decode_accepted(shape, row, word, soft, scratch);
+    search::clear(scratch);
     Decoding { number: 0, metric }
 }

@@ -7,7 +7,7 @@ use Rattle.code.specs.declared.Shape.{Shape}
 use Rattle.code.specs.Code.{is-codeword}
 use Rattle.code.specs.Bits.{row-long}
 use Rattle.code.proofs.Promise.{row-small}
-use Rattle.code.specs.Within.{Coded, Numbered, Word-within}
+use Rattle.code.specs.Within.{Coded, Word-within}
 use Rattle.code.proofs.Words.{Codeword-parts, codeword-parts}
 use Rattle.metric.specs.Metric.{metric, Greatest, Marked}
 use Rattle.metric.specs.Row.{row-bound}
@@ -18,37 +18,35 @@ use Rattle.metric.proofs.Marks.{marked-none-lacking, marked-lacking}
 use Rattle.metric.proofs.Costs.{codeword-bits, top-parts, top-own, greatest}
 use Rattle.metric.proofs.Bounds.{weight-le, cost-le, word-size}
 use Rattle.metric.proofs.Counting.{small-fits}
-use Rattle.glue.specs.Walk.{least-total}
-use Rattle.search.specs.Within as S
-use Rattle.search.specs.Within.{cap, word-cost, Own, Tabled, tuples-of, count-of}
+use Rattle.search.specs.Within.{word-cost, Own, Tabled, Least-laid}
 use Rattle.search.proofs.Sums.{own-cost}
-use Rattle.search.proofs.Searching.{least-is, few}
+use Rattle.search.proofs.Searching.{n-is, few, least-is}
 use Rattle.marker.specs.Within.{Short, Judged, Lacking}
 use Rattle.marker.proofs.Refusals.{Mark-taken}
 
 -- ---- what a codeword costs more than the least
-module _ {s : Shape} {row : List ℤ} {word hs zs os t : List ℕ} (j : Judged s row word) (b : Tabled s row hs zs os t) where
+module _ {s : Shape} {row : List ℤ} {word hs zs os t : List ℕ} {kept : List ℤ} (j : Judged s row word) (b : Tabled s row hs zs os t kept) where
   p : Codeword-parts (s .m) (s .r) word
   p = codeword-parts (s .m) (s .r) word (j .codeword)
 
   long-is : length word ≡ length hs
-  long-is = p .count ∙ sym (b .spelt .columns .count)
+  long-is = p .count ∙ sym (n-is (j .input) b)
 
-  pub own-ok : Own S.top zs os word
+  pub own-ok : Own row-bound zs os word
   own-ok = record {
     length-zs = b .layers .length-zs ∙ ap (λ (x : ℕ). x * 4) (sym long-is);
     length-os = b .layers .length-os ∙ ap (λ (x : ℕ). x * 4) (sym long-is);
-    cost-zs = λ i k li lk. b .layers .cost-zs i k (omega (arith, long-is)) lk;
-    cost-os = λ i k li lk. b .layers .cost-os i k (omega (arith, long-is)) lk;
+    cost-zs = λ i k li lk. rw (b .top-is) at (b .layers .cost-zs i k (omega (arith, long-is)) lk);
+    cost-os = λ i k li lk. rw (b .top-is) at (b .layers .cost-os i k (omega (arith, long-is)) lk);
     room = omega (arith, long-is, few (j .input) b);
   }
 
-  module _ {least own : ℕ} (e : least ≡ least-total cap t (tuples-of s) (count-of s)) (f : own ≡ word-cost zs os 0 word) where
+  module _ {places f : List ℕ} {least own : ℕ} (e : Least-laid s t places f least) (h : own ≡ word-cost zs os 0 word) where
     is-least : Least (s .m) (is-codeword (s .m) (s .r)) row least
-    is-least = rw e (least-is (j .input) b)
+    is-least = rw (e .least) (least-is (j .input) b (e .laid))
 
     own-is : own ≡ cost (s .m) row word
-    own-is = f ∙ own-cost (s .m) (s .r) (j .input .coded .width-is) row hs zs os (b .spelt) (j .input .length-row) word (p .count)
+    own-is = h ∙ own-cost (s .m) (j .input .coded .width-is) row hs zs os (b .costs) (j .input .length-row) word (p .count)
 
     pub excess-fits : least ≤ own
     excess-fits = omega (arith, own-is, is-least .all word (j .codeword))
@@ -84,12 +82,12 @@ module _ {m r : ℕ} {row : List ℤ} {word : List ℕ} {d : ℤ} (l : Lacking m
   verdict-short e n = rw (e ∙ l .lacks) (marked-lacking m (is-codeword m r) row word (l .best) (l .codeword) (l .greatest) (λ f. n (l .lacks ∙ f)))
 
 -- ---- an accepted call
-module _ {s : Shape} {rs : List ℤ} {ws : List ℕ} (z : Coded s) (t : Mark-taken (s .m) rs ws) where
+module _ {s : Shape} {rs : List ℤ} {ws : List ℕ} {x : ℕ} (z : Coded s) (t : Mark-taken (s .m) rs ws x) where
   pub word-in : Word-within (s .m) (s .r) ws
   word-in = record { width = z .width-is; count = t .long-word; symbols = t .symbols; few = z .few }
 
-  pub judged : Numbered s → is-codeword (s .m) (s .r) ws ≡ true → Judged s rs ws
-  judged k cw = record { input = record { coded = z; numbered = k; length-row = t .long-row; good-row = t .good-row }; codeword = cw }
+  pub judged : is-codeword (s .m) (s .r) ws ≡ true → Judged s rs ws
+  judged cw = record { input = record { coded = z; length-row = t .long-row; good-row = t .good-row }; codeword = cw }
 
   few-entries : length rs ≤ 60
   few-entries = omega (arith, t .long-row, row-small (s .m) (z .width-is))

@@ -3,12 +3,14 @@ use mathlib.Core.Path.{_≡_}
 use mathlib.Core.Bool.{true}
 use mathlib.Core.List.{List}
 use Prim.Native.Nat.{ℕ, _+_}
+use lib.ListN.{length}
 use lib.IntN.{ℤ, _-ℤ_}
 use Rattle.code.specs.declared.Shape.{Shape}
 use Rattle.code.specs.Code.{is-codeword}
 use Rattle.metric.specs.Metric.{metric, Greatest, Marked}
 use Rattle.metric.specs.Cost.{cost, Least}
-use Rattle.search.specs.Within.{Input}
+use Rattle.walk.specs.Walk.{start}
+use Rattle.search.specs.Within.{slots-of, Input}
 use Rattle.marker.specs.declared.Mark.{Mark}
 
 -- a word's cost is the least cost of a codeword and x
@@ -21,6 +23,11 @@ pub record Short (m r : ℕ) (row : List ℤ) (word : List ℕ) (x : ℕ) : Type
 pub record Judged (s : Shape) (row : List ℤ) (word : List ℕ) : Type 0 where
   pub input : Input s row
   pub codeword : is-codeword (s .m) (s .r) word ≡ true
+
+-- room for the places of the walk and their costs
+pub record Places (s : Shape) (places f : List ℕ) : Type 0 where
+  pub length-places : length places ≡ start (slots-of s) 4
+  pub length-f : length f ≡ length places
 
 -- a codeword's metric is the greatest less d
 pub record Lacking (m r : ℕ) (row : List ℤ) (word : List ℕ) (d : ℤ) : Type 0 where

@@ -71,7 +71,8 @@ pub refusals :
     × (refused 3 (samples 60 0x3f80_0000) 60 ≡ 0)
     × (refused 2 (samples 21 0x7f80_0000) 21 ≡ 0)  -- infinities are taken
     × (refused 0 (samples 20 0x3f80_0000) 20 ≡ 1)  -- the code comes first
-    × (refused 4 (samples 21 0x3f80_0000) 21 ≡ 1)
+    × (refused 5 (samples 60 0x3f80_0000) 60 ≡ 0)
+    × (refused 6 (samples 21 0x3f80_0000) 21 ≡ 1)
     × (refused 1 (samples 7 0x7fc0_0000) 7 ≡ 2)  -- n samples, of n·m
     × (refused 3 (samples 21 0x3f80_0000) 60 ≡ 2)
     × (refused 1 (samples 21 0x7fc0_0000) 20 ≡ 4)  -- the lengths come before a NaN
@@ -84,4 +85,4 @@ pub refusals :
     × (refused-by 4 3 (samples 20 0x3f80_0000) 20 ≡ 16)  -- or the product
     × (refused-by 4 4 (samples 21 0x3f80_0000) 60 ≡ 2)
 unfolding quantise-refusal number-refusal parameter-refusal unless first has-nan code-good width long message-long bch-dimension configuration-long roots-good width-good row-long isNan ofBits
-refusals = (refl, refl, refl, refl, refl, refl, refl, refl, refl, refl, refl, refl, refl, refl, refl, refl)
+refusals = (refl, refl, refl, refl, refl, refl, refl, refl, refl, refl, refl, refl, refl, refl, refl, refl, refl)

@@ -6,8 +6,9 @@ use Rattle.refusal.specs.Refusal.{unless}
 use Rattle.code.specs.declared.Chosen.{Chosen}
 use Rattle.code.specs.Code.{width, roots, long, is-codeword}
 use Rattle.code.specs.Bits.{row-long}
-use Rattle.code.proofs.Promise.{of-shape, of-number, By-number, by-number-m, by-number-r, has-number}
+use Rattle.code.proofs.Promise.{of-shape, of-number, By-number, by-number-m, by-number-r}
 use Rattle.metric.specs.Metric.{Greatest, Decoded, Marked}
+use Rattle.metric.specs.Scratch.{scratch-long}
 use Rattle.metric.proofs.Promise.{decoded-greatest}
 use Rattle.decoder.specs.Within.{Accepted}
 use Rattle.decoder.proofs.Refusals.{decoded-as}
@@ -29,17 +30,18 @@ pub record Decoded-question (q : Question) (best : ℤ) (soft : List ℤ) : Type
   pub word : List ℕ
   pub decoded : Decoded (width (q .code)) (is-codeword (width (q .code)) (roots (q .code))) (q .row) word best soft
 
-module _ {q : Question} {lb ls : ℕ} (h : Holds q lb ls) {a : Chosen} (c : By-number (q .code) a) where
+module _ {q : Question} {lb ls lx : ℕ} (h : Holds q lb ls lx) {a : Chosen} (c : By-number (q .code) a) where
   -- nothing is refused
-  pub accepted : Accepted (a .shape) (q .row) lb ls
+  pub accepted : Accepted (a .shape) (q .row) lb ls lx
   unfolding row-long
   accepted =
       let g = good-parts reliabilities q (h .good) in let z = c .coded in
       let n : long (width (q .code)) ≡ a .shape .n = ap long (sym (by-number-m (q .code) c)) ∙ sym (z .n-is) in
       record {
-        input = record { coded = z; numbered = has-number (q .code) c (g .known); length-row = g .row-length ∙ ap row-long (sym (by-number-m (q .code) c)); good-row = g .row-fine };
+        input = record { coded = z; length-row = g .row-length ∙ ap row-long (sym (by-number-m (q .code) c)); good-row = g .row-fine };
         long-word = h .best-is ∙ n;
         long-soft = h .soft-is ∙ ap₂ _*_ n (sym (by-number-m (q .code) c));
+        long-scratch = h .scratch-is;
       }
 
   pub answered : {w : List ℕ} {d g : ℤ} {so : List ℤ} → g ≡ d → Decoded (a .shape .m) (is-codeword (a .shape .m) (a .shape .r)) (q .row) w d so → Decoded-question q g so
@@ -48,11 +50,11 @@ module _ {q : Question} {lb ls : ℕ} (h : Holds q lb ls) {a : Chosen} (c : By-n
 module _ {q : Question} {g : ℤ} {so : List ℤ} (x : Decoded-question q g so) where
   module _ {a : Chosen} (c : By-number (q .code) a) where
     -- the marker takes its word, and the decoder has found the best metric
-    pub taken : (mark-refusal (a .shape .m) (q .row) (q .word) ≡ 0) × Greatest (a .shape .m) (is-codeword (a .shape .m) (a .shape .r)) (q .row) g
+    pub taken : (mark-refusal (a .shape .m) (q .row) (q .word) scratch-long ≡ 0) × Greatest (a .shape .m) (is-codeword (a .shape .m) (a .shape .r)) (q .row) g
     unfolding mark-refusal unless
     taken =
         let f = x .good in
-        of-shape (λ m r. (mark-refusal m (q .row) (q .word) ≡ 0) × Greatest m (is-codeword m r) (q .row) g) (by-number-m (q .code) c) (by-number-r (q .code) c)
+        of-shape (λ m r. (mark-refusal m (q .row) (q .word) scratch-long ≡ 0) × Greatest m (is-codeword m r) (q .row) g) (by-number-m (q .code) c) (by-number-r (q .code) c)
         (rw (eq-eqb _ _ (f .row-length), eq-eqb _ _ (f .word-length), f .row-fine, f .word-fine), decoded-greatest _ _ _ (x .word) _ so (x .decoded))
 
     pub line : (k : Mark) {d : ℤ} → Verdict (a .shape .m) (a .shape .r) (q .row) (q .word) k → d ≡ k .shortfall →

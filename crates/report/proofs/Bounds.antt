@@ -8,7 +8,7 @@ use Rattle.field.proofs.Tests.{widths}
 use Rattle.code.specs.Code.{code-good, width, roots, long, value-from, value-at, vanishes, symbols-good, is-codeword}
 use Rattle.code.specs.Bits.{bits-of, all-bits, row-long}
 use Rattle.code.proofs.Accepted.{width-fine}
-use Rattle.code.proofs.Promise.{codes}
+use Rattle.code.proofs.Promise.{codes, few-codes}
 use Rattle.metric.specs.Metric.{metric, at-most, Soft, Marked}
 use Rattle.metric.specs.Cost.{costZero, costOne, discrepancy, weight-of, cost}
 use Rattle.metric.proofs.Integers.{at-most-true, at-most-false, minus, minus-size}
@@ -35,7 +35,12 @@ record Flat (c b : ℕ) : Type 0 where
 flats : (c : ℕ) → code-good c ≡ true → Flat c 0 × Flat c 1
 unfolding flat width roots xor times times-from doubled alpha long row-long bits-of all-bits value-from value-at vanishes symbols-good is-codeword
 flats =
-    codes (λ c. Flat c 0 × Flat c 1) (record { in-code = refl; bits = refl }, record { in-code = refl; bits = refl }) (record { in-code = refl; bits = refl }, record { in-code = refl; bits = refl }) (record { in-code = refl; bits = refl }, record { in-code = refl; bits = refl })
+    codes (λ c. Flat c 0 × Flat c 1)
+    (record { in-code = refl; bits = refl }, record { in-code = refl; bits = refl })
+    (record { in-code = refl; bits = refl }, record { in-code = refl; bits = refl })
+    (record { in-code = refl; bits = refl }, record { in-code = refl; bits = refl })
+    (record { in-code = refl; bits = refl }, record { in-code = refl; bits = refl })
+    (record { in-code = refl; bits = refl }, record { in-code = refl; bits = refl })
 
 both-sides : (rs : List ℤ) (k : ℕ) → length rs ≤ k → discrepancy rs (replicate k 0) + discrepancy rs (replicate k 1) ≡ weight-of rs
 unfolding discrepancy weight-of
@@ -48,7 +53,7 @@ unfolding row-long long
 row-some = widths (λ m. 0 < row-long m) (lit< tt) (lit< tt)
 
 code-digit : (c : ℕ) → code-good c ≡ true → c < 10
-code-digit = codes (λ c. c < 10) (lit< tt) (lit< tt) (lit< tt)
+code-digit c g = omega (arith, few-codes c g)
 
 signed-short : (k : ℕ) (z : ℤ) → costZero z ≤ costOne z → natAbs z < 10 ^ suc k → length (signed z) ≤ suc k
 signed-short k (pos n) h l = signed-at-most k (pos n) refl l

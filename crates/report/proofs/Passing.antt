@@ -22,13 +22,14 @@ use Rattle.text.proofs.Writing.{nothing, then, written-length}
 use Rattle.report.specs.declared.Place.{Place}
 use Rattle.report.specs.Listing.{Line, Lines}
 use Rattle.report.specs.Calls.{line-most}
+use Rattle.metric.specs.Scratch.{scratch-long}
 use Rattle.report.specs.Within.{code-at, Holds, Put-lines, Begins, Rooms, Passed, Sheet-taken}
 
 -- ---- one question
 clash : {A : Type 0} → _≡_ {A = ℕ} 0 1 → A
 clash e = absurd (omega arith)
 
-module _ {bs : List ℕ} {i at b o : ℕ} {s : Step} {rs rs' : List ℤ} {ws ws' : List ℕ} (k : Begins bs i at) (l : Rooms (code-at bs at) (length rs) (length ws) b o) (y : Place-says reliabilities bs at s rs rs' ws ws') where
+module _ {bs : List ℕ} {i at b o x : ℕ} {s : Step} {rs rs' : List ℤ} {ws ws' : List ℕ} (k : Begins bs i at) (l : Rooms (code-at bs at) (length rs) (length ws) b o x) (y : Place-says reliabilities bs at s rs rs' ws ws') where
   is-found : answered (getD (as-words bs) at 0) (length rs) (length ws) ≡ Found (code-at bs at) (low (getD (as-words bs) at 0))
   unfolding answered
   is-found = rw (eq-eqb _ _ (k .head), eq-eqb _ _ (l .row-is), eq-eqb _ _ (l .word-is))
@@ -59,14 +60,14 @@ module _ {bs : List ℕ} {i at b o : ℕ} {s : Step} {rs rs' : List ℤ} {ws ws'
         let x : n ≡ low (getD (as-words bs) at 0) = cc answer-is in
         rw (code-is, x, y .row-is, y .word-is, answer-is)
 
-    pub holds : Holds (question c n rs' ws') b o
-    holds = record { good = rw here (k .good); best-is = rw code-is (l .best-is); soft-is = rw code-is (l .soft-is) }
+    pub holds : Holds (question c n rs' ws') b o x
+    holds = record { good = rw here (k .good); best-is = rw code-is (l .best-is); soft-is = rw code-is (l .soft-is); scratch-is = l .scratch-is }
 
 -- ---- its buffers
 pub rooms :
-    (bs : List ℕ) (at : ℕ) {w c k n b d : ℕ} {a : Chosen} → w ≡ getD (as-words bs) at 0 → c ≡ head-code w → By-number c a →
-    k ≡ a .shape .bits → n ≡ a .shape .n → b ≡ a .shape .n → d ≡ a .shape .bits → Rooms (code-at bs at) k n b d
-rooms bs at {w} {c} ew ec x p q r t = let z = x .coded in let e = by-number-m c x in record { row-is = (cc); word-is = (cc); best-is = (cc); soft-is = (cc) }
+    (bs : List ℕ) (at : ℕ) {w c k n b d x : ℕ} {a : Chosen} → w ≡ getD (as-words bs) at 0 → c ≡ head-code w → By-number c a →
+    k ≡ a .shape .bits → n ≡ a .shape .n → b ≡ a .shape .n → d ≡ a .shape .bits → x ≡ scratch-long → Rooms (code-at bs at) k n b d x
+rooms bs at {w} {c} ew ec x p q r t u = let z = x .coded in let e = by-number-m c x in record { row-is = (cc); word-is = (cc); best-is = (cc); soft-is = (cc); scratch-is = u }
 
 -- ---- the next of an accepted sheet
 good-at : (qs rest : List Question) (q : Question) (i : ℕ) → all-good reliabilities qs ≡ true → drop i qs ≡ q ∷ rest → question-good reliabilities q ≡ true

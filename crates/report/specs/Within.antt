@@ -6,6 +6,7 @@ use Prim.Native.Nat.{ℕ, _≤_}
 use lib.ListN.{length, getD}
 use Rattle.code.specs.Code.{width, long}
 use Rattle.code.specs.Bits.{row-long}
+use Rattle.metric.specs.Scratch.{scratch-long}
 use Rattle.sheet.specs.Sheet.{Question, head-kind, kind, reliabilities, head-code, as-words, question-good, all-good, most, sheet-refusal, questions}
 use Rattle.sheet_reader.specs.Within.{Stands, behind, question-here}
 use Rattle.text.specs.Within.{Written}
@@ -17,11 +18,12 @@ use Rattle.report.specs.Calls.{line-most}
 abbrev pub code-at : (sheet : List ℕ) → (word : ℕ) → ℕ
 code-at bs w = head-code (getD (as-words bs) w 0)
 
--- a question that a sheet can hold, and room for what is decoded
-pub record Holds (q : Question) (best soft : ℕ) : Type 0 where
+-- a question that a sheet can hold, and room for what is decoded, with the scratch
+pub record Holds (q : Question) (best soft scratch : ℕ) : Type 0 where
   pub good : question-good reliabilities q ≡ true
   pub best-is : best ≡ long (width (q .code))
   pub soft-is : soft ≡ row-long (width (q .code))
+  pub scratch-is : scratch ≡ scratch-long
 
 -- a question's line was written from a place on
 pub record Put-line (q : Question) (at : ℕ) (o p : List ℕ) (next : ℕ) : Type 0 where
@@ -42,12 +44,13 @@ pub record Begins (bs : List ℕ) (i word : ℕ) : Type 0 where
   pub head : kind (getD (as-words bs) word 0) ≡ head-kind
   pub good : question-good reliabilities (question-here reliabilities bs word) ≡ true
 
--- the buffers have the lengths of a code
-pub record Rooms (code row word best soft : ℕ) : Type 0 where
+-- the buffers have the lengths of a code, and the scratch its own
+pub record Rooms (code row word best soft scratch : ℕ) : Type 0 where
   pub row-is : row ≡ row-long (width code)
   pub word-is : word ≡ long (width code)
   pub best-is : best ≡ long (width code)
   pub soft-is : soft ≡ row-long (width code)
+  pub scratch-is : scratch ≡ scratch-long
 
 -- the question was passed and its line was written
 pub record Passed (bs : List ℕ) (from to : Place) (o p : List ℕ) : Type 0 where

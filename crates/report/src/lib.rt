@@ -1,9 +1,11 @@
 // The listing of a sheet, written into a lent output. `list` is offered to callers: it takes any bytes and promises by
 // specs/Calls.antt that the text is the one that specs/Listing.antt says.
 use sheet_reader::Yield;
+ghost use mathlib.Core.Path.{_≡_};
 ghost use Prim.Native.Nat.{ℕ, _+_, _*_, _≤_};
 ghost use lib.ListN.{length};
 ghost use Rattle.sheet.specs.Sheet.{question, questions};
+ghost use Rattle.metric.specs.Scratch.{scratch-long};
 ghost use Rattle.report.specs.Calls.{line-most, List-says};
 ghost use Rattle.report.specs.Within.{code-at, Holds, Begins, Rooms, Passed, Sheet-taken, Put-line, Put-lines};
 
@@ -31,16 +33,17 @@ fn put_answer(
     word: &[u8],
     best: &mut [u8],
     soft: &mut [i16],
+    scratch: &mut [i32],
     out: &mut [u8],
     at: usize,
 ) -> usize
-    requires { ⌜ Holds (question code number (now row) (now word)) (length (now best)) (length (now soft)) ⌝ }
+    requires { ⌜ Holds (question code number (now row) (now word)) (length (now best)) (length (now soft)) (length (now scratch)) ⌝ }
     requires { ⌜ at + line-most ≤ length (now out) ⌝ }
     ensures { λ r. ⌜ Put-line (question code number (now (row .entry)) (now (word .entry))) at (now (out .entry)) (now (out .exit)) r ⌝ }
 {
     let chosen = code::by_number(code);
     let shape = chosen.shape;
-    let metric = decoder::decode_accepted(shape, row, best, soft);
+    let metric = decoder::decode_accepted(shape, row, best, soft, scratch);
     let mark = marker::verdict_on_word(shape, row, word, metric);
     let verdict = mark.verdict;
     let shortfall = mark.shortfall;
@@ -56,10 +59,11 @@ fn put_read(
     word: &mut [u8],
     best: &mut [u8],
     soft: &mut [i16],
+    scratch: &mut [i32],
     out: &mut [u8],
 ) -> Place
     requires { ⌜ ((i : ℕ) × Begins (now sheet) i (place .word)) ⌝ }
-    requires { ⌜ Rooms (code-at (now sheet) (place .word)) (length (now row)) (length (now word)) (length (now best)) (length (now soft)) ⌝ }
+    requires { ⌜ Rooms (code-at (now sheet) (place .word)) (length (now row)) (length (now word)) (length (now best)) (length (now soft)) (length (now scratch)) ⌝ }
     requires { ⌜ place .text + line-most ≤ length (now out) ⌝ }
     ensures { λ r. ⌜ Passed (now (sheet .entry)) place r (now (out .entry)) (now (out .exit)) ⌝ }
 {
@@ -68,7 +72,17 @@ fn put_read(
     let answer = step.answer;
     match answer {
         Yield::Found { code, number } => {
-            let text = put_answer(code, number, row, word, best, soft, out, place.text);
+            let text = put_answer(
+                code,
+                number,
+                row,
+                word,
+                best,
+                soft,
+                scratch,
+                out,
+                place.text,
+            );
             let next = step.next;
             Place { word: next, text }
         }
@@ -77,9 +91,10 @@ fn put_read(
     }
 }
 
-// The same, with room of its own.
-fn put_next(sheet: &[u8], place: Place, out: &mut [u8]) -> Place
+// The same, with room of its own for all but the scratch.
+fn put_next(sheet: &[u8], place: Place, scratch: &mut [i32], out: &mut [u8]) -> Place
     requires { ⌜ ((i : ℕ) × Begins (now sheet) i (place .word)) ⌝ }
+    requires { ⌜ length (now scratch) ≡ scratch-long ⌝ }
     requires { ⌜ place .text + line-most ≤ length (now out) ⌝ }
     ensures { λ r. ⌜ Passed (now (sheet .entry)) place r (now (out .entry)) (now (out .exit)) ⌝ }
 {
@@ -104,26 +119,29 @@ fn put_next(sheet: &[u8], place: Place, out: &mut [u8]) -> Place
         &mut word[..n],
         &mut best[..n],
         &mut soft[..k],
+        scratch,
         out,
     )
 }
 
 // The lines of all questions.
-fn put_lines(sheet: &[u8], count: usize, out: &mut [u8], at: usize) -> usize
+fn put_lines(sheet: &[u8], count: usize, scratch: &mut [i32], out: &mut [u8], at: usize) -> usize
     requires { ⌜ Sheet-taken (now sheet) count ⌝ }
+    requires { ⌜ length (now scratch) ≡ scratch-long ⌝ }
     requires { ⌜ at + count * line-most ≤ length (now out) ⌝ }
     ensures { λ r. ⌜ Put-lines (questions (now (sheet .entry))) at (now (out .entry)) (now (out .exit)) r ⌝ }
 {
     let mut place = Place { word: 0, text: at };
     let mut i = 0;
     while i < count {
-        place = put_next(sheet, place, out);
+        place = put_next(sheet, place, scratch, out);
         i += 1;
     }
     place.text
 }
 
-// The listing of a sheet, at the start of an output that is LONG bytes long; an output of another length is refused by 4.
+// The listing of a sheet, at the start of an output that is LONG bytes long; an output of another length is refused by 4. The decoder's scratch is its
+// own, so that it needs more room than any other call.
 pub fn list(sheet: &[u8], out: &mut [u8]) -> Listed
     ensures { λ r. ⌜ List-says (now (sheet .entry)) r (now (out .entry)) (now (out .exit)) ⌝ }
 {
@@ -139,8 +157,9 @@ pub fn list(sheet: &[u8], out: &mut [u8]) -> Listed
         };
     }
     let count = judged - 100;
+    let mut scratch = [0i32; 16384];
     let first = text::put_header(out, 0);
-    let last = put_lines(sheet, count as usize, out, first);
+    let last = put_lines(sheet, count as usize, &mut scratch, out, first);
     let end = text::put_count(count, out, last);
     Listed {
         number: 0,

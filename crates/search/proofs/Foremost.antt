@@ -1,152 +1,136 @@
--- THE FIRST BEST WORD: of the configurations that cost the least, the one whose first word has the least number gives the first of all
--- codewords of least cost. A word's number is its layers' numbers together, and no layer of such a codeword comes before the first of its coset.
+-- THE WORDS THAT ARE FOUND are those of the first codeword of least cost.
 -- Assumes nothing.
-use Rattle.basics.proofs.Kit.{_≡_, refl, sym, ap, _∙_, true, List, [], _∷_, ℕ, _+_, _*_, _/_, _%_, _^_, _≤_, _<_, arith, length, ℤ}
-use native.Mathlib.Nat.{add-mul, mul-assoc, div-one, div-div-eq-div-mul}
+use Rattle.basics.proofs.Kit.{_≡_, refl, sym, ap, ap₂, _∙_, true, List, ℕ, _+_, _-_, _*_, _/_, _%_, _^_, _≤_, _<_, arith, length, getD, ℤ}
+use native.Mathlib.Nat.{pow-le-pow-right, zero-lt-suc}
 use Rattle.order.specs.Order.{not-after}
 use Rattle.order.specs.Number.{number}
-use Rattle.order.proofs.Numbers.{number-le, le-number}
-use Rattle.field.proofs.Tests.{widths}
-use Rattle.code.specs.Code.{code-good, width, roots, is-codeword}
-use Rattle.code.proofs.Promise.{codes-inside}
-use Rattle.code.specs.Bits.{row-long}
-use Rattle.code.proofs.Words.{Below, widen, Codeword-parts, codeword-parts}
-use Rattle.split.specs.Split.{layer}
-use Rattle.split.proofs.Layers.{layer-below, layer-length}
-use Rattle.configurations.specs.Configurations.{configurations}
-use Rattle.metric.specs.Cost.{cost}
-use Rattle.metric.proofs.Finite.{digits}
-use Rattle.trellis.specs.Trellis.{Columns, free, final, first-word, Adds}
-use Rattle.trellis.specs.Trellis as T
-use Rattle.trellis.specs.Rows as R
-use Rattle.trellis.specs.Rows.{first-words, Firsts, weighed}
-use Rattle.trellis.proofs.Firsts.{adds-le}
+use Rattle.code.specs.declared.Shape.{Shape}
+use Rattle.code.specs.Code.{long, is-codeword}
+use Rattle.code.proofs.Words.{Below}
+use Rattle.tails.specs.Tails.{visited}
+use Rattle.metric.specs.Cost.{cost, Least}
+use Rattle.trellis.specs.Trellis.{final, free, first-word}
+use Rattle.trellis.specs.Trellis as TR'
+use Rattle.trellis.specs.Rows as M
+use Rattle.trellis.specs.Rows.{layer, weave, first-words, weighed}
+use Rattle.trellis.proofs.Firsts.{firsts}
 use Rattle.trellis.proofs.Trellis as TT
-use Rattle.lanes.specs.Lanes.{lane}
-use Rattle.lanes.proofs.Rows.{four}
-use Rattle.glue.specs.Walk.{sum4}
-use Rattle.glue.proofs.Engine.{over}
-use Rattle.search.specs.Within.{Spelt}
-use Rattle.search.proofs.Weave.{weave-layer}
-use Rattle.search.proofs.Bridge.{conf, table, Layered, layered, free-two, two-free}
+use Rattle.trellis.proofs.Least.{least-le}
+use Rattle.lanes.specs.Lanes.{entry, lane, lanes}
+use Rattle.lanes.proofs.Rows.{lanes-at}
+use Rattle.coset.specs.Coset.{none, first}
+use Rattle.walk.specs.Walk.{sum4, spot, total, least-total}
+use Rattle.ties.specs.Ties.{spaced, number-of, word-at}
+use Rattle.bridge.proofs.Engine.{over}
+use Rattle.bridge.proofs.Bridge.{free-two}
+use Rattle.bridge.proofs.Traced as TR
+use Rattle.bridge.proofs.Foremost as O
+use Rattle.search.specs.Within.{cap, bound, Input, Tabled, Laid, First-words, slots-of, steps-of, turns-of, words-of, leading}
+use Rattle.search.proofs.Laying.{number-same}
+use Rattle.search.proofs.Searching as A
+use Rattle.search.proofs.Wording.{leading-number, spaced-number}
+use Rattle.coset.proofs.Search as C
 
--- a symbol is its bits
-parts : (a b c d p : ℕ) → (a + 2 * b + 4 * c + 8 * d) * p ≡ a * p + 2 * (b * p) + 4 * (c * p) + 8 * (d * p)
-parts a b c d p =
-    omega (arith, add-mul (a + 2 * b + 4 * c) (8 * d) p, add-mul (a + 2 * b) (4 * c) p, add-mul a (2 * b) p, mul-assoc 2 b p, mul-assoc 4 c p, mul-assoc 8 d p)
+-- a word that comes first among the codewords of least cost
+pub record Best (m r : ℕ) (row : List ℤ) (word : List ℕ) (x : ℕ) : Type 0 where
+  pub codeword : is-codeword m r word ≡ true
+  pub costs : cost m row word ≡ x
+  pub is-least : Least m (is-codeword m r) row x
+  pub first : (vs : List ℕ) → is-codeword m r vs ≡ true → cost m row vs ≡ x → not-after word vs ≡ true
 
--- four bits of it
-bits : (c : ℕ) → c < 16 → c ≡ c / 1 % 2 + 2 * (c / 2 % 2) + 4 * (c / 4 % 2) + 8 * (c / 8 % 2)
-bits c h =
-    let e : c / 4 ≡ c / 2 / 2 = sym (div-div-eq-div-mul c 2 2) in
-    let f : c / 8 ≡ c / 2 / 2 / 2 = sym (div-div-eq-div-mul c 4 2) ∙ ap (λ (x : ℕ). x / 2) e in
-    let o : c / 1 ≡ c = div-one c in
-    rw (o, e, f) (omega arith)
+module _ {s : Shape} {row : List ℤ} {hs zs os t : List ℕ} {kept : List ℤ} (z : Input s row) (b : Tabled s row hs zs os t kept) {places f : List ℕ} (l : Laid s t places f) where
+  abbrev coset : ℕ → ℕ → ℕ
+  coset = visited (s .m) (s .r)
 
--- THE NUMBER OF A WORD is its layers' numbers together
-number-layers : (ws : List ℕ) → Below 16 ws → number 16 ws ≡ sum4 (λ j. weighed j (layer j ws))
-unfolding number weighed layer
-number-layers [] b = refl
-number-layers (c ∷ cs) b =
-    let p : ℕ = 16 ^ length cs in
-    omega (
-      arith,
-      number-layers cs (b .1),
-      ap (λ (x : ℕ). x * p) (bits c (b .0)),
-      parts (c / 1 % 2) (c / 2 % 2) (c / 4 % 2) (c / 8 % 2) p,
-      ap (λ (n : ℕ). c / 1 % 2 * 16 ^ n) (layer-length 0 cs),
-      ap (λ (n : ℕ). c / 2 % 2 * 16 ^ n) (layer-length 1 cs),
-      ap (λ (n : ℕ). c / 4 % 2 * 16 ^ n) (layer-length 2 cs),
-      ap (λ (n : ℕ). c / 8 % 2 * 16 ^ n) (layer-length 3 cs),
-    )
-
-module _ (c : ℕ) (g : code-good c ≡ true) (rs : List ℤ) (l : length rs ≡ row-long (width c)) (hs zs os : List ℕ) (y : Spelt (width c) (roots c) rs hs zs os) (big : ℕ)
-    (named : Firsts big hs zs os) where
-  abbrev L : ℕ → Columns
-  L = R.layer hs zs os
+  abbrev tuples : ℕ
+  tuples = turns-of s * 16
 
   abbrev F : ℕ → ℕ → ℕ
-  F = table c g rs l hs zs os y big (λ j. free)
+  F = A.F z b
 
-  -- the first word of a coset, and the number of those of a configuration
-  abbrev first : (j s : ℕ) → List ℕ
-  first j s = first-word (L j) big (length hs) s
+  -- the first bits of layer j in a coset
+  abbrev bits : (j x : ℕ) → List ℕ
+  bits j x = first-word (layer hs zs os j) none (length hs) x
 
-  abbrev pub numbers : (s : ℕ → ℕ) → ℕ
-  numbers s = sum4 (λ j. weighed j (first j (s j)))
+  minus : (i : ℕ) → i - 0 ≡ i
+  minus i = omega arith
 
-  small-symbols : (ws : List ℕ) → is-codeword (width c) (roots c) ws ≡ true → Below 16 ws
-  small-symbols ws cw = widths (λ (m : ℕ). Below (2 ^ m) ws → Below 16 ws) (widen (omega arith) ws) (λ b. b) (width c) (codes-inside c g .0) (codeword-parts (width c) (roots c) ws cw .symbols)
+  same : (j x : ℕ) → first hs zs os 0 j x ≡ bits j x
+  same j x = ap (λ (i : ℕ). TR'.trace (layer hs zs os j) (final none) 0 i x) (minus (length hs))
 
-  -- the number of the word of first words
-  words-number : (s : List ℕ) → is-codeword (width c) (roots c) (first-words big hs zs os s) ≡ true → number 16 (first-words big hs zs os s) ≡ numbers (lane s)
-  unfolding weighed
-  words-number s cw =
-      number-layers (first-words big hs zs os s) (small-symbols (first-words big hs zs os s) cw)
-      ∙ omega (arith, part 0 (omega arith), part 1 (omega arith), part 2 (omega arith), part 3 (omega arith))
-    where
-      part : (j : ℕ) → j < 4 → number 16 (layer j (first-words big hs zs os s)) ≡ number 16 (first j (lane s j))
-      part j lj =
-          ap (number 16) (weave-layer (length hs) (λ j. first j (lane s j)) (λ j lj. TT.traced (L j) (final big) 0 (length hs) (lane s j) .count)
-          (λ j lj. free-two 0 (first j (lane s j)) (TT.traced (L j) (final big) 0 (length hs) (lane s j) .held)) j lj)
+  bits-long : (j x : ℕ) → length (bits j x) ≡ length hs
+  bits-long j x = TT.traced (layer hs zs os j) (final none) 0 (length hs) x .count
 
-  -- no codeword that costs as little as its configuration has a lesser number than the configuration's first word
-  module _ (vs : List ℕ) (cw : is-codeword (width c) (roots c) vs ≡ true) (x : ℕ) (cost-is : cost (width c) rs vs ≡ x) (small : x < big)
-      (least : (k : ℕ) → k < configurations c → x ≤ over F (conf c k)) where
-    v : Layered c g rs l hs zs os y big (λ j. free) (λ j. free-two) (λ j h. refl) vs
-    v = layered c g rs l hs zs os y big (λ j. free) (λ j. free-two) (λ j h. refl) vs cw (λ j lj. two-free 0 (layer j vs) (layer-below j vs))
+  bits-two : (j x : ℕ) → Below 2 (bits j x)
+  bits-two j x = free-two 0 (bits j x) (TT.traced (layer hs zs os j) (final none) 0 (length hs) x .held)
 
-    abbrev s : ℕ → ℕ
-    s = conf c (v .place)
+  -- the word at a place of a tuple
+  word-is : (i j : ℕ) → i < tuples → j < 4 → word-at t places (spot (slots-of s) (steps-of s) i j) ≡ number 2 (bits j (coset i j))
+  word-is i j li lj =
+      let x : ℕ = coset i j in
+      let lx : x < s .size = A.coset-in z b i j lj in
+      let h : 2 ^ length hs ≤ 2 ^ 15 = pow-le-pow-right (zero-lt-suc 1) (A.few z b) in
+      let e : getD t (getD places (spot (slots-of s) (steps-of s) i j) 0) 0 ≡ entry t x j = ap (λ (n : ℕ). getD t n 0) (A.stands z b l i j li lj) in
+      omega (arith, e, b .keys .keys x j lx lj, C.number-whole (b .layers) lj x lx, ap (number 2) (same j x))
 
-    sum-is : over F s ≡ x
-    sum-is =
-        omega (arith, v .no-less 0 (omega arith), v .no-less 1 (omega arith), v .no-less 2 (omega arith), v .no-less 3 (omega arith), v .costs, cost-is, least (v .place) (v .inside))
+  words-lane : (i j : ℕ) → i < tuples → j < 4 → lane (words-of s t places i) j ≡ number 2 (bits j (coset i j))
+  words-lane i j li lj = lanes-at (λ j. word-at t places (spot (slots-of s) (steps-of s) i j)) j lj ∙ word-is i j li lj
 
-    exact : (j : ℕ) → j < 4 → T.cost (L j) 0 (layer j vs) ≡ F j (s j)
-    exact =
-        let n0 = v .no-less 0 (omega arith) in
-        let n1 = v .no-less 1 (omega arith) in
-        let n2 = v .no-less 2 (omega arith) in
-        let n3 = v .no-less 3 (omega arith) in
-        let e = v .costs in
-        let f = sum-is in
-        four (λ j. T.cost (L j) 0 (layer j vs) ≡ F j (s j)) (omega (arith, cost-is)) (omega (arith, cost-is)) (omega (arith, cost-is)) (omega (arith, cost-is))
+  -- its weight in the number of the word
+  spaced-is : (i j : ℕ) → i < tuples → j < 4 → spaced 16 (lane (words-of s t places i) j) ≡ number 16 (bits j (coset i j))
+  spaced-is i j li lj = ap (spaced 16) (words-lane i j li lj) ∙ spaced-number 16 (bits j (coset i j)) (omega (arith, bits-long j (coset i j), A.few z b)) (bits-two j (coset i j))
 
-    layer-first : (j : ℕ) → j < 4 → number 16 (first j (s j)) ≤ number 16 (layer j vs)
-    layer-first j lj =
-        let p : Codeword-parts (width c) (roots c) vs = codeword-parts (width c) (roots c) vs cw in
-        let small-j : F j (s j) < big = four (λ j. F j (s j) < big) (omega (arith, sum-is)) (omega (arith, sum-is)) (omega (arith, sum-is)) (omega (arith, sum-is)) j lj in
-        let n = named (s j) j small-j in
-        let b = layer-below j vs in
-        let own : Adds (L j) (length hs) (s j) (layer j vs) = record { count = layer-length j vs ∙ p .count ∙ sym (y .columns .count); held = two-free 0 (layer j vs) b; sum = sym (v .sums j lj) } in
-        let f = n .adds in
-        number-le 16 (first j (s j)) (layer j vs) (f .count ∙ sym (own .count)) (digits 16 (first j (s j)) (widen (omega arith) (first j (s j)) (free-two 0 (first j (s j)) (f .held))))
-        (n .first (layer j vs) own (exact j lj ∙ omega (arith, n .least (layer j vs) own, exact j lj, adds-le (L j) big (length hs) (s j) (first j (s j)) f)))
+  numbers : (i : ℕ) → i < tuples → number-of (words-of s t places i) ≡ sum4 (λ j. weighed j (bits j (coset i j)))
+  unfolding number-of weighed
+  numbers i li =
+      ap₂ (λ (a c : ℕ). a + c)
+      (ap₂ (λ (a c : ℕ). a + c)
+      (ap₂ (λ (a c : ℕ). a + c) (ap (λ (a : ℕ). 2 ^ 0 * a) (spaced-is i 0 li (omega arith))) (ap (λ (a : ℕ). 2 ^ 1 * a) (spaced-is i 1 li (omega arith))))
+      (ap (λ (a : ℕ). 2 ^ 2 * a) (spaced-is i 2 li (omega arith))))
+      (ap (λ (a : ℕ). 2 ^ 3 * a) (spaced-is i 3 li (omega arith)))
 
-    pub number-least : (k : ℕ) × (k < configurations c) × (over F (conf c k) ≡ x) × (numbers (conf c k) ≤ number 16 vs)
-    unfolding weighed
-    number-least = (
-      v .place,
-      v .inside,
-      sum-is,
-      omega (
-        arith,
-        number-layers vs (small-symbols vs cw),
-        layer-first 0 (omega arith),
-        layer-first 1 (omega arith),
-        layer-first 2 (omega arith),
-        layer-first 3 (omega arith),
-      ),
-    )
+  module _ {x : ℕ} {best word : List ℕ} (e : x ≡ least-total cap f (slots-of s) (steps-of s) (turns-of s)) (w : First-words s t places f x best)
+      (ew : word ≡ weave (λ j. leading (s .n) (lane best j))) where
+    abbrev i : ℕ
+    i = w .found .0
 
-  -- THE FIRST BEST WORD, of a configuration of least cost with the least number
-  pub first-best : (at : List ℕ) (x : ℕ) → is-codeword (width c) (roots c) (first-words big hs zs os at) ≡ true → x < big →
-      ((k : ℕ) → k < configurations c → x ≤ over F (conf c k)) → ((k : ℕ) → k < configurations c → over F (conf c k) ≡ x → numbers (lane at) ≤ numbers (conf c k)) →
-      (vs : List ℕ) → is-codeword (width c) (roots c) vs ≡ true → cost (width c) rs vs ≡ x → not-after (first-words big hs zs os at) vs ≡ true
-  first-best at x cw small least lowest vs cv e =
-      let ws : List ℕ = first-words big hs zs os at in
-      let n = number-least vs cv x e small least in
-      let p : Codeword-parts (width c) (roots c) ws = codeword-parts (width c) (roots c) ws cw in
-      let q : Codeword-parts (width c) (roots c) vs = codeword-parts (width c) (roots c) vs cv in
-      le-number 16 ws vs (p .count ∙ sym (q .count)) (digits 16 vs (small-symbols vs cv)) (omega (arith, words-number at cw, lowest (n .0) (n .1) (n .2), n .3))
+    abbrev li : i < tuples
+    li = w .found .1 .0
+
+    abbrev at : List ℕ
+    at = lanes (coset i)
+
+    small : x < bound
+    small = rw e (A.least-small z b l)
+
+    over-is : over F (coset i) ≡ x
+    over-is = sym (A.total-is z b l i li) ∙ w .found .1 .1
+
+    spelt : (j : ℕ) → j < 4 → leading (s .n) (lane best j) ≡ bits j (lane at j)
+    spelt j lj =
+        ap₂ leading (z .coded .n-is ∙ sym (A.n-is z b) ∙ sym (bits-long j (coset i j))) (w .found .2 j lj ∙ word-is i j li lj)
+        ∙ leading-number (bits j (coset i j)) (bits-two j (coset i j))
+        ∙ ap (bits j) (sym (lanes-at (coset i) j lj))
+
+    word-spelt : word ≡ first-words none hs zs os at
+    unfolding weave
+    word-spelt = ew ∙ woven (spelt 0 (omega arith)) (spelt 1 (omega arith)) (spelt 2 (omega arith)) (spelt 3 (omega arith))
+      where
+        woven : {a0 a1 a2 a3 b0 b1 b2 b3 : List ℕ} → a0 ≡ b0 → a1 ≡ b1 → a2 ≡ b2 → a3 ≡ b3 → M.merge a0 (M.merge a1 (M.merge a2 a3)) ≡ M.merge b0 (M.merge b1 (M.merge b2 b3))
+        woven p q r s = cc
+
+    pub best-ok : Best (s .m) (s .r) row word x
+    best-ok =
+        let p = TR.word (A.y z b) none i li (omega (arith, over-is, small)) at (lanes-at (coset i)) in
+        let g = O.first-best (A.y z b) none (firsts none hs zs os) at x (p .0) (omega (arith, small)) (λ k lk. omega (arith, e, A.totals-are z b l, least-le (λ k. over F (coset k)) cap tuples k lk)) lowest in
+        record {
+          codeword = ap (is-codeword (s .m) (s .r)) word-spelt ∙ p .0;
+          costs = ap (cost (s .m) row) word-spelt ∙ p .1 ∙ over-is;
+          is-least = rw e (A.least-is z b l);
+          first = λ vs cv h. ap (λ (u : List ℕ). not-after u vs) word-spelt ∙ g vs cv h;
+        }
+      where
+        lowest : (k : ℕ) → k < tuples → over F (coset k) ≡ x → sum4 (λ j. weighed j (bits j (lane at j))) ≤ sum4 (λ j. weighed j (bits j (coset k j)))
+        lowest k lk h =
+            rw (lanes-at (coset i) 0 (omega arith), lanes-at (coset i) 1 (omega arith), lanes-at (coset i) 2 (omega arith), lanes-at (coset i) 3 (omega arith))
+            (omega (arith, w .first k (lk, A.total-is z b l k lk ∙ h), number-same best (words-of s t places i) (λ j lj. w .found .2 j lj ∙ sym (lanes-at (λ j. word-at t places (spot (slots-of s) (steps-of s) i j)) j lj)), numbers i li, numbers k lk))

@@ -1,12 +1,9 @@
-pub mod Layering
-pub mod Weave
-pub mod Bridge
-pub mod Found
+pub mod Heads
+pub mod Roomed
 pub mod Prepared
-pub mod Traced
 pub mod Sums
-pub mod Tabling
+pub mod Laying
 pub mod Searching
-pub mod Walking
-pub mod Numbering
+pub mod Wording
 pub mod Foremost
+pub mod Tabling

@@ -4,7 +4,7 @@ use Rattle.basics.proofs.Kit.{_≡_, refl, sym, ap, _∙_, Bool, true, false, _
 use mathlib.Core.Path.{subst}
 use native.Mathlib.Nat.{zero-add, suc-mul, mul-le-mul-right}
 use native.Mathlib.Decide.{decLe}
-use borrow.Author.Tests.{ltb-true, ltb-false}
+use borrow.Author.Tests.{lt-ltb, ltb-true, ltb-false}
 use lib.Dec.{T, eqb→eq}
 use lib.ListN.{length-set}
 use lib.Seq.{getD-set-same, getD-set-other}
@@ -14,14 +14,12 @@ use mir.Val.{SFits, Fits, toZ, ofZ}
 use mir.Facts.{toZ-ofZ}
 use Rattle.field.specs.Field.{width-good}
 use Rattle.field.proofs.Tests.{all, at, and-l, and-r, widths}
-use Rattle.code.specs.declared.Shape.{Shape}
-use Rattle.code.specs.Code.{width, roots, long}
-use Rattle.code.specs.Within.{Coded, Numbered}
-use Rattle.split.specs.Split.{column}
+use Rattle.code.specs.Code.{long}
 use Rattle.metric.specs.Cost.{costZero, costOne}
 use Rattle.lanes.proofs.Rows.{four}
 use Rattle.lanes.specs.Lanes.{put-four}
-use Rattle.search.specs.Within.{reliability, Headed, Spread, Costs-to, Costed}
+use Rattle.bridge.specs.Bridge.{reliability, Costed}
+use Rattle.search.specs.Within.{Spread, Costs-to}
 
 -- ---- a reliability's costs, by its sign
 clash : {X : Type 0} → false ≡ true → X
@@ -30,7 +28,7 @@ clash e = absurd (subst T (sym e) tt)
 pub wider : (r : ℤ) → SFits w16 r → SFits w32 r
 wider r f = record { sfits = omega (arith, f .sfits) }
 
-pub above-cast : (r : ℤ) → SFits w16 r → ltZ (pos 0) r ≡ true → T (nonNeg r) × Fits w16 (natAbs r)
+pub above-cast : (r : ℤ) → SFits w16 r → ltZ (pos 0) r ≡ true → T (nonNeg r) × Fits w32 (natAbs r)
 above-cast (pos n) f e = (tt, record { fits = omega (arith, f .sfits) })
 above-cast (negsuc n) f e = clash e
 
@@ -57,7 +55,7 @@ again : (r : ℤ) → SFits w16 r → ltZ r (pos 0) ≡ true → toZ w32 (ofZ w3
 again r f e = toZ-ofZ (below-fits r f e) ∙ negated r f e
 
 pub below-cast : (r : ℤ) → SFits w16 r → ltZ r (pos 0) ≡ true →
-    T (nonNeg (toZ w32 (ofZ w32 (pos 0 -ℤ toZ w32 (ofZ w32 r))))) × Fits w16 (natAbs (toZ w32 (ofZ w32 (pos 0 -ℤ toZ w32 (ofZ w32 r)))))
+    T (nonNeg (toZ w32 (ofZ w32 (pos 0 -ℤ toZ w32 (ofZ w32 r))))) × Fits w32 (natAbs (toZ w32 (ofZ w32 (pos 0 -ℤ toZ w32 (ofZ w32 r)))))
 below-cast r f e = rw (again r f e) (tt, record { fits = omega (arith, cost-fits r f) })
 
 pub below-cost : (r : ℤ) → SFits w16 r → ltZ r (pos 0) ≡ true → natAbs (toZ w32 (ofZ w32 (pos 0 -ℤ toZ w32 (ofZ w32 r)))) ≡ costZero r
@@ -70,23 +68,6 @@ not-below (negsuc n) e = clash (sym e)
 -- a signed number that was passed on
 pub through : (f : ℤ → ℕ) {x : ℕ} {r : ℤ} → SFits w16 r → x ≡ f (toZ w16 (ofZ w16 r)) → x ≡ f r
 through f ok e = e ∙ ap f (toZ-ofZ ok)
-
--- ---- columns
--- a table of them, by one test that antt computes
-abbrev columns : (m r : ℕ) → List ℕ → Bool
-columns m r hs = eqb (length hs) (long m) && all (long m) (λ i. eqb (getD hs i 0) (column m r i))
-
-pub headed : (m r : ℕ) (hs : List ℕ) → T (columns m r hs) → Headed m r hs
-headed m r hs t =
-    let f : ℕ → Bool = (λ i. eqb (getD hs i 0) (column m r i)) in
-    record {
-      count = eqb→eq (length hs) (long m) (and-l (eqb (length hs) (long m)) (all (long m) f) t);
-      heads = λ i h. eqb→eq (getD hs i 0) (column m r i) (at (long m) f (and-r (eqb (length hs) (long m)) (all (long m) f) t) i h);
-    }
-
--- those of the code that a shape turns out to be, in a longer table
-pub headed-as : {s : Shape} → Coded s → (k : Numbered s) (d : ℕ) → k .code ≡ d → (hs : List ℕ) → T (columns (width d) (roots d) (take (long (width d)) hs)) → Headed (s .m) (s .r) (take (s .n) hs)
-headed-as z k d e hs t = rw (z .n-is, k .m-is, k .r-is, e) (headed (width d) (roots d) (take (long (width d)) hs) t)
 
 pub long-le : (m : ℕ) → width-good m ≡ true → long m ≤ 15
 unfolding long
@@ -159,6 +140,10 @@ costed m n row d e s = record {
   zeros = λ i j li lj. d .zeros (i * 4 + j) (omega arith) ∙ ap costZero (s i j li lj);
   ones = λ i j li lj. d .ones (i * 4 + j) (omega arith) ∙ ap costOne (s i j li lj);
 }
+
+-- with m = 4 a row is spread as it is
+pub spread-four : (m n : ℕ) (row : List ℤ) → m ≡ 4 → Spread m n row row
+spread-four m n row e i j li lj = rw e (simp (lt-ltb j 4 lj))
 
 pub inside : (m n i : ℕ) → i < n → i * m + m ≤ n * m
 inside m n i h = omega (arith, mul-le-mul-right m h, suc-mul i m)

@@ -1,145 +1,266 @@
--- The search at an accepted row: what the walk asks, and that the least total is the least cost of a codeword.
+-- THE SEARCH AT AN ACCEPTED ROW: what the walk asks, that the least total is the least cost of a codeword, that the words it names are those of the first
+-- such codeword, and that what it leaves for each coset is what the other layers cost.
 -- Assumes nothing.
-use Rattle.basics.proofs.Kit.{_≡_, sym, ap, ap₂, _∙_, true, List, [], _∷_, ℕ, zero, suc, _+_, _-_, _*_, _≤_, _<_, arith, length, getD, ℤ}
-use native.Mathlib.Nat.{zero-mul, zero-add}
+use Rattle.basics.proofs.Kit.{_≡_, refl, sym, ap, ap₂, _∙_, Bool, true, false, cond, List, [], _∷_, ℕ, zero, suc, _+_, _-_, _*_, _/_, _%_, _^_, _≤_, _<_, arith, length, getD, eqb, ℤ}
+use native.Mathlib.Nat.{mul-comm, mul-le-mul-left, mul-le-mul-right, pow-le-pow-right, zero-lt-suc}
 use native.Mathlib.Decide.{decLe}
-use Rattle.field.proofs.Tests.{to-T}
+use borrow.Author.Tests.{eq-eqb, eqb-true}
+use Rattle.field.proofs.Tests.{widths}
 use Rattle.code.specs.declared.Shape.{Shape}
-use Rattle.code.specs.Code.{code-good, width, roots, long, is-codeword}
-use Rattle.code.specs.Within.{number-of}
+use Rattle.code.specs.Code.{long, symbols-good, is-codeword}
 use Rattle.code.specs.Bits.{row-long}
-use Rattle.code.proofs.Promise.{codes, Numbered-as, numbered, of-shape}
-use Rattle.code.proofs.Words.{Below}
-use Rattle.split.specs.Split.{cosets}
-use Rattle.split.proofs.Layers as SL
-use Rattle.configurations.specs.Configurations.{configurations, configuration, listed, Configuration}
-use Rattle.configurations.specs.Promise.{Configurations}
-use Rattle.configurations.proofs.Valid.{configurations-right}
-use Rattle.configurations.proofs.Listed.{listed-at, listed-length}
+use Rattle.code.proofs.Words.{Below, good, Codeword-parts, codeword-parts}
+use Rattle.split.specs.Split.{layer}
+use Rattle.tails.specs.Tails.{columns, added, turns, visited}
+use Rattle.tails.specs.Promise.{Codewords-visited}
+use Rattle.spots.specs.Spots.{slots-from, slots, all-steps}
+use Rattle.spots.specs.Promise.{Walkable, Walks, Spot-visited, Visited-inside, Visited-high}
 use Rattle.metric.specs.Row.{row-bound}
-use Rattle.metric.specs.Cost.{weight-of, Least}
+use Rattle.metric.specs.Cost.{weight-of, cost, Least, Least-with}
 use Rattle.metric.proofs.Bounds.{weight-le}
-use Rattle.trellis.specs.Trellis.{back, free, final}
-use Rattle.lanes.specs.Lanes.{entry, lane}
-use Rattle.trellis.specs.Rows.{layer}
-use Rattle.trellis.proofs.Least.{least-same}
-use Rattle.lanes.proofs.Rows.{lanes-at}
-use Rattle.trellis.proofs.Tables.{back-le, final-le}
-use Rattle.glue.specs.Walk.{total, tuple, least-total, Tuples}
-use Rattle.glue.specs.Walk as W
-use Rattle.glue.proofs.Engine.{over}
-use Rattle.search.proofs.Bridge.{conf, table, conf-high, padded-in}
-use Rattle.search.proofs.Found as S
-use Rattle.search.specs.Within.{top, big, cap, Spelt, Input, Tabled, tuples-of, count-of}
-use Rattle.search.proofs.Tabling.{short}
-use Rattle.search.proofs.Tabling as T
+use Rattle.trellis.specs.Trellis.{back, free, final, leastOf, holding, meet}
+use Rattle.trellis.specs.Rows.{layer as column-of}
+use Rattle.trellis.proofs.Least.{least-same, least-le, least-found, least-cap}
+use Rattle.lanes.specs.Lanes.{entry, lane, lanes}
+use Rattle.lanes.proofs.Rows.{four, lanes-at}
+use Rattle.coset.specs.Coset.{none, least}
+use Rattle.walk.specs.Walk.{sum4, start, place, spot, total, least-total, least-at, Slots, Marginals, Scattered}
+use Rattle.bridge.specs.Bridge.{Glue, Setting}
+use Rattle.bridge.proofs.Engine.{over, Others, part-le}
+use Rattle.bridge.proofs.Bridge.{table}
+use Rattle.bridge.proofs.Found as S
+use Rattle.search.specs.Within.{cap, bound, Input, Tabled, Laid, Ties, Small-keys, slots-of, steps-of, turns-of}
+use Rattle.tails.proofs.Walk.{codewords-visited}
+use Rattle.spots.proofs.Walks.{walks, spot-visited, visited-inside, visited-high}
+use Rattle.coset.proofs.Search as C
+use Rattle.search.proofs.Heads.{columns-long}
 
-at-below : (n : ℕ) (xs : List ℕ) (j : ℕ) → Below n xs → j < length xs → getD xs j 0 < n
-at-below n [] j b h = absurd (omega arith)
-at-below n (x ∷ xs) zero b h = b .0
-at-below n (x ∷ xs) (suc j) b h = at-below n xs j (b .1) (omega arith)
+module _ {s : Shape} {row : List ℤ} {hs zs os t : List ℕ} {kept : List ℤ} (z : Input s row) (b : Tabled s row hs zs os t kept) where
+  abbrev coset : ℕ → ℕ → ℕ
+  coset = visited (s .m) (s .r)
 
-some-there : (c : ℕ) → code-good c ≡ true → 0 < configurations c
-unfolding configurations
-some-there = codes (λ c. 0 < configurations c) (omega arith) (omega arith) (omega arith)
+  abbrev tuples : ℕ
+  tuples = turns-of s * 16
 
-cosets-there : (c : ℕ) → code-good c ≡ true → 0 < cosets (width c) (roots c)
-unfolding width roots cosets
-cosets-there = codes (λ c. 0 < cosets (width c) (roots c)) (omega arith) (omega arith) (omega arith)
-
--- a place of a configuration is a syndrome
-pub conf-in : (c : ℕ) → code-good c ≡ true → (k : ℕ) → k < configurations c → (j : ℕ) → conf c k j < cosets (width c) (roots c)
-unfolding Configurations
-conf-in c g k lk j = go (decLe (width c) j)
-  where
-    v : Configuration (width c) (roots c) (configuration c k)
-    v = configurations-right c g .each-valid k lk
-
-    go : Dec (width c ≤ j) → conf c k j < cosets (width c) (roots c)
-    go (yes u) = rw (conf-high c g k lk j u) (cosets-there c g)
-    go (no u) =
-        rw (padded-in (configuration c k) j (omega (arith, v .count)))
-        (at-below (cosets (width c) (roots c)) (configuration c k) j (SL.below (cosets (width c) (roots c)) (configuration c k) (to-T (v .syndromes))) (omega (arith, v .count)))
-
-pub row-le : (c : ℕ) → code-good c ≡ true → row-long (width c) ≤ 60
-unfolding width long row-long
-row-le = codes (λ c. row-long (width c) ≤ 60) (omega arith) (omega arith) (omega arith)
-
-module _ {s : Shape} {row : List ℤ} {hs zs os t : List ℕ} (z : Input s row) (b : Tabled s row hs zs os t) where
-  abbrev pub c : ℕ
-  c = number-of s
-
-  pub k : Numbered-as s c
-  k = numbered (z .numbered)
-
-  abbrev pub g : code-good c ≡ true
-  g = k .good
-
-  pub l : length row ≡ row-long (width c)
-  l = z .length-row ∙ ap row-long (k .m-is)
-
-  pub y : Spelt (width c) (roots c) row hs zs os
-  y = rw (← k .m-is, ← k .r-is) (b .spelt)
-
-  pub n-is : length hs ≡ s .n
-  n-is = b .spelt .columns .count ∙ sym (z .coded .n-is)
+  pub n-is : length hs ≡ long (s .m)
+  n-is = ap length (b .headed) ∙ columns-long (s .m) (s .r) (z .coded .accepted-is)
 
   pub few : length hs ≤ 15
-  few = omega (arith, n-is, short z)
+  unfolding long
+  few = rw n-is (widths (λ (m : ℕ). long m ≤ 15) (omega arith) (omega arith) (s .m) (z .coded .width-is))
 
-  pub size-is : s .size ≡ cosets (width c) (roots c)
-  size-is = T.size-is z ∙ ap₂ cosets (k .m-is) (k .r-is)
+  -- WHAT THE CODE IS TO THE SEARCH
+  pub y : Setting (s .m) (s .r) hs tuples coset row zs os
+  unfolding Codewords-visited Visited-high
+  y = record {
+    glue = record {
+      width = z .coded .width-is;
+      few = z .coded .few;
+      count = n-is;
+      there = λ ws cw.
+          let f = codewords-visited (s .m) (s .r) (z .coded .accepted-is) .none-missing ws cw in
+          (f .0, rw (mul-comm (turns-of s) 16) (f .1), λ j lj. ap (λ (h : List ℕ). added h (layer j ws)) (b .headed) ∙ f .2 j lj);
+      only = λ ws n g k lk f.
+          codewords-visited (s .m) (s .r) (z .coded .accepted-is) .none-else ws n g k (rw (mul-comm (turns-of s) 16) at lk) (λ j lj. sym (ap (λ (h : List ℕ). added h (layer j ws)) (b .headed)) ∙ f j lj);
+      high = λ k j lk u lj. visited-high (s .m) (s .r) k j (z .coded .accepted-is) u lj;
+    };
+    length-row = z .length-row;
+    costs = b .costs;
+  }
 
-  pub light : weight-of row < big
-  light = omega (arith, weight-le row-bound row (z .good-row), l, row-le c g)
+  pub light : weight-of row < bound
+  unfolding row-long long
+  light =
+      omega (arith, weight-le row-bound row (z .good-row), z .length-row, widths (λ (m : ℕ). row-long m ≤ 60) (omega arith) (omega arith) (s .m) (z .coded .width-is))
 
+  -- the layers' tables
   abbrev pub F : ℕ → ℕ → ℕ
-  F = table c g row l hs zs os y big (λ j. free)
+  F = table y none (λ j. free)
 
-  -- table 0 is that of all columns
-  pub first : (x j : ℕ) → x < s .size → j < 4 → entry t x j ≡ F j x
-  first x j ls lj =
-      ap (λ (i : ℕ). getD t i 0) (sym (ap (λ (i : ℕ). i + (x * 4 + j)) (zero-mul (s .size * 4)) ∙ zero-add (x * 4 + j)))
-      ∙ b .made .made 0 x j (omega arith) (omega arith) ls lj
-      ∙ ap (λ (i : ℕ). back free (layer hs zs os j) (final big) 0 i x) (minus (length hs))
+  same : (j x : ℕ) → F j x ≡ least hs zs os 0 j x
+  same j x = ap (λ (i : ℕ). back free (column-of hs zs os j) (final none) 0 i x) (sym (minus (length hs)))
     where
       minus : (i : ℕ) → i - 0 ≡ i
       minus i = omega arith
 
-  pub F-le : (j x : ℕ) → j < 4 → F j x ≤ big + 1905
-  F-le j x lj =
-      omega (arith, back-le (layer hs zs os j) (final big) big top (final-le big) 0 (length hs) x (λ p u h. b .layers .cost-zs p j (omega arith) lj), few)
-
-  pub conf-is : (i j : ℕ) → i < count-of s → j < 4 → W.conf (tuples-of s) i j ≡ conf c i j
-  conf-is i j li lj = ap (λ (x : ℕ). getD (listed c) x 0) (omega arith) ∙ listed-at c i j li lj
-
-  pub conf-lt : (i j : ℕ) → i < count-of s → j < 4 → W.conf (tuples-of s) i j < s .size
-  conf-lt i j li lj = rw (conf-is i j li lj, size-is) (conf-in c g i li j)
-
-  pub total-is : (i : ℕ) → i < count-of s → total t (tuple (tuples-of s) i) ≡ over F (conf c i)
-  unfolding total
-  total-is i li = omega (arith, part 0 (omega arith), part 1 (omega arith), part 2 (omega arith), part 3 (omega arith))
+  pub F-le : (j x : ℕ) → j < 4 → x < s .size → F j x ≤ 1905
+  F-le j x lj lx =
+      omega (arith, same j x, C.whole-le (b .layers) lj x lx, mul-le-mul-left (length hs) (top-le (b .top-is)), mul-le-mul-right 127 few)
     where
-      part : (j : ℕ) → j < 4 → entry t (lane (tuple (tuples-of s) i) j) j ≡ F j (conf c i j)
-      part j lj =
-          ap (λ (x : ℕ). entry t x j) (lanes-at (W.conf (tuples-of s) i) j lj ∙ conf-is i j li lj)
-          ∙ first (conf c i j) j (rw (conf-is i j li lj) at (conf-lt i j li lj)) lj
+      top-le : {a : ℕ} → a ≡ row-bound → a ≤ 127
+      top-le e = omega arith
 
-  pub tuples-ok : Tuples (s .size) (count-of s) cap t (tuples-of s)
-  tuples-ok = record {
-    some = some-there c g;
-    length-f = omega (arith, b .made .long);
-    count = omega (arith, listed-length c);
-    inside = conf-lt;
-    room = λ i li. omega (arith, total-is i li, F-le 0 (conf c i 0) (omega arith), F-le 1 (conf c i 1) (omega arith), F-le 2 (conf c i 2) (omega arith), F-le 3 (conf c i 3) (omega arith));
-    cap-small = omega arith;
-  }
+  pub coset-in : (i j : ℕ) → j < 4 → coset i j < s .size
+  unfolding Visited-inside
+  coset-in i j lj = rw (z .coded .size-is, z .coded .q-is) (visited-inside (s .m) (s .r) i j (z .coded .accepted-is) lj)
 
-  pub totals-are : least-total cap t (tuples-of s) (count-of s) ≡ S.best c g row l hs zs os y big cap light
-  totals-are = least-same (λ i. total t (tuple (tuples-of s) i)) (λ i. over F (conf c i)) cap (configurations c) total-is
+  -- what a coset costs
+  key-cost : (x j : ℕ) → x < s .size → j < 4 → entry t x j / 65536 ≡ F j x
+  key-cost x j lx lj =
+      let h : 2 ^ length hs ≤ 2 ^ 15 = pow-le-pow-right (zero-lt-suc 1) few in
+      omega (arith, b .keys .keys x j lx lj, C.number-whole (b .layers) lj x lx, same j x)
 
-  -- the least total is the least cost
-  pub least-is : Least (s .m) (is-codeword (s .m) (s .r)) row (least-total cap t (tuples-of s) (count-of s))
-  least-is =
-      of-shape (λ m r. Least m (is-codeword m r) row (least-total cap t (tuples-of s) (count-of s))) (k .m-is) (k .r-is)
-      (rw totals-are (S.least c g row l hs zs os y big cap light (omega arith)))
+  -- every key's cost is that of a word of a layer
+  pub small-keys : Small-keys t
+  small-keys x h =
+      let lx : x / 4 < s .size = omega (arith, b .keys .long) in
+      let lj : x % 4 < 4 = omega arith in
+      let e : x / 4 * 4 + x % 4 ≡ x = omega arith in
+      omega (arith, ap (λ (i : ℕ). getD t i 0 / 65536) e, key-cost (x / 4) (x % 4) lx lj, F-le (x % 4) (x / 4) lj lx)
+
+  -- over the places of the walk
+  module _ {places f : List ℕ} (l : Laid s t places f) where
+    abbrev sl : List ℕ
+    sl = slots-of s
+
+    abbrev st : List ℕ
+    st = steps-of s
+
+    w : Walkable (s .m) (s .r)
+    unfolding Walks
+    w = walks (s .m) (s .r) (z .coded .accepted-is)
+
+    -- where tuple i stands in slot j
+    pub stands : (i j : ℕ) → i < tuples → j < 4 → getD places (spot sl st i j) 0 ≡ coset i j * 4 + j
+    unfolding Spot-visited
+    stands i j li lj = spot-visited (s .m) (s .r) (s .size) i j places (z .coded .accepted-is) (l .placed) li lj
+
+    turn : (i : ℕ) → i < tuples → i / 16 < turns-of s
+    turn i h = omega arith
+
+    spot-in : (i j : ℕ) → i < tuples → j < 4 → (start sl j ≤ spot sl st i j) × (spot sl st i j < start sl (suc j))
+    spot-in i j li lj = (omega (arith, w .above (i / 16) j (turn i li) lj), omega (arith, w .below (i / 16) j (turn i li) lj))
+
+    ordered : (j : ℕ) → j < 4 → start sl j ≤ start sl (suc j)
+    ordered j lj = omega (arith, w .above 0 j (w .some) lj, w .below 0 j (w .some) lj)
+
+    spot-long : (i j : ℕ) → i < tuples → j < 4 → spot sl st i j < length places
+    spot-long i j li lj =
+        four (λ j. spot sl st i j < start sl (suc j) → spot sl st i j < length places)
+        (λ h. omega (arith, ordered 1 (omega arith), ordered 2 (omega arith), ordered 3 (omega arith), l .placed .long))
+        (λ h. omega (arith, ordered 2 (omega arith), ordered 3 (omega arith), l .placed .long))
+        (λ h. omega (arith, ordered 3 (omega arith), l .placed .long))
+        (λ h. omega (arith, l .placed .long)) j lj (spot-in i j li lj .1)
+
+    place-cost : (i j : ℕ) → i < tuples → j < 4 → getD f (spot sl st i j) 0 ≡ F j (coset i j)
+    place-cost i j li lj =
+        l .gathered .costs (spot sl st i j) (spot-long i j li lj)
+        ∙ ap (λ (x : ℕ). getD t x 0 / 65536) (stands i j li lj)
+        ∙ key-cost (coset i j) j (coset-in i j lj) lj
+
+    pub total-is : (i : ℕ) → i < tuples → total f sl st i ≡ over F (coset i)
+    unfolding total
+    total-is i li = omega (arith, place-cost i 0 li (omega arith), place-cost i 1 li (omega arith), place-cost i 2 li (omega arith), place-cost i 3 li (omega arith))
+
+    over-le : (i : ℕ) → over F (coset i) ≤ 7620
+    over-le i =
+        omega (
+          arith,
+          F-le 0 (coset i 0) (omega arith) (coset-in i 0 (omega arith)),
+          F-le 1 (coset i 1) (omega arith) (coset-in i 1 (omega arith)),
+          F-le 2 (coset i 2) (omega arith) (coset-in i 2 (omega arith)),
+          F-le 3 (coset i 3) (omega arith) (coset-in i 3 (omega arith)),
+        )
+
+    -- what the walk asks
+    pub slots-ok : Slots (turns-of s) f sl st
+    slots-ok = record {
+      some = w .some;
+      few = w .few;
+      slots = w .slots-long;
+      steps = w .steps-long;
+      ends = sym (l .gathered .long ∙ l .placed .long);
+      above = w .above;
+      below = w .below;
+      short = omega (arith, l .gathered .long, l .placed .long, w .short);
+      room = λ i li. omega (arith, total-is i li, over-le i);
+    }
+
+    abbrev best : ℕ
+    best = S.best y none cap bound light (omega arith) (omega arith)
+
+    pub totals-are : least-total cap f sl st (turns-of s) ≡ best
+    totals-are = least-same (total f sl st) (λ i. over F (coset i)) cap tuples total-is
+
+    -- THE LEAST TOTAL is the least cost
+    pub least-is : Least (s .m) (is-codeword (s .m) (s .r)) row (least-total cap f sl st (turns-of s))
+    least-is = rw totals-are (S.least y none cap bound light (omega arith) (omega arith))
+
+    pub least-small : least-total cap f sl st (turns-of s) < bound
+    least-small = rw totals-are (S.best-small y none cap bound light (omega arith) (omega arith))
+
+    -- a place is in some slot
+    pub in-slot : (p : ℕ) → p < length places → (j : ℕ) × (j < 4) × (start sl j ≤ p) × (p < start sl (suc j))
+    unfolding slots slots-from
+    in-slot p h = go (decLe (start sl 3) p) (decLe (start sl 2) p) (decLe (start sl 1) p)
+      where
+        go : Dec (start sl 3 ≤ p) → Dec (start sl 2 ≤ p) → Dec (start sl 1 ≤ p) → (j : ℕ) × (j < 4) × (start sl j ≤ p) × (p < start sl (suc j))
+        go (yes x) y z = (3, omega arith, x, omega (arith, l .placed .long))
+        go (no x) (yes y) z = (2, omega arith, y, omega arith)
+        go (no x) (no y) (yes z) = (1, omega arith, z, omega arith)
+        go (no x) (no y) (no z) = (0, omega arith, omega arith, omega arith)
+
+    -- WHAT THE OTHER LAYERS COST
+    module _ {g a : List ℕ} (mg : Marginals (turns-of s) cap f sl st g) (lg : length g ≡ length places) (sc : Scattered cap f g places a) (la : length a ≡ s .size * 4) where
+      at-spot : (i j : ℕ) → i < tuples → j < 4 → getD g (spot sl st i j) 0 ≤ total f sl st i
+      at-spot i j li lj =
+          let p : ℕ = spot sl st i j in
+          let o = spot-in i j li lj in
+          omega (
+            arith,
+            mg j p lj (o .0) (o .1),
+            least-le (λ k. cond (eqb (spot sl st k j) p) (total f sl st k) cap) cap tuples i li,
+            ap (λ (x : Bool). cond x (total f sl st i) cap) (eq-eqb (spot sl st i j) p refl),
+          )
+
+      pub others-ok : (j : ℕ) → j < 4 → Others F coset tuples j (s .size) bound (λ x. entry a x j)
+      others-ok j lj = record { no-less = no-less; met = met }
+        where
+          no-less : (i : ℕ) → i < tuples → entry a (coset i j) j + F j (coset i j) ≤ over F (coset i)
+          no-less i li =
+              let p : ℕ = spot sl st i j in
+              let x : ℕ = coset i j * 4 + j in
+              omega (
+                arith,
+                sc .others x (omega (arith, coset-in i j lj)),
+                least-le (λ p. cond (eqb (getD places p 0) x) (getD g p 0 - getD f p 0) cap) cap (length places) p (spot-long i j li lj),
+                ap (λ (y : Bool). cond y (getD g p 0 - getD f p 0) cap) (eq-eqb (getD places p 0) x (stands i j li lj)),
+                at-spot i j li lj,
+                total-is i li,
+                place-cost i j li lj,
+                part-le F (coset i) j lj,
+              )
+
+          met : (x : ℕ) → x < s .size → entry a x j < bound → (k : ℕ) × (k < tuples) × (coset k j ≡ x) × (entry a x j + F j x ≡ over F (coset k))
+          met x lx h = with-place (least-found (λ p. cond (eqb (getD places p 0) (x * 4 + j)) (getD g p 0 - getD f p 0) cap) cap (length places) (omega (arith, e)))
+            where
+              e : entry a x j ≡ leastOf (λ p. cond (eqb (getD places p 0) (x * 4 + j)) (getD g p 0 - getD f p 0) cap) cap (length places)
+              e = sc .others (x * 4 + j) (omega arith)
+
+              -- the tuple
+              with-tuple : (p jj i : ℕ) → jj < 4 → i < tuples → getD places p 0 ≡ x * 4 + j → getD f p 0 ≡ F j x → getD g p 0 - getD f p 0 ≡ entry a x j →
+                  (q : Bool) → eqb (spot sl st i jj) p ≡ q → cond q (total f sl st i) cap ≡ getD g p 0 → getD g p 0 < cap → (k : ℕ) × (k < tuples) × (coset k j ≡ x) × (entry a x j + F j x ≡ over F (coset k))
+              with-tuple p jj i lj' li ep ef eg true q eq lg =
+                  let v : coset i jj * 4 + jj ≡ x * 4 + j = sym (stands i jj li lj') ∙ ap (λ (n : ℕ). getD places n 0) (eqb-true (spot sl st i jj) p q) ∙ ep in
+                  let vj : jj ≡ j = omega arith in
+                  let vx : coset i jj ≡ x = omega arith in
+                  let c : coset i j ≡ x = ap (coset i) (sym vj) ∙ vx in
+                  (i, li, c, omega (arith, total-is i li, part-le F (coset i) j lj, ap (F j) c))
+              with-tuple p jj i lj' li ep ef eg false q eq lg = absurd (omega arith)
+
+              with-place : (p : ℕ) × (p < length places) × (cond (eqb (getD places p 0) (x * 4 + j)) (getD g p 0 - getD f p 0) cap ≡ leastOf (λ p. cond (eqb (getD places p 0) (x * 4 + j)) (getD g p 0 - getD f p 0) cap) cap (length places)) → (k : ℕ) × (k < tuples) × (coset k j ≡ x) × (entry a x j + F j x ≡ over F (coset k))
+              with-place r = go (eqb (getD places (r .0) 0) (x * 4 + j)) refl (r .2)
+                where
+                  p : ℕ
+                  p = r .0
+
+                  go : (q : Bool) → eqb (getD places p 0) (x * 4 + j) ≡ q → cond q (getD g p 0 - getD f p 0) cap ≡ leastOf (λ p. cond (eqb (getD places p 0) (x * 4 + j)) (getD g p 0 - getD f p 0) cap) cap (length places) → (k : ℕ) × (k < tuples) × (coset k j ≡ x) × (entry a x j + F j x ≡ over F (coset k))
+                  go false q u = absurd (omega (arith, e))
+                  go true q u =
+                      let ep : getD places p 0 ≡ x * 4 + j = eqb-true (getD places p 0) (x * 4 + j) q in
+                      let ef : getD f p 0 ≡ F j x = l .gathered .costs p (r .1) ∙ ap (λ (n : ℕ). getD t n 0 / 65536) ep ∙ key-cost x j lx lj in
+                      let o = in-slot p (r .1) in
+                      let m : getD g p 0 ≡ least-at cap f sl st (turns-of s) (o .0) p = mg (o .0) p (o .1) (o .2) (o .3) in
+                      let low : getD g p 0 < cap = omega (arith, e, F-le j x lj lx) in
+                      let k = least-found (λ i. cond (eqb (spot sl st i (o .0)) p) (total f sl st i) cap) cap tuples (omega arith) in
+                      with-tuple p (o .0) (k .0) (o .1) (k .1) ep ef (u ∙ sym e) (eqb (spot sl st (k .0) (o .0)) p) refl (k .2 ∙ sym m) low

@@ -14,9 +14,10 @@ use Rattle.trellis.specs.Trellis.{pick}
 use Rattle.trellis.specs.Rows as R
 use Rattle.lanes.specs.Lanes.{entry, lane, row}
 use Rattle.lanes.proofs.Rows as RR
-use Rattle.glue.specs.Walk.{sum4}
-use Rattle.search.specs.Within.{symbol-cost, word-cost, Own, Symbol, Spelt}
-use Rattle.search.proofs.Layering.{by-layers}
+use Rattle.walk.specs.Walk.{sum4}
+use Rattle.bridge.specs.Bridge.{Costed}
+use Rattle.bridge.proofs.Layering.{by-layers}
+use Rattle.search.specs.Within.{symbol-cost, word-cost, Own, Symbol}
 
 pub pick-one : (b z o : ℕ) → (b ≡ 0 → ⊥) → o ≡ pick b z o
 pick-one zero z o n = absurd (n refl)
@@ -73,9 +74,9 @@ unfolding word-cost T.cost P.layer
 word-layers hs zs os i [] = refl
 word-layers hs zs os i (c ∷ cs) = omega (arith, word-layers hs zs os (suc i) cs)
 
-pub own-cost : (m r : ℕ) → width-good m ≡ true → (rs : List ℤ) (hs zs os : List ℕ) → Spelt m r rs hs zs os → length rs ≡ row-long m → (ws : List ℕ) → length ws ≡ long m →
+pub own-cost : (m : ℕ) → width-good m ≡ true → (rs : List ℤ) (hs zs os : List ℕ) → Costed m (long m) rs zs os → length rs ≡ row-long m → (ws : List ℕ) → length ws ≡ long m →
     word-cost zs os 0 ws ≡ cost m rs ws
-own-cost m r w rs hs zs os y l ws e = word-layers hs zs os 0 ws ∙ sym (by-layers m r w rs hs zs os y l ws e)
+own-cost m w rs hs zs os y l ws e = word-layers hs zs os 0 ws ∙ sym (by-layers m w rs hs zs os y l ws e)
 
 -- the sum of a row's sizes
 pub record Weighing (rs : List ℤ) (i sum : ℕ) : Type 0 where

@@ -1,44 +1,35 @@
--- What the functions of the search ask and leave: columns, costs, and the tables of an accepted row. A reader need not believe these
+-- What the functions of the search ask and leave: costs, the tables of an accepted row, and what the walk finds over them. A reader need not believe these
 -- definitions: proofs/ ties them to codewords and metrics. Assumes nothing: these are definitions.
 use mathlib.Core.Path.{_≡_}
-use mathlib.Core.Bool.{true, cond}
+use mathlib.Core.Bool.{true}
 use mathlib.Core.List.{List, [], _∷_}
-use Prim.Native.Nat.{ℕ, suc, _+_, _*_, _/_, _%_, _^_, _≤_, _<_}
-use lib.Dec.{ltb}
+use Prim.Native.Nat.{ℕ, zero, suc, _+_, _*_, _/_, _%_, _^_, _≤_, _<_}
 use lib.ListN.{length, getD}
 use lib.IntN.{ℤ, pos}
 use Rattle.field.specs.Field.{width-good}
 use Rattle.code.specs.declared.Shape.{Shape}
 use Rattle.code.specs.Code.{long}
-use Rattle.code.specs.Within.{Coded, Numbered, number-of}
+use Rattle.code.specs.Within.{Coded}
 use Rattle.code.specs.Bits.{row-long}
-use Rattle.split.specs.Split.{column}
-use Rattle.configurations.specs.Configurations.{configurations, listed}
 use Rattle.metric.specs.Row.{row-bound, row-good}
 use Rattle.metric.specs.Cost.{costZero, costOne}
-use Rattle.trellis.specs.Trellis.{pick, first-word}
-use Rattle.trellis.specs.Rows.{layer, Layers, Made, weighed}
-use Rattle.lanes.specs.Lanes.{entry, lane}
-use Rattle.glue.specs.Walk.{sum4, total, tuple, Tuples}
+use Rattle.metric.specs.Scratch.{scratch-long}
+use Rattle.trellis.specs.Trellis.{pick}
+use Rattle.lanes.specs.Lanes.{entry, lane, lanes}
+use Rattle.tails.specs.Tails.{columns, turns}
+use Rattle.coset.specs.Coset.{Layers, Keys, Kept}
+use Rattle.walk.specs.Walk.{sum4, start, spot, least-total, Gathered, Marginals}
+use Rattle.ties.specs.Ties.{Costs, number-of, word-at}
+use Rattle.spots.specs.Spots.{slots, all-steps, Placed}
+use Rattle.bridge.specs.Bridge.{reliability, Costed}
 
--- a reliability's greatest size, a number above every cost of a word, and one above twice that and a layer's cost
-abbrev pub top : ℕ
-top = 127
-
-abbrev pub big : ℕ
-big = 7621
-
+-- a number above the cost of every word, and of a layer besides
 abbrev pub cap : ℕ
-cap = 17147
+cap = 9526
 
--- the reliability at position i of layer j; the fourth layer of m = 3 has none, and costs nothing
-abbrev pub reliability : (m : ℕ) → (row : List ℤ) → (i j : ℕ) → ℤ
-reliability m rs i j = cond (ltb j m) (getD rs (i * m + j) (pos 0)) (pos 0)
-
--- hs is the columns of a code
-pub record Headed (m r : ℕ) (hs : List ℕ) : Type 0 where
-  pub count : length hs ≡ long m
-  pub heads : (i : ℕ) → i < long m → getD hs i 0 ≡ column m r i
+-- no cost of a word reaches it
+abbrev pub bound : ℕ
+bound = 7621
 
 -- the first n positions of a row, four places each
 abbrev pub Spread : (m n : ℕ) → (row wide : List ℤ) → Type 0
@@ -56,16 +47,6 @@ pub record Costs-within (m n : ℕ) (row : List ℤ) (zs os : List ℕ) : Type 0
   pub length-row : length row ≡ n * m
   pub length-zs : length zs ≡ n * 4
   pub length-os : length os ≡ n * 4
-
--- the costs of the first n positions are written
-pub record Costed (m n : ℕ) (row : List ℤ) (zs os : List ℕ) : Type 0 where
-  pub zeros : (i j : ℕ) → i < n → j < 4 → entry zs i j ≡ costZero (reliability m row i j)
-  pub ones : (i j : ℕ) → i < n → j < 4 → entry os i j ≡ costOne (reliability m row i j)
-
--- the trellis of a row: hs, zs and os spell the columns of its layers
-pub record Spelt (m r : ℕ) (rs : List ℤ) (hs zs os : List ℕ) : Type 0 where
-  pub columns : Headed m r hs
-  pub costs : Costed m (long m) rs zs os
 
 -- what a word's symbols cost by themselves, from position i on
 abbrev pub symbol-cost : (zs os : List ℕ) → (i c : ℕ) → ℕ
@@ -92,52 +73,79 @@ pub record Symbol (top : ℕ) (z o : List ℕ) : Type 0 where
 -- a code and an accepted row of it
 pub record Input (s : Shape) (row : List ℤ) : Type 0 where
   pub coded : Coded s
-  pub numbered : Numbered s
   pub length-row : length row ≡ row-long (s .m)
   pub good-row : row-good row-bound row ≡ true
 
 -- buffers of the lengths that the search wants
-pub record Buffers (s : Shape) (zs os t : List ℕ) : Type 0 where
+pub record Buffers (s : Shape) (zs os t g : List ℕ) (kept : List ℤ) : Type 0 where
   pub length-zs : length zs ≡ s .n * 4
   pub length-os : length os ≡ s .n * 4
-  pub length-t : length t ≡ s .n * (s .size * 4) + s .size * 4
+  pub length-t : length t ≡ s .size * 4
+  pub length-g : length g ≡ s .size * 4
+  pub length-kept : length kept ≡ scratch-long
 
 -- what the tables are made of, and the tables
-pub record Tabled (s : Shape) (row : List ℤ) (hs zs os t : List ℕ) : Type 0 where
-  pub spelt : Spelt (s .m) (s .r) row hs zs os
-  pub layers : Layers (s .q) (s .size) top hs zs os
-  pub made : Made (s .size) big hs zs os 0 t
+pub record Tabled (s : Shape) (row : List ℤ) (hs zs os t : List ℕ) (kept : List ℤ) : Type 0 where
+  pub headed : hs ≡ columns (s .m) (s .r)
+  pub costs : Costed (s .m) (long (s .m)) row zs os
+  pub layers : Layers (s .q) (s .size) hs zs os
+  pub top-is : layers .top ≡ row-bound
+  pub keys : Keys (s .size) hs zs os 0 t
+  pub tables : Kept (s .q) (s .size) hs zs os kept
 
--- the configurations of a code, four places each, and how many there are
-abbrev pub tuples-of : Shape → List ℕ
-tuples-of s = listed (number-of s)
+-- the slots and the steps of a code's walk
+abbrev pub slots-of : Shape → List ℕ
+slots-of s = slots (s .m) (s .r)
 
-abbrev pub count-of : Shape → ℕ
-count-of s = configurations (number-of s)
+abbrev pub steps-of : Shape → List ℕ
+steps-of s = all-steps (s .m) (s .r)
 
--- the tables by what they are made of, for the walk
-pub record Tables (s : Shape) (hs zs os t : List ℕ) : Type 0 where
-  pub coded : Coded s
-  pub numbered : Numbered s
-  pub layers : Layers (s .q) (s .size) top hs zs os
-  pub made : Made (s .size) big hs zs os 0 t
-  pub few : length hs ≤ 15
-  pub odd : length hs % 2 ≡ 1
-  pub tuples : Tuples (s .size) (count-of s) cap t (tuples-of s)
+abbrev pub turns-of : Shape → ℕ
+turns-of s = turns (s .m) (s .r)
 
--- a number above those of all words
-abbrev pub above : ℕ
-above = 2 ^ 60
+-- the places of a walk, with what they stand for and what they cost
+pub record Laid (s : Shape) (t places f : List ℕ) : Type 0 where
+  pub placed : Placed (s .m) (s .r) (s .size) places
+  pub gathered : Gathered t places f
 
--- the number of the first word of four syndromes: the layers' numbers together
-unfoldable pub word-number : (hs zs os t : List ℕ) → ℕ
-word-number hs zs os t = sum4 (λ j. weighed j (first-word (layer hs zs os j) big (length hs) (lane t j)))
+-- rooms that are long enough for the tables, the places of the walk and their costs, and for marginals and tables by turns
+pub record Roomy (s : Shape) (t places f g : List ℕ) : Type 0 where
+  pub states-t : s .size * 4 ≤ length t
+  pub count-places : start (slots-of s) 4 ≤ length places
+  pub count-f : start (slots-of s) 4 ≤ length f
+  pub states-g : s .size * 4 ≤ length g
+  pub count-g : start (slots-of s) 4 ≤ length g
 
--- a configuration costs r
-abbrev pub Costs : Shape → (t : List ℕ) → (r k : ℕ) → Type 0
-Costs s t r k = (k < count-of s) × (total t (tuple (tuples-of s) k) ≡ r)
+-- a tuple costs x
+abbrev pub Ties : (s : Shape) → (f : List ℕ) → (x i : ℕ) → Type 0
+Ties s f x i = Costs (turns-of s) f (slots-of s) (steps-of s) x i
 
--- THE FIRST OF THE TIED: `at` is a configuration that costs r, and the first word of no such configuration has a lesser number
-pub record First-tied (s : Shape) (hs zs os t : List ℕ) (r : ℕ) (at : List ℕ) : Type 0 where
-  pub found : (k : ℕ) × Costs s t r k × (at ≡ tuple (tuples-of s) k)
-  pub first : (k : ℕ) → Costs s t r k → word-number hs zs os at ≤ word-number hs zs os (tuple (tuples-of s) k)
+-- the words of tuple i
+abbrev pub words-of : (s : Shape) → (t places : List ℕ) → (i : ℕ) → List ℕ
+words-of s t places i = lanes (λ j. word-at t places (spot (slots-of s) (steps-of s) i j))
+
+-- THE FIRST OF THE TIED: the words of a tuple that costs x, of which none comes before
+pub record First-words (s : Shape) (t places f : List ℕ) (x : ℕ) (best : List ℕ) : Type 0 where
+  pub found : (i : ℕ) × Ties s f x i × ((j : ℕ) → j < 4 → lane best j ≡ word-at t places (spot (slots-of s) (steps-of s) i j))
+  pub first : (i : ℕ) → Ties s f x i → number-of best ≤ number-of (words-of s t places i)
+
+-- the bits of a word of n, position 0 its leading bit
+unfoldable pub leading : (n w : ℕ) → List ℕ
+leading zero w = []
+leading (suc k) w = (w / 2 ^ k % 2) ∷ leading k w
+
+-- keys whose costs are those of words of a layer
+abbrev pub Small-keys : List ℕ → Type 0
+Small-keys t = (x : ℕ) → x < length t → getD t x 0 / 65536 ≤ 1905
+
+-- what the walk leaves: its places and costs, the least total, its first words, and the least with each place
+pub record Walked (s : Shape) (t places f g : List ℕ) (x : ℕ) (best : List ℕ) : Type 0 where
+  pub laid : Laid s t places f
+  pub least : x ≡ least-total cap f (slots-of s) (steps-of s) (turns-of s)
+  pub words : First-words s t places f x best
+  pub marginals : Marginals (turns-of s) cap f (slots-of s) (steps-of s) g
+  pub long-g : length g ≡ length places
+
+pub record Least-laid (s : Shape) (t places f : List ℕ) (x : ℕ) : Type 0 where
+  pub laid : Laid s t places f
+  pub least : x ≡ least-total cap f (slots-of s) (steps-of s) (turns-of s)

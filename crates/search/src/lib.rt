@@ -1,56 +1,42 @@
-// The trellis and the walk at a code and a row: the columns of a code, the costs of a row, its tables, the walk over them, and what a word costs
-// by itself.
-// proofs/Found.antt shows that what trellis and glue then find are the least costs of codewords, proofs/Foremost.antt that the configuration that is
-// found gives the first codeword of least cost, proofs/Searching.antt that the least total over the tables of an accepted row is the least cost. Its
-// functions are for the decoder and the marker.
+// The search at a code and a row: the costs of a row, its tables, the walk over them with the words that come first, what a word costs by itself, and
+// a word from its layers.
+// proofs/Searching.antt shows that the least total over the tables of an accepted row is the least cost of a codeword, and that the words that are
+// found are those of the first codeword that has it. Its functions are for the decoder and the marker.
 use code::Shape;
-use glue::Least;
+use ties::Agreed;
 ghost use mathlib.Core.Path.{_≡_};
 ghost use mathlib.Core.Bool.{true};
 ghost use Prim.Native.Nat.{ℕ, _+_, _*_, _/_, _%_, _^_, _<_, _≤_};
-ghost use lib.ListN.{length, getD, take};
+ghost use lib.ListN.{length, getD, replicate};
+ghost use lib.IntN.{pos};
 ghost use Rattle.field.specs.Field.{width-good};
-ghost use Rattle.code.specs.Within.{Coded, Numbered};
+ghost use Rattle.code.specs.Within.{Coded};
 ghost use Rattle.metric.specs.Row.{row-bound, reliability-good, row-good};
 ghost use Rattle.metric.specs.Cost.{costZero, costOne, weight-of};
 ghost use Rattle.lanes.specs.Lanes.{lane, put-four};
-ghost use Rattle.search.specs.Within.{cap, above, Tables, Costs, First-tied, reliability, Headed, Spread, Costs-to, Costs-within, Costed, Input, Buffers, Tabled, tuples-of, count-of, symbol-cost, word-cost, Own, Symbol};
 ghost use Rattle.trellis.specs.Trellis.{pick};
-ghost use Rattle.trellis.specs.Rows.{NumberRoom};
-ghost use Rattle.glue.specs.Walk.{sum4, least-total, Tuples, Walked, Marginals, Choose, Foremost};
+ghost use Rattle.trellis.specs.Rows.{symbol, weave};
+ghost use Rattle.tails.specs.Tails.{columns};
+ghost use Rattle.walk.specs.Walk.{sum4, start, least-total, Slots, Marginals};
+ghost use Rattle.bridge.specs.Bridge.{reliability, Costed};
+ghost use Rattle.spots.specs.Spots.{Placed};
+ghost use Rattle.ties.specs.Ties.{Agree};
+ghost use Rattle.search.specs.Within.{cap, Spread, Costs-to, Costs-within, Input, Buffers, Tabled, Laid, Ties, First-words, slots-of, steps-of, turns-of, leading, symbol-cost, word-cost, Own, Symbol, Small-keys, Walked, Least-laid};
 
-// A reliability's greatest size, a number above every cost of a word, and one above twice that and a layer's cost.
-pub const TOP: u16 = metric::BOUND;
-
-pub const BIG: u16 = 60 * TOP + 1;
-
-pub const CAP: u16 = 2 * BIG + 15 * TOP;
-
-// The columns of a code: the syndromes that a 1 adds at each position. There are n; what follows them says nothing.
-pub fn columns(shape: Shape) -> [u16; 15]
-    requires { ⌜ Coded shape × Numbered shape ⌝ }
-    ensures { λ x. ⌜ Headed (shape .m) (shape .r) (take (shape .n) x) ⌝ }
-{
-    if shape.m == 4 {
-        return [1, 2, 4, 8, 3, 6, 12, 11, 5, 10, 7, 14, 15, 13, 9];
-    }
-    if shape.r == 2 {
-        return [1, 2, 4, 3, 6, 7, 5, 0, 0, 0, 0, 0, 0, 0, 0];
-    }
-    [9, 26, 44, 35, 62, 23, 53, 0, 0, 0, 0, 0, 0, 0, 0]
-}
+// A number above the cost of every word, and of a layer besides.
+pub const CAP: u16 = 75 * metric::BOUND + 1;
 
 // What a 0 and a 1 contradicts of a reliability.
-fn cost_of_zero(r: i16) -> u16
+fn cost_of_zero(r: i16) -> u32
     ensures { λ x. ⌜ x ≡ costZero r ⌝ }
 {
-    if r < 0 { (0 - (r as i32)) as u16 } else { 0 }
+    if r < 0 { (0 - (r as i32)) as u32 } else { 0 }
 }
 
-fn cost_of_one(r: i16) -> u16
+fn cost_of_one(r: i16) -> u32
     ensures { λ x. ⌜ x ≡ costOne r ⌝ }
 {
-    if r > 0 { r as u16 } else { 0 }
+    if r > 0 { r as u32 } else { 0 }
 }
 
 // The reliability at position i of layer j; the fourth layer of m = 3 has none.
@@ -95,7 +81,7 @@ fn spread(m: u32, n: usize, row: &[i16], wide: &mut [i16])
 }
 
 // What a 0 and a 1 cost at each place.
-fn costs(wide: &[i16], zs: &mut [u16], os: &mut [u16])
+fn costs(wide: &[i16], zs: &mut [u32], os: &mut [u32])
     requires { ⌜ (length (now zs) ≡ length (now os)) × (length (now zs) ≤ length (now wide)) ⌝ }
     ensures { λ _. ⌜ Costs-to (length (now (zs .entry))) (now (wide .entry)) (now (zs .exit)) (now (os .exit)) ⌝ }
 {
@@ -108,8 +94,8 @@ fn costs(wide: &[i16], zs: &mut [u16], os: &mut [u16])
     }
 }
 
-// The costs of a row, four layers to a position. At each place they are found without regard to positions, several at a time.
-fn cost_rows(m: u32, n: usize, row: &[i16], zs: &mut [u16], os: &mut [u16])
+// The costs of a row that is spread first.
+fn cost_wide(m: u32, n: usize, row: &[i16], zs: &mut [u32], os: &mut [u32])
     requires { ⌜ Costs-within m n (now row) (now zs) (now os) ⌝ }
     ensures { λ _. ⌜ Costed m n (now (row .entry)) (now (zs .exit)) (now (os .exit)) ⌝ }
 {
@@ -118,150 +104,202 @@ fn cost_rows(m: u32, n: usize, row: &[i16], zs: &mut [u16], os: &mut [u16])
     costs(&wide, zs, os);
 }
 
+// The costs of a row, four layers to a position. At each place they are found without regard to positions, several at a time; with m = 4 the row has four
+// places to a position as it is.
+fn cost_rows(m: u32, n: usize, row: &[i16], zs: &mut [u32], os: &mut [u32])
+    requires { ⌜ Costs-within m n (now row) (now zs) (now os) ⌝ }
+    ensures { λ _. ⌜ Costed m n (now (row .entry)) (now (zs .exit)) (now (os .exit)) ⌝ }
+{
+    if m == 4 {
+        costs(row, zs, os);
+    } else {
+        cost_wide(m, n, row, zs, os);
+    }
+}
+
 // The layers' tables of a row.
-pub fn of_row(shape: Shape, row: &[i16], hs: &[u16], zs: &mut [u16], os: &mut [u16], t: &mut [u16])
+pub fn of_row(
+    shape: Shape,
+    row: &[i16],
+    hs: &[u16],
+    zs: &mut [u32],
+    os: &mut [u32],
+    t: &mut [u32],
+    g: &mut [u16],
+    kept: &mut [i32],
+)
     requires { ⌜ Input shape (now row) ⌝ }
-    requires { ⌜ Headed (shape .m) (shape .r) (now hs) ⌝ }
-    requires { ⌜ Buffers shape (now zs) (now os) (now t) ⌝ }
-    ensures { λ _. ⌜ Tabled shape (now (row .entry)) (now (hs .entry)) (now (zs .exit)) (now (os .exit)) (now (t .exit)) ⌝ }
+    requires { ⌜ now hs ≡ columns (shape .m) (shape .r) ⌝ }
+    requires { ⌜ Buffers shape (now zs) (now os) (now t) (now g) (now kept) ⌝ }
+    ensures { λ _. ⌜ Tabled shape (now (row .entry)) (now (hs .entry)) (now (zs .exit)) (now (os .exit)) (now (t .exit)) (now (kept .exit)) ⌝ }
+    ensures { λ _. ⌜ length (now (kept .exit)) ≡ length (now (kept .entry)) ⌝ }
 {
     cost_rows(shape.m, shape.n, row, zs, os);
-    trellis::make_tables(t, shape.q, shape.size, hs, zs, os, TOP, BIG);
+    coset::make(t, g, kept, shape.q, shape.size, hs, zs, os);
 }
 
-// A number above those of all words.
-const ABOVE: u64 = 0x1000000000000000;
-
-// The walk over the configurations of a code: the least total of the tables with a configuration that has it, and in g, which is all CAP before,
-// the least with each syndrome in each layer.
-fn walk(shape: Shape, t: &[u16], g: &mut [u16]) -> Least
-    requires { ⌜ Tuples (shape .size) (count-of shape) cap (now t) (tuples-of shape) ⌝ }
-    requires { ⌜ length (now g) ≡ shape .size * 4 ⌝ }
-    requires { ⌜ ((i : ℕ) → i < shape .size * 4 → getD (now g) i 0 ≡ cap) ⌝ }
-    ensures { λ r. ⌜ Walked (count-of shape) cap (now (t .entry)) (tuples-of shape) (r .total) (r .at) ⌝ }
-    ensures { λ _. ⌜ Marginals (shape .size) (count-of shape) cap (now (t .entry)) (tuples-of shape) (now (g .exit)) ⌝ }
+// The places of the walk, and what each costs.
+fn lay(shape: Shape, t: &[u32], places: &mut [u16], f: &mut [u16])
+    requires { ⌜ Coded shape ⌝ }
+    requires { ⌜ (length (now t) ≡ shape .size * 4) × (length (now places) ≡ start (slots-of shape) 4) × (length (now f) ≡ length (now places)) ⌝ }
+    ensures { λ _. ⌜ Laid shape (now (t .entry)) (now (places .exit)) (now (f .exit)) ⌝ }
 {
-    if shape.m == 4 {
-        let all = configurations::all_of_code_3();
-        return glue::walk(t, shape.size, &all, 256, g, CAP);
-    }
-    if shape.r == 2 {
-        let all = configurations::all_of_code_1();
-        return glue::walk(t, shape.size, &all, 8, g, CAP);
-    }
-    let all = configurations::all_of_code_2();
-    glue::walk(t, shape.size, &all, 64, g, CAP)
+    spots::fill(shape.m, shape.r, shape.size, places);
+    walk::gather(t, places, f);
 }
 
-// Of the configurations that cost the least, one whose number is the least.
-fn first_of(shape: Shape, t: &[u16], w: &[u64], least: u16) -> [u16; 4]
-    requires { ⌜ Choose (shape .size) (count-of shape) least above (now t) (now w) (tuples-of shape) ⌝ }
-    ensures { λ r. ⌜ Foremost (count-of shape) least (now (t .entry)) (now (w .entry)) (tuples-of shape) r ⌝ }
+// The least that a tuple costs, and the words of the first codeword that costs it.
+pub struct Best {
+    pub total: u16,
+    pub words: [u16; 4],
+}
+
+// Every number of a list the same.
+fn reset(g: &mut [u16], x: u16)
+    ensures { λ _. ⌜ (length (now (g .exit)) ≡ length (now (g .entry))) × ((p : ℕ) → p < length (now (g .entry)) → getD (now (g .exit)) p 0 ≡ x) ⌝ }
 {
-    if shape.m == 4 {
-        let all = configurations::all_of_code_3();
-        return glue::first_of(t, w, shape.size, &all, 256, least, ABOVE);
+    let mut p = 0;
+    while p < g.len() {
+        g[p] = x;
+        p += 1;
     }
-    if shape.r == 2 {
-        let all = configurations::all_of_code_1();
-        return glue::first_of(t, w, shape.size, &all, 8, least, ABOVE);
-    }
-    let all = configurations::all_of_code_2();
-    glue::first_of(t, w, shape.size, &all, 64, least, ABOVE)
 }
 
-// Of several configurations that cost the least, the one whose first word comes first.
-fn first_tied_with(
+// All tuples: the least total, and in g the least with each place.
+fn walk_all(shape: Shape, f: &[u16], g: &mut [u16]) -> u16
+    requires { ⌜ Coded shape ⌝ }
+    requires { ⌜ Slots (turns-of shape) (now f) (slots-of shape) (steps-of shape) × (length (now g) ≡ length (now f)) ⌝ }
+    ensures { λ r. ⌜ r ≡ least-total cap (now (f .entry)) (slots-of shape) (steps-of shape) (turns-of shape) ⌝ }
+    ensures { λ _. ⌜ Marginals (turns-of shape) cap (now (f .entry)) (slots-of shape) (steps-of shape) (now (g .exit)) ⌝ }
+{
+    reset(g, CAP);
+    let sl = spots::slots(shape.m, shape.r);
+    let st = spots::steps(shape.m, shape.r);
+    walk::walk(f, &sl, &st, spots::turns(shape.m, shape.r), g, CAP)
+}
+
+// The words of the places that take part in the least total, and whether each slot has one.
+fn agree(shape: Shape, t: &[u32], places: &[u16], g: &[u16], least: u16) -> Agreed
+    requires { ⌜ Coded shape ⌝ }
+    requires { ⌜ (length (now t) ≡ shape .size * 4) × Placed (shape .m) (shape .r) (shape .size) (now places) × (length (now g) ≡ length (now places)) ⌝ }
+    ensures { λ r. ⌜ (r .all ≡ true → Agree (slots-of shape) (now (t .entry)) (now (places .entry)) (now (g .entry)) least (r .words)) ⌝ }
+{
+    let sl = spots::slots(shape.m, shape.r);
+    ties::agree(g, t, places, &sl, least)
+}
+
+// Of the tuples that cost the least, the words that come first: the places become words on the way, and are made again.
+fn first_words(shape: Shape, t: &[u32], places: &mut [u16], f: &[u16], least: u16) -> [u16; 4]
+    requires { ⌜ Coded shape ⌝ }
+    requires { ⌜ (length (now t) ≡ shape .size * 4) × Laid shape (now t) (now places) (now f) ⌝ }
+    requires { ⌜ Slots (turns-of shape) (now f) (slots-of shape) (steps-of shape) ⌝ }
+    requires { ⌜ ((i : ℕ) × Ties shape (now f) least i) ⌝ }
+    ensures { λ r. ⌜ First-words shape (now (t .entry)) (now (places .entry)) (now (f .entry)) least r ⌝ }
+    ensures { λ _. ⌜ now (places .exit) ≡ now (places .entry) ⌝ }
+{
+    let sl = spots::slots(shape.m, shape.r);
+    let st = spots::steps(shape.m, shape.r);
+    ties::word_places(t, places);
+    let words = ties::first_tied(f, places, &sl, &st, spots::turns(shape.m, shape.r), least);
+    spots::fill(shape.m, shape.r, shape.size, places);
+    words
+}
+
+// The words of the first codeword that costs the least: where all that take part agree, these.
+fn words_of(
     shape: Shape,
-    hs: &[u16],
-    zs: &[u16],
-    os: &[u16],
-    t: &[u16],
+    t: &[u32],
+    places: &mut [u16],
+    f: &[u16],
+    g: &[u16],
     least: u16,
-    w: &mut [u64],
-    spare: &mut [u64],
 ) -> [u16; 4]
-    requires { ⌜ Tables shape (now hs) (now zs) (now os) (now t) ⌝ }
-    requires { ⌜ NumberRoom (shape .size) (now hs) (now w) (now spare) ⌝ }
-    requires { ⌜ ((k : ℕ) × Costs shape (now t) least k) ⌝ }
-    ensures { λ r. ⌜ First-tied shape (now (hs .entry)) (now (zs .entry)) (now (os .entry)) (now (t .entry)) least r ⌝ }
+    requires { ⌜ Coded shape ⌝ }
+    requires { ⌜ Small-keys (now t) × (length (now t) ≡ shape .size * 4) × Laid shape (now t) (now places) (now f) ⌝ }
+    requires { ⌜ least ≡ least-total cap (now f) (slots-of shape) (steps-of shape) (turns-of shape) ⌝ }
+    requires { ⌜ (length (now g) ≡ length (now places)) × Marginals (turns-of shape) cap (now f) (slots-of shape) (steps-of shape) (now g) ⌝ }
+    ensures { λ r. ⌜ First-words shape (now (t .entry)) (now (places .entry)) (now (f .entry)) least r ⌝ }
+    ensures { λ _. ⌜ now (places .exit) ≡ now (places .entry) ⌝ }
 {
-    trellis::number_words(t, shape.q, shape.size, hs, zs, os, TOP, BIG, w, spare);
-    first_of(shape, t, spare, least)
-}
-
-// The same with room of its own for the numbers.
-fn first_tied(shape: Shape, hs: &[u16], zs: &[u16], os: &[u16], t: &[u16], least: u16) -> [u16; 4]
-    requires { ⌜ Tables shape (now hs) (now zs) (now os) (now t) ⌝ }
-    requires { ⌜ ((k : ℕ) × Costs shape (now t) least k) ⌝ }
-    ensures { λ r. ⌜ First-tied shape (now (hs .entry)) (now (zs .entry)) (now (os .entry)) (now (t .entry)) least r ⌝ }
-{
-    let mut w_room = [0u64; 256];
-    let w: &mut [u64] = &mut w_room;
-    let mut spare_room = [0u64; 256];
-    let spare: &mut [u64] = &mut spare_room;
-    let states = shape.size * 4;
-    first_tied_with(
-        shape,
-        hs,
-        zs,
-        os,
-        t,
-        least,
-        &mut w[..states],
-        &mut spare[..states],
-    )
-}
-
-// The least total over the configurations, with the one that has it or, of several, the one whose first word comes first; and in g, which is all
-// CAP before, the least with each syndrome in each layer.
-pub fn best_of(shape: Shape, hs: &[u16], zs: &[u16], os: &[u16], t: &[u16], g: &mut [u16]) -> Least
-    requires { ⌜ Tables shape (now hs) (now zs) (now os) (now t) ⌝ }
-    requires { ⌜ least-total cap (now t) (tuples-of shape) (count-of shape) < cap ⌝ }
-    requires { ⌜ length (now g) ≡ shape .size * 4 ⌝ }
-    requires { ⌜ ((i : ℕ) → i < shape .size * 4 → getD (now g) i 0 ≡ cap) ⌝ }
-    ensures { λ r. ⌜ r .total ≡ least-total cap (now (t .entry)) (tuples-of shape) (count-of shape) ⌝ }
-    ensures { λ r. ⌜ First-tied shape (now (hs .entry)) (now (zs .entry)) (now (os .entry)) (now (t .entry)) (r .total) (r .at) ⌝ }
-    ensures { λ _. ⌜ Marginals (shape .size) (count-of shape) cap (now (t .entry)) (tuples-of shape) (now (g .exit)) ⌝ }
-{
-    let least = walk(shape, t, g);
-    // Four marginals are the least, one in each layer: a single configuration costs it.
-    if glue::count_of(g, least.total) == 4 {
-        return least;
+    let agreed = agree(shape, t, places, g, least);
+    if agreed.all {
+        let words = agreed.words;
+        return words;
     }
-    let at = first_tied(shape, hs, zs, os, t, least.total);
-    Least {
-        total: least.total,
-        at,
+    first_words(shape, t, places, f, least)
+}
+
+// The walk: the least total, the words of the first codeword that has it, and in g the least with each place.
+pub fn best_of(shape: Shape, t: &[u32], places: &mut [u16], f: &mut [u16], g: &mut [u16]) -> Best
+    requires { ⌜ Coded shape ⌝ }
+    requires { ⌜ Small-keys (now t) × (length (now t) ≡ shape .size * 4) ⌝ }
+    requires { ⌜ (length (now places) ≡ start (slots-of shape) 4) × (length (now f) ≡ length (now places)) × (length (now g) ≡ length (now places)) ⌝ }
+    ensures { λ r. ⌜ Walked shape (now (t .entry)) (now (places .exit)) (now (f .exit)) (now (g .exit)) (r .total) (r .words) ⌝ }
+{
+    lay(shape, t, places, f);
+    let least = walk_all(shape, f, g);
+    let words = words_of(shape, t, places, f, g, least);
+    Best {
+        total: least,
+        words,
     }
 }
 
 // The least total alone.
-pub fn least_of(shape: Shape, t: &[u16]) -> u16
-    requires { ⌜ Tuples (shape .size) (count-of shape) cap (now t) (tuples-of shape) ⌝ }
-    ensures { λ r. ⌜ r ≡ least-total cap (now (t .entry)) (tuples-of shape) (count-of shape) ⌝ }
+pub fn least_of(shape: Shape, t: &[u32], places: &mut [u16], f: &mut [u16]) -> u16
+    requires { ⌜ Coded shape ⌝ }
+    requires { ⌜ Small-keys (now t) × (length (now t) ≡ shape .size * 4) ⌝ }
+    requires { ⌜ (length (now places) ≡ start (slots-of shape) 4) × (length (now f) ≡ length (now places)) ⌝ }
+    ensures { λ r. ⌜ Least-laid shape (now (t .entry)) (now (places .exit)) (now (f .exit)) r ⌝ }
 {
-    if shape.m == 4 {
-        let all = configurations::all_of_code_3();
-        return glue::least_of(t, shape.size, &all, 256, CAP);
+    lay(shape, t, places, f);
+    let sl = spots::slots(shape.m, shape.r);
+    let st = spots::steps(shape.m, shape.r);
+    walk::least_of(f, &sl, &st, spots::turns(shape.m, shape.r), CAP)
+}
+
+// The bit of a word at a place.
+fn bit_at(w: u16, k: u32) -> u8
+    requires { ⌜ k < 16 ⌝ }
+    ensures { λ r. ⌜ (r ≡ w / 2 ^ k % 2) × (r < 2) ⌝ }
+{
+    ((w >> k) % 2) as u8
+}
+
+// The symbol of four layers at a place.
+fn symbol_at(words: [u16; 4], k: u32) -> u8
+    requires { ⌜ k < 16 ⌝ }
+    ensures { λ r. ⌜ r ≡ symbol (λ j. lane words j / 2 ^ k % 2) ⌝ }
+{
+    bit_at(words[0], k)
+        + 2 * bit_at(words[1], k)
+        + 4 * bit_at(words[2], k)
+        + 8 * bit_at(words[3], k)
+}
+
+// The word of four layers, each a number with position 0 as its leading bit.
+pub fn write_word(words: [u16; 4], word: &mut [u8])
+    requires { ⌜ length (now word) ≤ 15 ⌝ }
+    ensures { λ _. ⌜ now (word .exit) ≡ weave (λ j. leading (length (now (word .entry))) (lane words j)) ⌝ }
+{
+    let mut k = word.len();
+    let mut i = 0;
+    while 0 < k {
+        k -= 1;
+        word[i] = symbol_at(words, k as u32);
+        i += 1;
     }
-    if shape.r == 2 {
-        let all = configurations::all_of_code_1();
-        return glue::least_of(t, shape.size, &all, 8, CAP);
-    }
-    let all = configurations::all_of_code_2();
-    glue::least_of(t, shape.size, &all, 64, CAP)
 }
 
 // What a bit costs.
-fn bit_cost(b: u8, z: u16, o: u16) -> u32
+fn bit_cost(b: u8, z: u32, o: u32) -> u32
     ensures { λ r. ⌜ r ≡ pick b z o ⌝ }
 {
-    if b == 0 { z as u32 } else { o as u32 }
+    if b == 0 { z } else { o }
 }
 
 // What a symbol costs, from the costs of its position.
-fn symbol_cost(top: u16, c: u8, z: [u16; 4], o: [u16; 4]) -> u32
+fn symbol_cost(top: u16, c: u8, z: [u32; 4], o: [u32; 4]) -> u32
     requires { ⌜ Symbol top z o ⌝ }
     ensures { λ r. ⌜ (r ≡ sum4 (λ j. pick (c / 2 ^ j % 2) (lane z j) (lane o j))) × (r ≤ top * 4) ⌝ }
 {
@@ -273,16 +311,16 @@ fn symbol_cost(top: u16, c: u8, z: [u16; 4], o: [u16; 4]) -> u32
 }
 
 // What the symbol at position i costs.
-fn cost_at(top: u16, zs: &[u16], os: &[u16], word: &[u8], i: usize) -> u32
+fn cost_at(top: u16, zs: &[u32], os: &[u32], word: &[u8], i: usize) -> u32
     requires { ⌜ Own top (now zs) (now os) (now word) ⌝ }
     requires { ⌜ i < length (now word) ⌝ }
     ensures { λ r. ⌜ (r ≡ symbol-cost (now (zs .entry)) (now (os .entry)) i (getD (now (word .entry)) i 0)) × (r ≤ top * 4) ⌝ }
 {
-    symbol_cost(top, word[i], lanes::load(zs, i), lanes::load(os, i))
+    symbol_cost(top, word[i], rows::load(zs, i), rows::load(os, i))
 }
 
 // What a word costs by itself. Two symbols a turn.
-pub fn word_cost(top: u16, zs: &[u16], os: &[u16], word: &[u8]) -> u32
+pub fn word_cost(top: u16, zs: &[u32], os: &[u32], word: &[u8]) -> u32
     requires { ⌜ Own top (now zs) (now os) (now word) ⌝ }
     ensures { λ r. ⌜ r ≡ word-cost (now (zs .entry)) (now (os .entry)) 0 (now (word .entry)) ⌝ }
 {
@@ -305,7 +343,7 @@ fn size_of(r: i16) -> u32
     requires { ⌜ reliability-good row-bound r ≡ true ⌝ }
     ensures { λ x. ⌜ (x ≡ costZero r + costOne r) × (x ≤ 127) ⌝ }
 {
-    (cost_of_zero(r) + cost_of_one(r)) as u32
+    cost_of_zero(r) + cost_of_one(r)
 }
 
 // The sum of a row's sizes.
@@ -321,4 +359,24 @@ pub fn weight(row: &[i16]) -> u32
         i += 1;
     }
     sum
+}
+
+// How many places the walk of a code has.
+pub fn places_of(shape: Shape) -> usize
+    requires { ⌜ Coded shape ⌝ }
+    ensures { λ x. ⌜ x ≡ start (slots-of shape) 4 ⌝ }
+{
+    let sl = spots::slots(shape.m, shape.r);
+    sl[4] as usize
+}
+
+// Every number of the scratch 0.
+pub fn clear(scratch: &mut [i32])
+    ensures { λ _. ⌜ now (scratch .exit) ≡ replicate (length (now (scratch .entry))) (pos 0) ⌝ }
+{
+    let mut k = 0;
+    while k < scratch.len() {
+        scratch[k] = 0;
+        k += 1;
+    }
 }

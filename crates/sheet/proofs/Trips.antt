@@ -11,7 +11,7 @@ use Rattle.refusal.proofs.Tests.{passed, first-none}
 use Rattle.code.specs.Code.{code-good, width, long, symbols-good}
 use Rattle.code.specs.Bits.{row-long}
 use Rattle.code.proofs.Words.{Below}
-use Rattle.code.proofs.Promise.{codes}
+use Rattle.code.proofs.Promise.{codes, few-codes}
 use Rattle.code.proofs.Accepted.{number-taken, number-free}
 use Rattle.metric.specs.Row.{row-good}
 use Rattle.sheet.specs.declared.Form.{Form}
@@ -47,11 +47,11 @@ unfolding question-good
 parts-good f q g = rw (g .known, lt-ltb _ _ (g .small), eq-eqb _ _ (g .row-length), g .row-fine, eq-eqb _ _ (g .word-length), g .word-fine)
 
 pub code-lt : (c : ℕ) → code-good c ≡ true → c < 16
-code-lt = codes (λ c. c < 16) (lit< tt) (lit< tt) (lit< tt)
+code-lt c g = omega (arith, few-codes c g)
 
 pub width-le : (c : ℕ) → code-good c ≡ true → width c ≤ 4
 unfolding width
-width-le = codes (λ c. width c ≤ 4) (lit≤ tt) (lit≤ tt) (lit≤ tt)
+width-le = codes (λ c. width c ≤ 4) (lit≤ tt) (lit≤ tt) (lit≤ tt) (lit≤ tt) (lit≤ tt)
 
 -- a word that is a head or an end: of a kind, with a code and a number
 module _ (k c n : ℕ) (hc : c < 16) (hn : n < 2 ^ 24) where

@@ -1,7 +1,6 @@
 -- What the data of the ten codes have in common: tests at each of them.
 -- Assumes nothing.
 use Rattle.basics.proofs.Kit.{_≡_, refl, Bool, true, false, _&&_, cond, ℕ, _+_, _*_, _%_, _^_, _≤_, _<_, arith, eqb, leb, ltb, length, getD}
-use Prim.Native.Nat.{max}
 use mathlib.Core.Logic.{_⊎_, inl, inr}
 use lib.Dec.{T, eqb→eq, leb→le, ltb→lt}
 use lib.ListN.{List·getD-eq-default}
@@ -11,16 +10,9 @@ use Rattle.code.specs.Code.{accepted, long, message-long, bch-dimension, config
 use Rattle.tails.specs.Tails.{place-columns, steps, step, turns, step-count}
 use Rattle.tails.proofs.Accepted.{ten, tested, le-or-lt}
 use Rattle.walk.specs.Walk.{start}
-use Rattle.spots.specs.Spots.{slot-bits, stride, slots, all-steps}
+use Rattle.spots.specs.Spots.{slot-bits, room-from, room-bits, slots-from, slots, all-steps}
 use Rattle.spots.specs.Filling.{ten-columns, all-place-columns, ten-of}
 use Rattle.spots.proofs.Cases.{alike, alike-same}
-
--- the bits of the longest slot, and of the room of slot j
-abbrev pub top : (m r : ℕ) → ℕ
-top m r = max (max (slot-bits m r 0) (slot-bits m r 1)) (max (slot-bits m r 2) (slot-bits m r 3))
-
-abbrev pub wide : (m r j : ℕ) → ℕ
-wide m r j = cond (ltb j 3) (top m r) (slot-bits m r 3)
 
 -- the bits of the cosets of layer j: a layer that is not there has none
 abbrev pub deep : (m r j : ℕ) → ℕ
@@ -51,7 +43,7 @@ module _ (m r : ℕ) (a : accepted m r ≡ true) where
   steps-count = eqb→eq (length (all-steps m r)) 48 (tested (λ m r. eqb (length (all-steps m r)) 48) tt m r a)
 
   pub places-count : start (slots m r) 4 ≤ 4096
-  unfolding slots stride slot-bits place-columns
+  unfolding slots slots-from room-from slot-bits place-columns
   places-count = leb→le (start (slots m r) 4) 4096 (tested (λ m r. leb (start (slots m r) 4) 4096) tt m r a)
 
   pub columns-count : length (all-place-columns m r) ≡ 40
@@ -74,30 +66,36 @@ module _ (m r : ℕ) (a : accepted m r ≡ true) where
           (tested (λ m r. all 40 (λ b. ltb (getD (all-place-columns m r) b 0) (2 ^ syndrome-long m r))) tt m r a) b h)
 
   module _ (j : ℕ) (h : j < 4) where
-    sizes : T ((leb 4 (wide m r j) && leb (wide m r j) 10) && (leb (slot-bits m r j) (wide m r j) && (leb (slot-bits m r j) (top m r) && eqb (2 ^ slot-bits m r j % 16) 0)))
-    unfolding slot-bits place-columns
-    sizes = slot-test (λ m r j. (leb 4 (wide m r j) && leb (wide m r j) 10) && (leb (slot-bits m r j) (wide m r j) && (leb (slot-bits m r j) (top m r) && eqb (2 ^ slot-bits m r j % 16) 0))) tt m r j a h
+    sized : (m r j : ℕ) → Bool
+    sized m r j = leb (slot-bits m r j) (room-bits m r j) && (eqb (2 ^ slot-bits m r j % 16) 0 && eqb (start (slots m r) j % 2 ^ slot-bits m r j) 0)
 
-    pub wide-some : 4 ≤ wide m r j
-    wide-some = leb→le 4 (wide m r j) (and-l (leb 4 (wide m r j)) _ (and-l (leb 4 (wide m r j) && leb (wide m r j) 10) _ sizes))
+    sizes : T ((leb 4 (room-bits m r j) && leb (room-bits m r j) 10) && sized m r j)
+    unfolding sized slots slots-from room-from slot-bits place-columns
+    sizes = slot-test (λ m r j. (leb 4 (room-bits m r j) && leb (room-bits m r j) 10) && sized m r j) tt m r j a h
 
-    pub wide-few : wide m r j ≤ 10
-    wide-few = leb→le (wide m r j) 10 (and-r (leb 4 (wide m r j)) _ (and-l (leb 4 (wide m r j) && leb (wide m r j) 10) _ sizes))
+    pub room-some : 4 ≤ room-bits m r j
+    room-some = leb→le 4 (room-bits m r j) (and-l (leb 4 (room-bits m r j)) _ (and-l (leb 4 (room-bits m r j) && leb (room-bits m r j) 10) _ sizes))
 
-    rest : T (leb (slot-bits m r j) (wide m r j) && (leb (slot-bits m r j) (top m r) && eqb (2 ^ slot-bits m r j % 16) 0))
-    rest = and-r (leb 4 (wide m r j) && leb (wide m r j) 10) _ sizes
+    pub room-few : room-bits m r j ≤ 10
+    room-few = leb→le (room-bits m r j) 10 (and-r (leb 4 (room-bits m r j)) _ (and-l (leb 4 (room-bits m r j) && leb (room-bits m r j) 10) _ sizes))
 
-    pub bits-wide : slot-bits m r j ≤ wide m r j
-    bits-wide = leb→le (slot-bits m r j) (wide m r j) (and-l (leb (slot-bits m r j) (wide m r j)) _ rest)
+    rest : T (sized m r j)
+    rest = and-r (leb 4 (room-bits m r j) && leb (room-bits m r j) 10) _ sizes
 
-    last : T (leb (slot-bits m r j) (top m r) && eqb (2 ^ slot-bits m r j % 16) 0)
-    last = and-r (leb (slot-bits m r j) (wide m r j)) _ rest
+    pub bits-room : slot-bits m r j ≤ room-bits m r j
+    unfolding sized
+    bits-room = leb→le (slot-bits m r j) (room-bits m r j) (and-l (leb (slot-bits m r j) (room-bits m r j)) _ rest)
 
-    pub bits-top : slot-bits m r j ≤ top m r
-    bits-top = leb→le (slot-bits m r j) (top m r) (and-l (leb (slot-bits m r j) (top m r)) _ last)
+    last : T (eqb (2 ^ slot-bits m r j % 16) 0 && eqb (start (slots m r) j % 2 ^ slot-bits m r j) 0)
+    unfolding sized
+    last = and-r (leb (slot-bits m r j) (room-bits m r j)) _ rest
 
     pub bits-sixteen : 2 ^ slot-bits m r j % 16 ≡ 0
-    bits-sixteen = eqb→eq (2 ^ slot-bits m r j % 16) 0 (and-r (leb (slot-bits m r j) (top m r)) _ last)
+    bits-sixteen = eqb→eq (2 ^ slot-bits m r j % 16) 0 (and-l (eqb (2 ^ slot-bits m r j % 16) 0) _ last)
+
+    -- a slot begins at a multiple of its length
+    pub begins : start (slots m r) j % 2 ^ slot-bits m r j ≡ 0
+    begins = eqb→eq (start (slots m r) j % 2 ^ slot-bits m r j) 0 (and-r (eqb (2 ^ slot-bits m r j % 16) 0) _ last)
 
     pub ten-right : ten-of (all-place-columns m r) j ≡ ten-columns m r j
     unfolding all-place-columns ten-columns place-columns
@@ -111,7 +109,7 @@ module _ (m r : ℕ) (a : accepted m r ≡ true) where
       where
         go : (10 ≤ b) ⊎ (b < 10) → getD (place-columns m r j) b 0 < 2 ^ deep m r j
         go (inl k) =
-            let short : length (place-columns m r j) ≤ b = omega (arith, bits-wide, wide-few) in
+            let short : length (place-columns m r j) ≤ b = omega (arith, bits-room, room-few) in
             rw (List·getD-eq-default (place-columns m r j) 0 {n = b} short) (pow-pos (deep m r j))
         go (inr k) =
             ltb→lt (getD (place-columns m r j) b 0) (2 ^ deep m r j)

@@ -13,7 +13,7 @@ use Rattle.tails.proofs.Accepted.{le-or-lt}
 use Rattle.tails.specs.Tails.{place-columns, picked, marked}
 use Rattle.tails.proofs.Picked.{pick-none, picked-append, picked-take, picked-chosen, chosen-lt}
 use Rattle.walk.specs.Walk.{start}
-use Rattle.spots.specs.Spots.{stride, slots, Placed}
+use Rattle.spots.specs.Spots.{room-bits, slots-from, slots, Placed}
 use Rattle.spots.specs.Filling.{ten-columns, all-place-columns, ten-of, entry, Slots, Slots-filled}
 use Rattle.spots.proofs.Filled.{ten-below}
 use Rattle.spots.proofs.Data as D
@@ -33,8 +33,8 @@ picked-ten es p h =
     ∙ ap (xor (picked es p)) (picked-zeros 10 _) ∙ X.zero-r (picked es p)
 
 module _ (m r : ℕ) (a : accepted m r ≡ true) where
-  pub apart : (j : ℕ) → j < 4 → start (slots m r) (suc j) ≡ start (slots m r) j + 2 ^ D.wide m r j
-  unfolding slots stride
+  pub apart : (j : ℕ) → j < 4 → start (slots m r) (suc j) ≡ start (slots m r) j + 2 ^ room-bits m r j
+  unfolding slots slots-from
   apart zero h = omega arith
   apart (suc zero) h = omega arith
   apart (suc (suc zero)) h = omega arith
@@ -42,12 +42,12 @@ module _ (m r : ℕ) (a : accepted m r ≡ true) where
   apart (suc (suc (suc (suc j)))) h = absurd (omega arith)
 
   pub asked : (l : List ℕ) → length l ≡ start (slots m r) 4 → Slots (all-place-columns m r) (slots m r) l
-  unfolding slots
+  unfolding slots slots-from
   asked l e = record {
     columns-long = D.columns-count m r a;
     slots-long = refl;
     small = λ b. omega (arith, D.all-small m r a b, pow-mono (D.syndrome-few m r a));
-    apart = λ j h. record { bits = D.wide m r j; some = D.wide-some m r a j h; few = D.wide-few m r a j h; ends = apart j h };
+    apart = λ j h. record { bits = room-bits m r j; some = D.room-some m r a j h; few = D.room-few m r a j h; ends = apart j h };
     ends = sym e;
   }
 
@@ -59,7 +59,7 @@ module _ (m r : ℕ) (a : accepted m r ≡ true) where
     pub below : p < start (slots m r) (suc slot)
 
   first : start (slots m r) 0 ≡ 0
-  unfolding slots
+  unfolding slots slots-from
   first = refl
 
   found : (p : ℕ) → p < start (slots m r) 4 → Found p
@@ -79,7 +79,7 @@ module _ (m r : ℕ) (a : accepted m r ≡ true) where
     entries = λ j p lj lp.
         f .entries j p lj lp
         ∙ ap (λ (x : List ℕ). entry x j p) (D.ten-right m r a j lj)
-        ∙ ap (λ (x : ℕ). x * 4 + j) (picked-ten (place-columns m r j) p (omega (arith, apart j lj, pow-mono (D.wide-few m r a j lj))));
+        ∙ ap (λ (x : ℕ). x * 4 + j) (picked-ten (place-columns m r j) p (omega (arith, apart j lj, pow-mono (D.room-few m r a j lj))));
     inside = λ p lp. in-slot p (found p (omega (arith, f .long)));
   }
     where

@@ -1,7 +1,7 @@
 -- Where the walk of a code goes: its rows stay in their slots, and the place of a tuple stands for its coset.
 -- Assumes nothing.
 use Rattle.basics.proofs.Kit.{_≡_, refl, sym, ap, ap₂, _∙_, true, List, [], _∷_, _++_, ℕ, zero, suc, _+_, _-_, _*_, _/_, _%_, _^_, _≤_, _<_, arith, length, getD}
-use native.Mathlib.Nat.{mod-lt, zero-lt-suc}
+use native.Mathlib.Nat.{mod-lt, zero-lt-suc, add-zero, div-add-mod'}
 use borrow.Author.Tests.{le-ltb}
 use lib.Bits as B
 use lib.Bits.{bitXor}
@@ -11,7 +11,7 @@ use Rattle.field.specs.Field.{xor}
 use Rattle.code.specs.Code.{accepted}
 use Rattle.tails.specs.Tails.{marked, steps, step, changed-bit, off, visited, place-columns}
 use Rattle.walk.specs.Walk.{start, place, spot}
-use Rattle.spots.specs.Spots.{slot-bits, stride, slots, all-steps}
+use Rattle.spots.specs.Spots.{slot-bits, slots-from, slots, all-steps}
 use Rattle.spots.specs.Promise.{Walks, Spot-visited, Visited-inside, Visited-high}
 use Rattle.spots.proofs.Data as D
 use Rattle.spots.proofs.Entries.{picked-lt, apart}
@@ -29,14 +29,6 @@ unfolding off all-steps
 off-same m r zero j = refl
 off-same m r (suc k) j = ap₂ bitXor (off-same m r k j) (getD-zeros (steps m r) (48 - length (steps m r)) (changed-bit (suc k) * 4 + j))
 
-begins : (m r j : ℕ) → j < 4 → start (slots m r) j ≡ j * 2 ^ D.top m r
-unfolding slots stride
-begins m r zero h = omega arith
-begins m r (suc zero) h = omega arith
-begins m r (suc (suc zero)) h = omega arith
-begins m r (suc (suc (suc zero))) h = omega arith
-begins m r (suc (suc (suc (suc j)))) h = absurd (omega arith)
-
 module _ (m r : ℕ) (a : accepted m r ≡ true) (j : ℕ) (h : j < 4) where
   off-row : (k : ℕ) → D.Row m r a j h (off (all-steps m r) k j)
   unfolding off
@@ -53,17 +45,23 @@ module _ (m r : ℕ) (a : accepted m r ≡ true) (j : ℕ) (h : j < 4) where
   fits : (k : ℕ) → off (all-steps m r) k j + 16 ≤ 2 ^ slot-bits m r j
   fits k = let o = off-row k in omega (arith, o .below, o .row, D.bits-sixteen m r a j h)
 
+  -- where the slot begins
+  begun : start (slots m r) j ≡ start (slots m r) j / 2 ^ slot-bits m r j * 2 ^ slot-bits m r j
+  begun = sym (rw (D.begins m r a j h, add-zero) at (div-add-mod' (start (slots m r) j) (2 ^ slot-bits m r j)))
+
   place-off : (k : ℕ) → place (slots m r) (all-steps m r) k j ≡ start (slots m r) j + off (all-steps m r) k j
   unfolding place off
   place-off zero = omega arith
   place-off (suc k) =
-      let o : off (all-steps m r) k j < 2 ^ D.top m r = omega (arith, off-row k .below, pow-mono (D.bits-top m r a j h)) in
-      let s : step (all-steps m r) (changed-bit (suc k)) j < 2 ^ D.top m r = omega (arith, D.step-row m r a j h (changed-bit (suc k)) .below, pow-mono (D.bits-top m r a j h)) in
-      let z : step (all-steps m r) (changed-bit (suc k)) j ≡ 0 * 2 ^ D.top m r + step (all-steps m r) (changed-bit (suc k)) j = omega arith in
-      ap₂ bitXor (place-off k ∙ ap (λ (x : ℕ). x + off (all-steps m r) k j) (begins m r j h)) z
-      ∙ B.xor-block (D.top m r) j 0 (off (all-steps m r) k j) (step (all-steps m r) (changed-bit (suc k)) j) o s
-      ∙ ap (λ (x : ℕ). x * 2 ^ D.top m r + bitXor (off (all-steps m r) k j) (step (all-steps m r) (changed-bit (suc k)) j)) (B.xor-zero-r j)
-      ∙ ap (λ (x : ℕ). x + bitXor (off (all-steps m r) k j) (step (all-steps m r) (changed-bit (suc k)) j)) (sym (begins m r j h))
+      let b : ℕ = slot-bits m r j in
+      let q : ℕ = start (slots m r) j / 2 ^ b in
+      let o : off (all-steps m r) k j < 2 ^ b = off-row k .below in
+      let s = D.step-row m r a j h (changed-bit (suc k)) .below in
+      let z : step (all-steps m r) (changed-bit (suc k)) j ≡ 0 * 2 ^ b + step (all-steps m r) (changed-bit (suc k)) j = omega arith in
+      ap₂ bitXor (place-off k ∙ ap (λ (x : ℕ). x + off (all-steps m r) k j) begun) z
+      ∙ B.xor-block b q 0 (off (all-steps m r) k j) (step (all-steps m r) (changed-bit (suc k)) j) o s
+      ∙ ap (λ (x : ℕ). x * 2 ^ b + bitXor (off (all-steps m r) k j) (step (all-steps m r) (changed-bit (suc k)) j)) (B.xor-zero-r q)
+      ∙ ap (λ (x : ℕ). x + bitXor (off (all-steps m r) k j) (step (all-steps m r) (changed-bit (suc k)) j)) (sym begun)
 
   -- lane l of a row
   lane : (k l : ℕ) → l < 16 → off (all-steps m r) k j + l ≡ xor (off (steps m r) k j) l
@@ -73,7 +71,7 @@ module _ (m r : ℕ) (a : accepted m r ≡ true) (j : ℕ) (h : j < 4) where
       ap (λ (x : ℕ). x + l) o ∙ sym (B.xor-shifted (off (all-steps m r) k j / 16) 4 l lt) ∙ ap (λ (x : ℕ). bitXor x l) (sym o ∙ off-same m r k j)
 
 pub walks : Walks
-unfolding Walks slots
+unfolding Walks slots slots-from
 walks m r a = record {
   some = D.some-turns m r a;
   few = D.few-turns m r a;
@@ -81,7 +79,7 @@ walks m r a = record {
   steps-long = D.steps-count m r a;
   short = D.places-count m r a;
   above = λ k j lk h. omega (arith, place-off m r a j h k);
-  below = λ k j lk h. omega (arith, place-off m r a j h k, fits m r a j h k, apart m r a j h, pow-mono (D.bits-wide m r a j h));
+  below = λ k j lk h. omega (arith, place-off m r a j h k, fits m r a j h k, apart m r a j h, pow-mono (D.bits-room m r a j h));
 }
 
 pub spot-visited : Spot-visited
@@ -89,7 +87,7 @@ unfolding Spot-visited visited
 spot-visited m r size i j places a p li h =
     let l : i % 16 < 16 = mod-lt i (zero-lt-suc 15) in
     let at : spot (slots m r) (all-steps m r) i j ≡ start (slots m r) j + (off (all-steps m r) (i / 16) j + i % 16) = omega (arith, place-off m r a j h (i / 16)) in
-    ap (λ (x : ℕ). getD places x 0) at ∙ p .entries j (off (all-steps m r) (i / 16) j + i % 16) h (omega (arith, fits m r a j h (i / 16), apart m r a j h, pow-mono (D.bits-wide m r a j h)))
+    ap (λ (x : ℕ). getD places x 0) at ∙ p .entries j (off (all-steps m r) (i / 16) j + i % 16) h (omega (arith, fits m r a j h (i / 16), apart m r a j h, pow-mono (D.bits-room m r a j h)))
     ∙ ap (λ (x : ℕ). marked m r j x * 4 + j) (lane m r a j h (i / 16) (i % 16) l)
 
 -- a coset of layer j has as many bits as the layer

@@ -2,21 +2,30 @@
 -- layer j is entry s * 4 + j. A reader need not believe these definitions. Assumes nothing.
 use mathlib.Core.Path.{_≡_}
 use mathlib.Core.List.{List, [], _∷_, _++_}
-use Prim.Native.Nat.{ℕ, suc, _+_, _-_, _*_, _^_, _<_, max}
+use Prim.Native.Nat.{ℕ, zero, suc, _+_, _-_, _*_, _^_, _<_, max}
 use lib.ListN.{length, getD, replicate}
 use Rattle.tails.specs.Tails.{place-columns, marked, steps}
 use Rattle.walk.specs.Walk.{start}
 
--- how many bits number the places of slot j, and how far the slots are apart: the longest of them
+-- how many bits number the places of slot j
 unfoldable pub slot-bits : (m r j : ℕ) → ℕ
 slot-bits m r j = length (place-columns m r j)
 
-unfoldable pub stride : (m r : ℕ) → ℕ
-stride m r = 2 ^ max (max (slot-bits m r 0) (slot-bits m r 1)) (max (slot-bits m r 2) (slot-bits m r 3))
+-- and of its room, which is no shorter than the slots behind it: so each begins at a multiple of its length
+unfoldable pub room-from : (left j : ℕ) → (m r : ℕ) → ℕ
+room-from zero j m r = 0
+room-from (suc k) j m r = max (slot-bits m r j) (room-from k (suc j) m r)
 
--- where each slot begins, and where the last one ends
+abbrev pub room-bits : (m r j : ℕ) → ℕ
+room-bits m r j = room-from (4 - j) j m r
+
+-- so many slots, one behind the other: where each begins, and where the last one ends
+unfoldable pub slots-from : (left j at : ℕ) → (m r : ℕ) → List ℕ
+slots-from zero j a m r = a ∷ []
+slots-from (suc k) j a m r = a ∷ slots-from k (suc j) (a + 2 ^ room-bits m r j) m r
+
 unfoldable pub slots : (m r : ℕ) → List ℕ
-slots m r = 0 ∷ stride m r ∷ 2 * stride m r ∷ 3 * stride m r ∷ (3 * stride m r + 2 ^ slot-bits m r 3) ∷ []
+slots m r = slots-from 4 0 0 m r
 
 -- the steps, in twelve rows of four
 unfoldable pub all-steps : (m r : ℕ) → List ℕ

@@ -65,8 +65,8 @@ fn softs_agree(soft: &[i16; 21], levels: &[u32; 21], words: &[u32]) -> u64 {
 const RAISED: u32 = 2667;
 
 // The mark that a word has by its own metric and the greatest, both raised.
-fn expected(code: u32, word: u32, own: u32, best: u32) -> Mark {
-    if !words::is_codeword(code, word) {
+fn expected(roots: u32, word: u32, own: u32, best: u32) -> Mark {
+    if !words::is_codeword(roots, word) {
         return Mark {
             number: 0,
             verdict: 0,
@@ -80,12 +80,22 @@ fn expected(code: u32, word: u32, own: u32, best: u32) -> Mark {
     }
 }
 
+// What the marker answers to a word: codes 1 and 2 by number, the others by m and r.
+fn marking(roots: u32, row: &[i16; 21], word: &[u8; 7]) -> Mark {
+    let mut scratch = [RUBBISH; 16384];
+    match roots {
+        2 => marker::judge_word(1, row, word, &mut scratch),
+        4 => marker::judge_word(2, row, word, &mut scratch),
+        _ => marker::judge_word_by(3, roots, row, word, &mut scratch),
+    }
+}
+
 // The mark of a word.
-fn with_mark(t: [u64; 8], code: u32, r: Row, best: u32, word: u32) -> [u64; 8] {
+fn with_mark(t: [u64; 8], roots: u32, r: Row, best: u32, word: u32) -> [u64; 8] {
     let row = r.row;
     let levels = r.levels;
-    let e = expected(code, word, words::metric(&levels, word), best);
-    let m = marker::judge_word(code, &row, &words::symbols(word));
+    let e = expected(roots, word, words::metric(&levels, word), best);
+    let m = marking(roots, &row, &words::symbols(word));
     let agrees = m.number == 0 && m.verdict == e.verdict && m.shortfall == e.shortfall;
     let u = more(t, MARKS, words::one_if(agrees));
     more(u, NONE + (e.verdict % 3) as usize, 1)
@@ -101,7 +111,7 @@ fn one_of(words: &[u32], x: u32) -> u32 {
 // word, and two with one bit turned.
 fn with_marks(
     t: [u64; 8],
-    code: u32,
+    roots: u32,
     words: &[u32],
     r: Row,
     best: u32,
@@ -109,14 +119,14 @@ fn with_marks(
     state: u32,
 ) -> [u64; 8] {
     let drawn = one_of(words, rows::next(state) / 65536 % 512);
-    let a = with_mark(t, code, r, best, decoded);
-    let b = with_mark(a, code, r, best, 0);
-    let c = with_mark(b, code, r, best, 2097151);
-    let d = with_mark(c, code, r, best, r.hard);
-    let e = with_mark(d, code, r, best, drawn);
-    let f = with_mark(e, code, r, best, decoded ^ one_of(words, 1));
-    let g = with_mark(f, code, r, best, drawn ^ 16);
-    with_mark(g, code, r, best, decoded ^ 1048576)
+    let a = with_mark(t, roots, r, best, decoded);
+    let b = with_mark(a, roots, r, best, 0);
+    let c = with_mark(b, roots, r, best, 2097151);
+    let d = with_mark(c, roots, r, best, r.hard);
+    let e = with_mark(d, roots, r, best, drawn);
+    let f = with_mark(e, roots, r, best, decoded ^ one_of(words, 1));
+    let g = with_mark(f, roots, r, best, drawn ^ 16);
+    with_mark(g, roots, r, best, decoded ^ 1048576)
 }
 
 // What the decoder answers to a row.
@@ -127,10 +137,18 @@ struct Answer {
     soft: [i16; 21],
 }
 
-fn decoding(code: u32, row: &[i16; 21]) -> Answer {
+// What a scratch holds before a call.
+const RUBBISH: i32 = 123456789;
+
+fn decoding(roots: u32, row: &[i16; 21]) -> Answer {
     let mut word = [0u8; 7];
     let mut soft = [0i16; 21];
-    let d = decoder::decode(code, row, &mut word, &mut soft);
+    let mut scratch = [RUBBISH; 16384];
+    let d = match roots {
+        2 => decoder::decode(1, row, &mut word, &mut soft, &mut scratch),
+        4 => decoder::decode(2, row, &mut word, &mut soft, &mut scratch),
+        _ => decoder::decode_by(3, roots, row, &mut word, &mut soft, &mut scratch),
+    };
     Answer {
         number: d.number,
         metric: d.metric,
@@ -153,13 +171,13 @@ fn with_decoding(t: [u64; 8], r: Row, best: words::Best, a: Answer, words: &[u32
 }
 
 // One row, decoded and marked.
-pub fn with_row(t: [u64; 8], code: u32, words: &[u32], k: u32, state: u32) -> [u64; 8] {
+pub fn with_row(t: [u64; 8], roots: u32, words: &[u32], k: u32, state: u32) -> [u64; 8] {
     let r = rows::drawn(k, state);
     let levels = r.levels;
     let row = r.row;
     let best = words::best_of(&levels, words);
-    let a = decoding(code, &row);
+    let a = decoding(roots, &row);
     let word = a.word;
     let u = with_decoding(t, r, best, a, words);
-    with_marks(u, code, words, r, best.metric, words::packed(word), state)
+    with_marks(u, roots, words, r, best.metric, words::packed(word), state)
 }

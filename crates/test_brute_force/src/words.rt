@@ -82,18 +82,22 @@ fn value(word: u32, t: u32) -> u32 {
     v
 }
 
-// Whether a word vanishes at every root of its code: α to α^2, or α to α^4.
-pub fn is_codeword(code: u32, word: u32) -> bool {
-    if value(word, 1) != 0 {
-        return false;
-    }
-    if value(word, 2) != 0 {
-        return false;
-    }
-    if code == 1 {
+// Whether a word vanishes at α^t, where that is a root.
+fn vanishes(r: u32, word: u32, t: u32) -> bool {
+    if r < t {
         return true;
     }
-    value(word, 3) == 0 && value(word, 4) == 0
+    value(word, t) == 0
+}
+
+// Whether a word vanishes at every root of its code: α to α^r, r at most 6.
+pub fn is_codeword(r: u32, word: u32) -> bool {
+    vanishes(r, word, 1)
+        && vanishes(r, word, 2)
+        && vanishes(r, word, 3)
+        && vanishes(r, word, 4)
+        && vanishes(r, word, 5)
+        && vanishes(r, word, 6)
 }
 
 pub fn one_if(b: bool) -> u64 {
@@ -109,11 +113,11 @@ fn put(to: &mut [u32], i: usize, word: u32) {
 
 // All codewords, ascending, and how many there are. Every word is written behind the codewords found so far; the next word takes its
 // place unless it is a codeword.
-pub fn list(code: u32, to: &mut [u32]) -> u64 {
+pub fn list(r: u32, to: &mut [u32]) -> u64 {
     let mut found: u64 = 0;
     for word in 0..WORDS {
         put(to, found as usize, word);
-        found = std::num::wrapping_add_u64(found, one_if(is_codeword(code, word)));
+        found = std::num::wrapping_add_u64(found, one_if(is_codeword(r, word)));
     }
     found
 }

@@ -17,24 +17,34 @@ pub fn agree() -> Tally {
     t = gives(t, 0, 0, 0x1154622, 2, 0);
     t = gives(t, 0, 0, 0x1000000, 0, 0);
     // Codes, rows, words and values.
-    t = refuses(t, 4, -128, 20, 6, 0x800000, 1);
-    t = refuses(t, 0, -128, 20, 6, 0x800000, 1);
-    t = refuses(t, 1, -128, 20, 6, 0x800000, 2);
-    t = refuses(t, 3, -128, 21, 6, 0x800000, 2);
-    t = refuses(t, 1, -128, 21, 6, 0x800000, 3);
-    t = refuses(t, 1, -128, 21, 7, 0x8000000, 5);
-    t = refuses(t, 1, 10, 21, 7, 0x8000000, 6);
-    t
+    t = refuses(t, 6, -128, 20, 6, 0x800000, 16385, 1);
+    t = refuses(t, 0, -128, 20, 6, 0x800000, 16385, 1);
+    t = refuses(t, 1, -128, 20, 6, 0x800000, 16385, 2);
+    t = refuses(t, 3, -128, 21, 6, 0x800000, 16385, 2);
+    t = refuses(t, 4, -128, 21, 6, 0x800000, 16385, 2);
+    t = refuses(t, 1, -128, 21, 6, 0x800000, 16385, 3);
+    t = refuses(t, 1, -128, 21, 7, 0x8000000, 16385, 17);
+    t = refuses(t, 1, -128, 21, 7, 0x8000000, 16384, 5);
+    refuses(t, 1, 10, 21, 7, 0x8000000, 16384, 6)
 }
 
 // In code 1, a row of equal reliabilities but for the first, with a word: the verdict and the shortfall.
 fn gives(t: Tally, all: i16, first: i16, word: u64, verdict: u32, shortfall: i32) -> Tally {
-    marks(t, 1, all, first, 21, 7, word, 0, verdict, shortfall)
+    marks(t, 1, all, first, 21, 7, word, 16384, 0, verdict, shortfall)
 }
 
-// So many equal reliabilities with a word of n symbols are refused by a number.
-fn refuses(t: Tally, code: u32, all: i16, long: usize, n: usize, word: u64, number: u32) -> Tally {
-    marks(t, code, all, all, long, n, word, number, 0, 0)
+// So many equal reliabilities with a word of n symbols and so much scratch are refused by a number.
+fn refuses(
+    t: Tally,
+    code: u32,
+    all: i16,
+    long: usize,
+    n: usize,
+    word: u64,
+    lent: usize,
+    number: u32,
+) -> Tally {
+    marks(t, code, all, all, long, n, word, lent, number, 0, 0)
 }
 
 fn marks(
@@ -45,12 +55,19 @@ fn marks(
     long: usize,
     n: usize,
     word: u64,
+    lent: usize,
     number: u32,
     verdict: u32,
     shortfall: i32,
 ) -> Tally {
     let row = words::row(all, first, all);
     let symbols = words::symbols(n, word);
-    let m = marker::judge_word(code, parts::of_row(&row, long), parts::of(&symbols, n));
+    let mut scratch = [0i32; 16400];
+    let m = marker::judge_word(
+        code,
+        parts::of_row(&row, long),
+        parts::of(&symbols, n),
+        parts::of_scratch(&mut scratch, lent),
+    );
     t.with(m.number == number && m.verdict == verdict && m.shortfall == shortfall)
 }

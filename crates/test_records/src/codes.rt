@@ -15,6 +15,8 @@ pub fn agree() -> Tally {
     let mut t = carries(Tally::none(), 1, 5, 0x10000, 7, 0x3610000);
     t = carries(t, 2, 3, 0x100, 7, 0x3213100);
     t = carries(t, 3, 13, 0x1000000000000, 15, 0x861000000000000);
+    t = carries(t, 4, 11, 0x10000000000, 15, 0x78cd10000000000);
+    t = carries(t, 5, 9, 0x100000000, 15, 0xcac397100000000);
     t = carries(t, 1, 5, 0x54622, 7, 0x1154622);
     t = carries(t, 1, 5, 0x77777, 7, 0x7777777);
     t = carries(t, 2, 3, 0x000, 7, 0x0000000);
@@ -23,18 +25,19 @@ pub fn agree() -> Tally {
     t = gives(t, TEST, 2, 7, 0x3610000, 8, 0, 0);
     t = gives(t, TEST, 3, 15, 0x861000000000001, 8, 0, 0);
     t = gives(t, TEST, 0, 1, 0x8, 1, 0, 0);
-    t = gives(t, TEST, 4, 1, 0x8, 1, 0, 0);
+    t = gives(t, TEST, 5, 15, 0x78cd10000000000, 8, 0, 0);
+    t = gives(t, TEST, 6, 1, 0x8, 1, 0, 0);
     t = gives(t, TEST, 1, 8, 0x80000000, 3, 0, 0);
     t = gives(t, TEST, 1, 7, 0x8000000, 6, 0, 0);
     // The encoder's refusals: codes, lengths and symbols. Outputs hold nines, and keep them.
-    t = gives(t, ENCODE, 4, 1, 0x8, 1, 1, 0x9);
+    t = gives(t, ENCODE, 6, 1, 0x8, 1, 1, 0x9);
     t = gives(t, ENCODE, 0, 1, 0x8, 1, 1, 0x9);
     t = gives(t, ENCODE, 1, 4, 0x8000, 3, 1, 0x9);
     t = gives(t, ENCODE, 1, 5, 0x80000, 4, 8, 0x99999999);
     t = gives(t, ENCODE, 1, 5, 0x80000, 6, 7, 0x9999999);
     t = gives(t, ENCODE, 2, 3, 0x008, 6, 7, 0x9999999);
     // The reader's: codes, lengths, symbols, and words that are no codewords.
-    t = gives(t, READ, 4, 1, 0x8, 1, 1, 0x9);
+    t = gives(t, READ, 6, 1, 0x8, 1, 1, 0x9);
     t = gives(t, READ, 1, 6, 0x800000, 3, 1, 0x9);
     t = gives(t, READ, 1, 7, 0x8000000, 4, 6, 0x999999);
     t = gives(t, READ, 1, 7, 0x8000000, 6, 5, 0x99999);

@@ -73,7 +73,7 @@ fn refusals(t: Tally) -> Tally {
     u = gives(u, 1, 12, 0x412011111110, &[1.0, 0.0, none], 14, kept, 21);
     u = gives(u, 1, 2, 0x34, &[none], 14, kept, 21);
     u = gives(u, 1, 2, 0x34, &[none], 4, kept, 20);
-    gives(u, 4, 2, 0x34, &[none], 1, kept, 20)
+    gives(u, 6, 2, 0x34, &[none], 1, kept, 20)
 }
 
 // Two pairs with 28 symbols of two lost bits between them.

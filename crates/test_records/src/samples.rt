@@ -57,7 +57,7 @@ pub fn agree() -> Tally {
     let mut t = gives(Tally::none(), 1, samples, 0, QUANTISED, 21);
     t = gives(t, 2, samples, 0, QUANTISED, 21);
     let kept = [9i16; 21];
-    t = gives(t, 4, samples, 1, kept, 21);
+    t = gives(t, 6, samples, 1, kept, 21);
     t = gives(t, 3, samples, 2, kept, 21);
     let wrong = with_nan(samples);
     t = gives(t, 1, wrong, 7, kept, 21);

@@ -63,7 +63,7 @@ pub fn agree() -> Tally {
     t = gives(t, 1, 7, 0x7777777, 0, 0, 0, 0, 21, [1u8; 21]);
     // Codes, lengths, symbols, and words that are no codewords: a configuration of zeros, and the output keeps its nines.
     let kept = [9u8; 21];
-    t = gives(t, 4, 1, 0x8, 1, 0, 0, 0, 1, kept);
+    t = gives(t, 6, 1, 0x8, 1, 0, 0, 0, 1, kept);
     t = gives(t, 1, 6, 0x800000, 3, 0, 0, 0, 1, kept);
     t = gives(t, 1, 7, 0x8000000, 4, 0, 0, 0, 20, kept);
     t = gives(t, 1, 7, 0x8000000, 6, 0, 0, 0, 21, kept);
@@ -153,33 +153,35 @@ fn layers_of(layers: [u16; 4]) -> [u8; 60] {
     all
 }
 
-// Of code 1 the entries of each list: of (5) the position of the leader's one, as a bit, and of (6) and (12) the configuration.
+// Of code 1 the entries of each list: of (5) the position of the leader's one, as a bit, and of (6) and (12) the configuration. The word whose message
+// begins with x has it.
 fn lists() -> Tally {
-    let mut t = entry(Tally::none(), 0, 0, 0, 0);
-    t = entry(t, 1, 1, 6, 4);
-    t = entry(t, 2, 2, 7, 3);
-    t = entry(t, 3, 8, 1, 7);
-    t = entry(t, 4, 4, 5, 6);
-    t = entry(t, 5, 64, 3, 2);
-    t = entry(t, 6, 16, 2, 5);
-    t = entry(t, 7, 32, 4, 1);
+    let mut t = entry(Tally::none(), 0, 0, 0, 0, 0);
+    t = entry(t, 6, 1, 1, 6, 4);
+    t = entry(t, 2, 2, 2, 7, 3);
+    t = entry(t, 4, 3, 8, 1, 7);
+    t = entry(t, 7, 4, 4, 5, 6);
+    t = entry(t, 1, 5, 64, 3, 2);
+    t = entry(t, 5, 6, 16, 2, 5);
+    t = entry(t, 3, 7, 32, 4, 1);
     t.with(!is_generated_at_square([3, 6, 1, 0]))
 }
 
 // Entry k of each list; a configuration starts with its number.
-fn entry(t: Tally, k: u16, leader: u16, second: u16, third: u16) -> Tally {
-    let c = listed(k);
+fn entry(t: Tally, x: u8, k: u16, leader: u16, second: u16, third: u16) -> Tally {
+    let c = configuration_of(x);
     t.with(leads(k, leader))
         .with(is_triple(c, k, second, third))
         .with(is_triple(c, k, times(6, k), times(4, k)))
         .with(is_generated_at_square(c))
 }
 
-// Configuration k of code 1.
-fn listed(k: u16) -> [u16; 4] {
-    let all = configurations::all_of_code_1();
-    let at = 4 * ((k % 8) as usize);
-    [all[at], all[at + 1], all[at + 2], all[at + 3]]
+// The configuration of the word of code 1 whose message is x and four zeros.
+fn configuration_of(x: u8) -> [u16; 4] {
+    let mut word = [0u8; 7];
+    let mut layers = [0u8; 21];
+    code::encode(1, &[x, 0, 0, 0, 0], &mut word);
+    split::split(1, &word, &mut layers).configuration
 }
 
 // Whether the leader of coset k of code 1 is this word.

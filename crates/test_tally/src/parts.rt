@@ -17,6 +17,10 @@ pub fn of_row_mut<'a>(s: &'a mut [i16], n: usize) -> &'a mut [i16] {
     if n < s.len() { &mut s[..n] } else { s }
 }
 
+pub fn of_scratch<'a>(s: &'a mut [i32], n: usize) -> &'a mut [i32] {
+    if n < s.len() { &mut s[..n] } else { s }
+}
+
 pub fn of_numbers<'a>(s: &'a [u32], n: usize) -> &'a [u32] {
     if n < s.len() { &s[..n] } else { s }
 }

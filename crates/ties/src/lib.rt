@@ -53,17 +53,25 @@ fn greater_of(a: u16, b: u16) -> u16
     if a <= b { b } else { a }
 }
 
-// A span with one word more, where its number x is the least.
-fn widened(s: Span, x: u16, least: u16, v: u16) -> Span
-    ensures { λ r. ⌜ Widened least x v (s .low) (s .high) (r .low) (r .high) ⌝ }
+// A span with one word more.
+fn widened(s: Span, v: u16) -> Span
+    ensures { λ r. ⌜ Widened v v v (s .low) (s .high) (r .low) (r .high) ⌝ }
 {
-    if x != least {
-        return s;
-    }
     Span {
         low: lanes::less_of(s.low, v),
         high: greater_of(s.high, v),
     }
+}
+
+// A span with the word of place p, where its number is the least; most are not, and their words are not read.
+fn place_span(g: &[u16], t: &[u32], places: &[u16], p: usize, least: u16, s: Span) -> Span
+    requires { ⌜ Read (now t) (now places) (now g) (p + 1) ⌝ }
+    ensures { λ r. ⌜ Widened least (getD (now (g .entry)) p 0) (word-at (now (t .entry)) (now (places .entry)) p) (s .low) (s .high) (r .low) (r .high) ⌝ }
+{
+    if g[p] != least {
+        return s;
+    }
+    widened(s, word_of(t, places, p))
 }
 
 // The span with the sixteen places from p on; most rows have none that takes part.
@@ -77,8 +85,7 @@ fn row_span(g: &[u16], t: &[u32], places: &[u16], p: usize, least: u16, s: Span)
     let mut r = s;
     let mut x = 0;
     while x < 16 {
-        let v = word_of(t, places, p + x);
-        let m = widened(r, g[p + x], least, v);
+        let m = place_span(g, t, places, p + x, least, r);
         r = m;
         x += 1;
     }

@@ -1,10 +1,3 @@
 pub mod Least
 pub mod Trellis
-pub mod Parts
-pub mod Neighbours
-pub mod Relaxing
-pub mod Tables
-pub mod Behind
-pub mod Traces
 pub mod Firsts
-pub mod Numbers

@@ -9,15 +9,17 @@ use lib.Ieee.{Float}
 use Rattle.refusal.specs.Refusal.{first}
 use Rattle.code.specs.Code.{long, symbols-good}
 use Rattle.code.specs.Bits.{row-long}
+use Rattle.metric.specs.Scratch.{scratch-long}
 use Rattle.quantiser.specs.Calls.{Quantise-says}
 use Rattle.receiver.specs.Calls.{Receive-says}
 use Rattle.decoder.specs.Calls.{decode-refusal}
 use Rattle.marker.specs.Calls.{mark-refusal}
 
--- a row that decoder and marker take in the code chosen, z being what the choice is refused by: with outputs of their lengths, and with any word of n symbols, neither refuses
+-- a row that decoder and marker take in the code chosen, z being what the choice is refused by: with outputs and a scratch of their lengths, and with any
+-- word of n symbols, neither refuses
 pub record Taken-on (z m : ℕ) (row : List ℤ) : Type 0 where
-  pub decoded : first z (decode-refusal m row (long m) (row-long m)) ≡ 0
-  pub marked : (word : List ℕ) → length word ≡ long m → symbols-good m word ≡ true → first z (mark-refusal m row word) ≡ 0
+  pub decoded : first z (decode-refusal m row (long m) (row-long m) scratch-long) ≡ 0
+  pub marked : (word : List ℕ) → length word ≡ long m → symbols-good m word ≡ true → first z (mark-refusal m row word scratch-long) ≡ 0
 
 -- such is the row that an accepted call of the quantiser leaves, and of the receiver
 unfoldable pub Quantised-goes-on : Type 0

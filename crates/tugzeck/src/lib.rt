@@ -14,8 +14,6 @@ ghost use Rattle.code.specs.Calls.{Encode-says, Read-says, checked, number-of};
 ghost use Rattle.split.specs.Calls.{Split-says};
 ghost use Rattle.decoder.specs.Calls.{Decode-says};
 ghost use Rattle.marker.specs.Calls.{Mark-says};
-ghost use Rattle.decoding.specs.Calls as D;
-ghost use Rattle.marking.specs.Calls as M;
 ghost use Rattle.quantiser.specs.Calls.{Quantise-says};
 ghost use Rattle.receiver.specs.Calls.{Receive-says};
 ghost use Rattle.sheet_writer.specs.Calls.{Write-says};
@@ -114,21 +112,22 @@ pub extern "C" fn tugzeck_split_by(m: u32, r: u32, word: &[u8], bch: &mut [u8]) 
     split::split_by(m, r, word, bch)
 }
 
-// Decodes a row of n·m reliabilities: 0 with the best metric, the first best word in n places and the soft outputs in n·m. Or it refuses by 1,
-// 2, 4 or 5 with the metric 0 and writes nothing.
+// Decodes a row of n·m reliabilities: 0 with the best metric, the first best word in n places and the soft outputs in n·m; the scratch, 16,384 numbers,
+// is all 0 then. Or it refuses by 1, 2, 4, 17 or 5 with the metric 0, writes nothing and leaves the scratch.
 #[no_mangle]
 pub extern "C" fn tugzeck_decode(
     code: u32,
     row: &[i16],
     word: &mut [u8],
     soft: &mut [i16],
+    scratch: &mut [i32],
 ) -> Decoding
-    ensures { λ r. ⌜ Decode-says code (now (row .entry)) r (now (word .entry)) (now (word .exit)) (now (soft .entry)) (now (soft .exit)) ⌝ }
+    ensures { λ d. ⌜ Decode-says (number-refusal code) (width code) (roots code) (now (row .entry)) d (now (word .entry)) (now (word .exit)) (now (soft .entry)) (now (soft .exit)) (now (scratch .entry)) (now (scratch .exit)) ⌝ }
 {
-    decoder::decode(code, row, word, soft)
+    decoder::decode(code, row, word, soft, scratch)
 }
 
-// The same by m and r, at every code that may be chosen, with a scratch of 16,384 numbers lent, all 0 after it. Refuses by 1, 16, 2, 4, 17 or 5.
+// The same, by m and r: refuses by 16 too, after 1.
 #[no_mangle]
 pub extern "C" fn tugzeck_decode_by(
     m: u32,
@@ -137,22 +136,22 @@ pub extern "C" fn tugzeck_decode_by(
     word: &mut [u8],
     soft: &mut [i16],
     scratch: &mut [i32],
-) -> decoding::Decoding
-    ensures { λ d. ⌜ D.Decode-says (parameter-refusal m r) m r (now (row .entry)) d (now (word .entry)) (now (word .exit)) (now (soft .entry)) (now (soft .exit)) (now (scratch .entry)) (now (scratch .exit)) ⌝ }
+) -> Decoding
+    ensures { λ d. ⌜ Decode-says (parameter-refusal m r) m r (now (row .entry)) d (now (word .entry)) (now (word .exit)) (now (soft .entry)) (now (soft .exit)) (now (scratch .entry)) (now (scratch .exit)) ⌝ }
 {
-    decoding::decode_by(m, r, row, word, soft, scratch)
+    decoder::decode_by(m, r, row, word, soft, scratch)
 }
 
-// Judges a word of n symbols for a row: 0 with the verdict (0 none, 1 short, 2 best) and the shortfall. Or it refuses by 1, 2, 3, 5 or 6 with
-// the verdict 0 and the shortfall 0.
+// Judges a word of n symbols for a row: 0 with the verdict (0 none, 1 short, 2 best) and the shortfall; the scratch is all 0 then. Or it refuses by 1, 2, 3,
+// 17, 5 or 6 with the verdict 0 and the shortfall 0 and leaves the scratch.
 #[no_mangle]
-pub extern "C" fn tugzeck_mark(code: u32, row: &[i16], word: &[u8]) -> Mark
-    ensures { λ r. ⌜ Mark-says code (now (row .entry)) (now (word .entry)) r ⌝ }
+pub extern "C" fn tugzeck_mark(code: u32, row: &[i16], word: &[u8], scratch: &mut [i32]) -> Mark
+    ensures { λ k. ⌜ Mark-says (number-refusal code) (width code) (roots code) (now (row .entry)) (now (word .entry)) k (now (scratch .entry)) (now (scratch .exit)) ⌝ }
 {
-    marker::judge_word(code, row, word)
+    marker::judge_word(code, row, word, scratch)
 }
 
-// The same by m and r, with a scratch of 16,384 numbers lent, all 0 after it. Refuses by 1, 16, 2, 3, 17, 5 or 6.
+// The same, by m and r: refuses by 16 too, after 1.
 #[no_mangle]
 pub extern "C" fn tugzeck_mark_by(
     m: u32,
@@ -160,10 +159,10 @@ pub extern "C" fn tugzeck_mark_by(
     row: &[i16],
     word: &[u8],
     scratch: &mut [i32],
-) -> marking::Mark
-    ensures { λ k. ⌜ M.Mark-says (parameter-refusal m r) m r (now (row .entry)) (now (word .entry)) k (now (scratch .entry)) (now (scratch .exit)) ⌝ }
+) -> Mark
+    ensures { λ k. ⌜ Mark-says (parameter-refusal m r) m r (now (row .entry)) (now (word .entry)) k (now (scratch .entry)) (now (scratch .exit)) ⌝ }
 {
-    marking::judge_word_by(m, r, row, word, scratch)
+    marker::judge_word_by(m, r, row, word, scratch)
 }
 
 // Turns the n·m samples of a row into reliabilities. Answers 0, or refuses by 1, 2, 4 or 7 and writes nothing.

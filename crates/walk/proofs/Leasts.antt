@@ -1,6 +1,6 @@
 -- The least of sixteen numbers a turn: lane by lane or all in one row, and what one turn more adds to it; and the least for each entry of a table.
 -- Assumes nothing.
-use Rattle.basics.proofs.Kit.{_≡_, refl, sym, ap, _∙_, cond, List, ℕ, suc, _+_, _-_, _*_, _/_, _%_, _≤_, _<_, min, arith, length, getD, set, eqb}
+use Rattle.basics.proofs.Kit.{_≡_, refl, sym, ap, _∙_, cond, List, [], ℕ, suc, _+_, _-_, _*_, _/_, _%_, _≤_, _<_, min, arith, length, getD, set, eqb}
 use native.Mathlib.Nat.{le-antisymm}
 use native.Mathlib.Decide.{decLe, ℕ-discrete}
 use native.Mathlib.Numerals.{add-one}
@@ -8,8 +8,8 @@ use borrow.Author.Tests.{eq-eqb, ne-eqb}
 use lib.ListN.{length-set}
 use lib.Seq.{getD-set-same, getD-set-other}
 use Rattle.trellis.specs.Trellis.{leastOf}
-use Rattle.trellis.proofs.Least.{least-cap, least-le, le-least}
-use Rattle.walk.specs.Turns.{Each}
+use Rattle.trellis.proofs.Least.{least-cap, least-le, le-least, least-same}
+use Rattle.walk.specs.Turns.{Each, Less-own}
 
 module _ (f : ℕ → ℕ) (cap : ℕ) where
   -- lane x of n turns
@@ -89,3 +89,24 @@ scatter-more {cap} {f} {g} {places} {size} {n} {a} m l ls e = rw e (record {
     entered x lx (no d) =
         getD-set-other a s x v 0 (λ z. d (sym z)) ∙ m .entries x lx
         ∙ rw (ne-eqb s x d) (omega (arith, least-cap (λ p. cond (eqb (getD places p 0) x) (getD g p 0 - getD f p 0) cap) cap n))
+
+-- a place more whose own cost is taken off
+pub less-own-more : {f g d : List ℕ} {n : ℕ} → Less-own f g n d → n < length g → Less-own f g (n + 1) (set d n (getD d n 0 - getD f n 0))
+less-own-more {f} {g} {d} {n} o l = record {
+  long = length-set d n v ∙ o .long;
+  less = λ p h. go p h (ℕ-discrete p n);
+  left = λ p h. getD-set-other d n p v 0 (λ e. omega arith) ∙ o .left p (omega arith);
+}
+  where
+    v : ℕ
+    v = getD d n 0 - getD f n 0
+
+    go : (p : ℕ) → p < n + 1 → Dec (p ≡ n) → getD (set d n v) p 0 ≡ getD g p 0 - getD f p 0
+    go p h (yes e) = rw e (getD-set-same d n v 0 (omega (arith, o .long)) ∙ ap (λ (y : ℕ). y - getD f n 0) (o .left n (omega arith)))
+    go p h (no e) = getD-set-other d n p v 0 e ∙ o .less p (omega arith)
+
+-- so the least of what is left is the least of the differences
+pub others-same : (cap : ℕ) {f g d : List ℕ} (places : List ℕ) → Less-own f g (length g) d → length g ≡ length places → (x : ℕ) → others cap [] d places (length places) x ≡ others cap f g places (length places) x
+others-same cap {f} {g} {d} places o e x =
+    least-same (λ p. cond (eqb (getD places p 0) x) (getD d p 0 - getD [] p 0) cap) (λ p. cond (eqb (getD places p 0) x) (getD g p 0 - getD f p 0) cap) cap (length places)
+    (λ p l. let z : getD d p 0 - 0 ≡ getD d p 0 = omega arith in ap (λ (y : ℕ). cond (eqb (getD places p 0) x) y cap) (z ∙ o .less p (omega arith)))

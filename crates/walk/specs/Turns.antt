@@ -3,7 +3,7 @@
 use mathlib.Core.Path.{_≡_}
 use mathlib.Core.Bool.{Bool, true, cond}
 use mathlib.Core.List.{List}
-use Prim.Native.Nat.{ℕ, zero, suc, _+_, _<_, min}
+use Prim.Native.Nat.{ℕ, zero, suc, _+_, _-_, _≤_, _<_, min}
 use lib.Bits.{bitXor}
 use lib.Dec.{eqb}
 use lib.ListN.{length, getD, set}
@@ -43,3 +43,9 @@ lows g a t (suc n) = low (lows g a t n) (lane a n) t
 pub record Blank (soft : Bool) (cap : ℕ) (f g : List ℕ) : Type 0 where
   pub long : soft ≡ true → length g ≡ length f
   pub all : soft ≡ true → Each (length g) (λ p. getD g p 0 ≡ cap)
+
+-- what the first n places cost themselves is taken off
+pub record Less-own (f g : List ℕ) (n : ℕ) (d : List ℕ) : Type 0 where
+  pub long : length d ≡ length g
+  pub less : (p : ℕ) → p < n → getD d p 0 ≡ getD g p 0 - getD f p 0
+  pub left : (p : ℕ) → n ≤ p → getD d p 0 ≡ getD g p 0

@@ -4,11 +4,12 @@ ghost use mathlib.Core.Path.{_≡_};
 ghost use mathlib.Core.Bool.{true, cond};
 ghost use Prim.Native.Nat.{ℕ, _+_, _/_, _^_, _<_, _≤_, min};
 ghost use lib.Bits.{bitXor};
+ghost use mathlib.Core.List.{[]};
 ghost use lib.ListN.{length, getD, set};
 ghost use Rattle.lanes.specs.Lanes.{lane, limit};
 ghost use Rattle.trellis.specs.Trellis.{leastOf};
 ghost use Rattle.walk.specs.Walk.{start, step, changed-bit, least-total, Slots, Marginals, Gathered, Scattered};
-ghost use Rattle.walk.specs.Turns.{Each, Small, moved, row-sum, low, lows, Blank};
+ghost use Rattle.walk.specs.Turns.{Each, Small, moved, row-sum, low, lows, Blank, Less-own};
 
 // The cost in entry s of a table of keys.
 fn cost_at(t: &[u32], s: u16) -> u16
@@ -222,17 +223,43 @@ fn lower_at(a: &mut [u32], s: u16, x: u32)
     a[i] = less_of(a[i], x);
 }
 
-// What the other layers cost at the least, into the entries of a table, which are all cap before.
-pub fn scatter(f: &[u16], g: &[u16], places: &[u16], a: &mut [u32], cap: u32)
+// What each place costs itself taken off.
+fn less_own(f: &[u16], g: &mut [u16])
+    requires { ⌜ length (now f) ≡ length (now g) ⌝ }
+    requires { ⌜ ((p : ℕ) → p < length (now g) → getD (now f) p 0 ≤ getD (now g) p 0) ⌝ }
+    ensures { λ _. ⌜ Less-own (now (f .entry)) (now (g .entry)) (length (now (g .entry))) (now (g .exit)) ⌝ }
+{
+    let mut p = 0;
+    while p < g.len() {
+        g[p] = g[p] - f[p];
+        p += 1;
+    }
+}
+
+// The numbers of the places, each entry of a table lowered to those of the places that stand for it.
+fn lower_places(g: &[u16], places: &[u16], a: &mut [u32], cap: u32)
+    requires { ⌜ length (now g) ≡ length (now places) ⌝ }
+    requires { ⌜ ((p : ℕ) → p < length (now places) → getD (now places) p 0 < length (now a)) ⌝ }
+    requires { ⌜ ((x : ℕ) → x < length (now a) → getD (now a) x 0 ≡ cap) ⌝ }
+    ensures { λ _. ⌜ Scattered cap [] (now (g .entry)) (now (places .entry)) (now (a .exit)) ⌝ }
+    ensures { λ _. ⌜ length (now (a .exit)) ≡ length (now (a .entry)) ⌝ }
+{
+    let mut p = 0;
+    while p < places.len() {
+        lower_at(a, places[p], g[p] as u32);
+        p += 1;
+    }
+}
+
+// What the other layers cost at the least, into the entries of a table, which are all cap before; g is used up. Own costs are taken off first, several at a
+// time.
+pub fn scatter(f: &[u16], g: &mut [u16], places: &[u16], a: &mut [u32], cap: u32)
     requires { ⌜ (length (now f) ≡ length (now places)) × (length (now g) ≡ length (now places)) ⌝ }
     requires { ⌜ ((p : ℕ) → p < length (now places) → (getD (now places) p 0 < length (now a)) × (getD (now f) p 0 ≤ getD (now g) p 0)) ⌝ }
     requires { ⌜ ((x : ℕ) → x < length (now a) → getD (now a) x 0 ≡ cap) ⌝ }
     ensures { λ _. ⌜ Scattered cap (now (f .entry)) (now (g .entry)) (now (places .entry)) (now (a .exit)) ⌝ }
     ensures { λ _. ⌜ length (now (a .exit)) ≡ length (now (a .entry)) ⌝ }
 {
-    let mut p = 0;
-    while p < places.len() {
-        lower_at(a, places[p], (g[p] - f[p]) as u32);
-        p += 1;
-    }
+    less_own(f, g);
+    lower_places(g, places, a, cap);
 }

@@ -1,60 +1,91 @@
 -- `decoder::decode_with` meets its contract.
 -- Assumes nothing.
-use Rattle.basics.proofs.Kit.{_∙_, _≤_, arith, needs}
 use mir.Facts.{toZ-ofZ}
-use Rattle.decoder.proofs.Decodings.{row-60, least-small, weight-small, rows-ok, decoding}
+use Rattle.basics.proofs.Kit.{_∙_, arith}
+use Rattle.decoder.proofs.Decodings.{row-60, weight-small, least-small, decoding}
+use borrow.Author.Needs.{needs}
 use Rattle.decoder.proofs.decode_with.Statement.{statement}
 use Rattle.decoder.proofs.decode_with.Tie as tie
+use Rattle.decoder.proofs.decode_with.Reads as reads
+use Rattle.decoder.proofs.decode_with.Lts as lts
+use Rattle.decoder.proofs.find_word.Reads as find-word-reads
+use Rattle.decoder.proofs.minus.Reads as minus-reads
+use Rattle.decoder.proofs.soften.Reads as soften-reads
+use Rattle.search.proofs.weight.Reads as weight-reads
 
-abbrev start : tie.After-of-row → tie.Start
-start c = c .before .before .before .before .before .before .before .before .before .before .before .before
+find-word-requires : tie.Need-find-word-requires
+find-word-requires c κs = let s = c .before .before .before .before .before .before .before .before .before .before .before .before .before .before .before .before .before .before in let r = s .pre .1 .1 .0 in let o = s .pre .1 .1 .1 in (s .pre .0, (s .pre .1 .0, (record { length-zs = o .length-zs; length-os = o .length-os; length-t = r .length-t; states-g = r .states-g; length-scratch = o .length-scratch }, (r, o .length-word))))
 
--- from the end, what was called
-abbrev tabled : tie.After-best-word → tie.After-of-row
-tabled c = c .before .before .before .before .before .before .before .before .before .before .before .before
+soften-requires : tie.Need-soften-requires
+soften-requires c κs = let s = c .before .before .before .before .before .before .before .before .before .before .before .before .before .before .before .before .before .before .before .before .before .before .before .before .before .before .before .before .before .before .before .before .before .before .before .before .before .before .before .before .before .before .before .before in let r = s .pre .1 .1 .0 in let o = s .pre .1 .1 .1 in let v = c .before .before .before .before .before .before .before .before .before .before .before .before .before .before .before .before .before .before .before .before .before .before .before .before .before .find-word in let e = v .ensures in (s .pre .0, (e .tabled, (e .laid, (e .marginals, record { states-g = omega (arith, v .kept .1 .1 .1 .1 .1 .1 .1 .1 .0, r .states-g); places-g = omega (arith, v .kept .1 .1 .1 .1 .1 .1 .1 .1 .0, v .kept .1 .1 .1 .1 .1 .1 .0, r .places-g); length-scratch = v .kept .1 .1 .1 .1 .1 .1 .1 .1 .1 .1 .0 ∙ o .length-scratch; length-zero = o .length-zero; length-one = o .length-one; length-soft = o .length-soft }))))
 
-abbrev found : tie.After-soft-costs → tie.After-best-word
-found c = c .before .before .before .before .before .before .before .before .before .before .before
+weight-requires : tie.Need-weight-requires
+weight-requires c κs = let s = c .before .before .before .before .before .before .before .before .before .before .before .before .before .before .before .before .before .before .before .before .before .before .before .before .before .before .before .before .before .before .before .before .before .before .before .before .before .before .before .before .before .before .before .before .before .before .before .before .before .before .before .before .before .before in (s .pre .0 .good-row, row-60 (s .pre .0))
 
-abbrev held : tie.After-weight → tie.After-soft-costs
-held c = c .before .before .before .before .before .before .before .before .before .before .before .before
+cast-minus : tie.Need-cast-minus
+cast-minus c = search needs
 
-best-word-requires : tie.Need-best-word-requires
-best-word-requires c κs = let t = c .before .before .before .before .before .before .before .before .before .before .before in let p = start t .pre in (p .0, (t .of-row .ensures, (p .1 .1 .1 .0, p .1 .1 .1 .1 .length-word)))
+mul-minus : tie.Need-mul-minus
+mul-minus c = search needs
 
-soft-costs-requires : tie.Need-soft-costs-requires
-soft-costs-requires c κs = let b = c .before .before .before .before .before .before .before .before .before .before in let t = tabled b in let p = start t .pre in let o = p .1 .1 .1 in
-    (p .0, (t .of-row .ensures, ((b .best-word .kept .1 .1 .1 .1 .1 .1 .0 ∙ o .0 .length-g, b .best-word .ensures .marginals), (o .1 .length-zero, o .1 .length-one))))
+minus-requires : tie.Need-minus-requires
+minus-requires c κs = let s = c .before .before .before .before .before .before .before .before .before .before .before .before .before .before .before .before .before .before .before .before .before .before .before .before .before .before .before .before .before .before .before .before .before .before .before .before .before .before .before .before .before .before .before .before .before .before .before .before .before .before .before .before .before .before .before in (omega (arith, c .weight .ensures, weight-small (s .pre .0)), omega (arith, least-small (s .pre .0) (c .before .before .before .before .before .before .before .before .before .before .before .before .before .before .before .before .before .before .before .before .before .before .before .before .before .before .before .before .before .before .before .before .before .before .before .before .find-word .ensures .best)))
 
-soft-rows-requires : tie.Need-soft-rows-requires
-soft-rows-requires c κs = let x = c .before .before .before .before .before .before .before .before .before in let p = start (tabled (found x)) .pre in let o = p .1 .1 .1 .1 in
-    rows-ok (p .0) (x .soft-costs .kept .1 .1 .1 .1 .1 .1 .1 .0 ∙ o .length-zero) (x .soft-costs .kept .1 .1 .1 .1 .1 .1 .1 .1 .0 ∙ o .length-one) (o .length-soft) (x .soft-costs .ensures)
+same-length : tie.Need-same-length
+same-length c = c .before .before .before .before .before .before .before .before .before .before .before .before .before .before .before .before .before .before .before .before .before .before .before .before .before .before .before .before .before .before .before .before .before .before .before .before .before .find-word .kept .1 .1 .1 .0
 
-small : (c : tie.After-weight) → found (held c) .best-word .result ≤ 7620
-small c = let b = found (held c) in least-small (start (tabled b) .pre .0) (b .best-word .ensures)
+same-length-2 : tie.Need-same-length-2
+same-length-2 c = search needs
+
+same-length-3 : tie.Need-same-length-3
+same-length-3 c = search needs
+
+same-length-4 : tie.Need-same-length-4
+same-length-4 c = search needs
+
+same-length-5 : tie.Need-same-length-5
+same-length-5 c = search needs
+
+same-length-6 : tie.Need-same-length-6
+same-length-6 c = search needs
+
+same-length-7 : tie.Need-same-length-7
+same-length-7 c = search needs
+
+same-length-8 : tie.Need-same-length-8
+same-length-8 c = search needs
+
+same-length-9 : tie.Need-same-length-9
+same-length-9 c = search needs
+
+same-length-10 : tie.Need-same-length-10
+same-length-10 c = search needs
+
+same-length-11 : tie.Need-same-length-11
+same-length-11 c = search needs
 
 returns : tie.Need-returns
-returns c = let v = c .before in let x = held v in let b = found x in let p = start (tabled b) .pre in
-    decoding (p .0) (b .best-word .ensures) (x .soft-costs .ensures) (p .1 .1 .1 .1 .length-soft) (v .before .before .soft-rows .ensures)
-    (toZ-ofZ (record { sfits = c .minus .ok })) (c .minus .ensures) (v .weight .ensures)
+returns c = let s = c .before .before .before .before .before .before .before .before .before .before .before .before .before .before .before .before .before .before .before .before .before .before .before .before .before .before .before .before .before .before .before .before .before .before .before .before .before .before .before .before .before .before .before .before .before .before .before .before .before .before .before .before .before .before .before .before in let o = s .pre .1 .1 .1 in let v = c .before .before .before .before .before .before .before .before .before .before .before .before .before .before .before .before .before .before .before .before .before .before .before .before .before .before .before .before .before .before .before .before .before .before .before .before .before .find-word in let e = c .before .before .before .before .before .before .before .before .before .before .before .soften .ensures in decoding (s .pre .0) (v .ensures .best) {za = c .before .before .before .before .before .before .before .before .before .before .before .soften .last .1 .1 .1 .1 .1 .1 .1 .1 .1 .1 .0} {oa = c .before .before .before .before .before .before .before .before .before .before .before .soften .last .1 .1 .1 .1 .1 .1 .1 .1 .1 .1 .1 .0} (e .0) {before = s .args .soft .now} (o .length-soft) (e .1) (toZ-ofZ (record { sfits = c .minus .ok })) (c .minus .ensures) (c .before .weight .ensures)
 
 pub decode-with-spec : {M : Type 1} → statement M
 decode-with-spec =
     tie.close
     (tie.spec
-    (λ c κs. search needs)
-    best-word-requires
-    soft-costs-requires
-    soft-rows-requires
-    (λ c κs. let z = start (tabled (found (c .before .before .before .before .before .before .before .before .before .before .before))) .pre .0 in (z .good-row, row-60 z))
-    (λ c. omega (arith, small c))
-    (λ c κs. (omega (arith, c .weight .ensures, weight-small (start (tabled (found (held c))) .pre .0)), omega (arith, small c)))
-    (λ c. tabled (found (held (c .before))) .of-row .kept .1 .1 .1 .0)
-    (λ c. tabled (found (held (c .before))) .of-row .kept .1 .1 .1 .1 .0)
-    (λ c. let x = held (c .before) in x .soft-costs .kept .1 .1 .1 .1 .1 .0 ∙ tabled (found x) .of-row .kept .1 .1 .1 .1 .1 .0)
-    (λ c. search needs)
-    (λ c. search needs)
-    (λ c. search needs)
-    (λ c. search needs)
-    (λ c. search needs)
+    find-word-requires
+    soften-requires
+    weight-requires
+    cast-minus
+    mul-minus
+    minus-requires
+    same-length
+    same-length-2
+    same-length-3
+    same-length-4
+    same-length-5
+    same-length-6
+    same-length-7
+    same-length-8
+    same-length-9
+    same-length-10
+    same-length-11
     returns)

@@ -1,7 +1,7 @@
 -- `decoder::soft_from` meets its contract.
 -- Assumes nothing.
 use Rattle.decoder.proofs.Writing.{soft-fits, minus-fits, narrow-fits, narrow-is}
-use Rattle.basics.proofs.Kit.{_*_, arith, needs, pos, _-ℤ_}
+use Rattle.basics.proofs.Kit.{_*_, arith, pos, _-ℤ_}
 use Rattle.decoder.proofs.soft_from.Statement.{statement}
 use Rattle.decoder.proofs.soft_from.Tie as tie
 
@@ -20,4 +20,11 @@ returns c = let s = c .before in
     narrow-is (c .minus .result) (pos (2 * a .one) -ℤ pos (2 * a .zero)) (c .minus .ensures) h g
 
 pub soft-from-spec : {M : Type 1} → statement M
-soft-from-spec = tie.close (tie.spec (λ c. search needs) (λ c. search needs) (λ c κs. search needs) cast-result returns)
+soft-from-spec =
+    tie.close
+    (tie.spec
+    (λ c. record { fits = omega (arith, c .pre) })
+    (λ c. record { fits = omega (arith, c .pre) })
+    (λ c κs. (omega (arith, c .pre), omega (arith, c .pre)))
+    cast-result
+    returns)

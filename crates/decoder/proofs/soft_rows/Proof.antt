@@ -12,16 +12,16 @@ Inv-loop m n zero one soft₀ w i₀ at₀ soft i at = (i ≤ n) × (at ≡ i * 
 abbrev μ-loop : tie.MeasureT-loop
 μ-loop m n zero one soft₀ w i₀ at₀ soft i at = n - i
 
-fold-requires : tie.Need-fold-requires Inv-loop μ-loop
-fold-requires c κs = let s = c .before .before .before .before in
+load-requires : tie.Need-load-requires Inv-loop μ-loop
+load-requires c κs = let s = c .before .before .before .before in
     let a = s .args in
     let w = s .pre in
     let t = c .before .loop in
     let l : t .i < a .n = c .loop-test .taken in
     omega (arith, w .length-zero)
 
-fold-requires-2 : tie.Need-fold-requires-2 Inv-loop μ-loop
-fold-requires-2 c κs = let s = c .before .before .before .before .before in
+load-requires-2 : tie.Need-load-requires-2 Inv-loop μ-loop
+load-requires-2 c κs = let s = c .before .before .before .before .before in
     let a = s .args in
     let w = s .pre in
     let t = c .before .before .loop in
@@ -34,7 +34,7 @@ soft-row-requires c κs = let s = c .before .before .before .before .before .bef
     let w = s .pre in
     let t = c .before .before .before .before .loop in
     let l : t .i < a .n = c .before .before .before .loop-test .taken in
-    rw (t .inv .1, c .before .before .fold .ensures, c .before .fold2 .ensures) (row-ok (a .m) (a .n) (a .zero .now) (a .one .now) (a .soft .now) w (t .i) (t .soft) (t .inv .2) l)
+    rw (t .inv .1, c .before .before .load .ensures, c .before .load2 .ensures) (row-ok (a .m) (a .n) (a .zero .now) (a .one .now) (a .soft .now) w (t .i) (t .soft) (t .inv .2) l)
 
 add-at : tie.Need-add-at Inv-loop μ-loop
 add-at c = let s = c .before .before .before .before .before .before .before .before .before in
@@ -50,7 +50,7 @@ loop-again c = let s = c .before .before .before .before .before .before .before
     let w = s .pre in
     let t = c .before .before .before .before .before .before .loop in
     let l : t .i < a .n = c .before .before .before .before .before .loop-test .taken in
-    let e = rw (t .inv .1, c .before .before .before .before .fold .ensures, c .before .before .before .fold2 .ensures) at (c .before .soft-row .ensures) in
+    let e = rw (t .inv .1, c .before .before .before .before .load .ensures, c .before .before .before .load2 .ensures) at (c .before .soft-row .ensures) in
     (omega arith, next (t .i) (a .m) (t .at) (t .inv .1), rows-more (a .m) (a .n) (a .zero .now) (a .one .now) (a .soft .now) w (t .i) (t .soft) (t .inv .2) l (c .before .soft-row .last .1 .1 .1 .1 .0) e)
 
 returns : tie.Need-returns Inv-loop μ-loop
@@ -65,8 +65,8 @@ soft-rows-spec =
     Inv-loop
     μ-loop
     (λ c. (omega arith, omega arith, record { long = refl; done = λ i j h k. absurd (omega arith) }))
-    fold-requires
-    fold-requires-2
+    load-requires
+    load-requires-2
     soft-row-requires
     add-at
     (λ c. omega arith)

@@ -1,20 +1,37 @@
--- `marker::excess` meets its contract: the tables have the length that the code needs.
+-- `marker::excess` meets its contract: the rooms are long enough for the code.
 -- Assumes nothing.
-use Rattle.basics.proofs.Kit.{sym, needs}
-use Rattle.search.proofs.Tabling.{rooms}
+use Rattle.basics.proofs.Kit.{refl, needs}
+use Rattle.search.proofs.Roomed.{small-rooms, large-rooms}
 use Rattle.marker.proofs.excess.Statement.{statement}
 use Rattle.marker.proofs.excess.Tie as tie
+
+excess-in-requires : tie.Need-excess-in-requires
+excess-in-requires c κs = let b = c .before .before .before .before .before in let s = b .before .before .before in
+    ((s .pre .0, s .pre .1), small-rooms (s .pre .0 .input .coded) _ _ _ _ (b .before .places-of .ensures) (b .if1 .taken) refl refl refl refl)
+
+excess-in-requires-2 : tie.Need-excess-in-requires-2
+excess-in-requires-2 c κs = let s = c .before .before .before .before .before .before .before .before in
+    ((s .pre .0, s .pre .1), large-rooms (s .pre .0 .input .coded) _ _ _ _ refl refl refl refl)
 
 pub excess-spec : {M : Type 1} → statement M
 excess-spec =
     tie.close
     (tie.spec
-    (λ c. search needs)
-    (λ c κs. let t = c .before in let p = t .before .before .pre in (p, sym (rooms (p .input .coded) (p .input .numbered) .0 (t .if1 .taken))))
-    (λ c. search needs)
-    (λ c. search needs)
-    (λ c κs. let t = c .before in let p = t .before .before .before .pre in (p, sym (rooms (p .input .coded) (p .input .numbered) .1 (t .if2 .taken))))
+    (λ c κs. search needs)
     (λ c. search needs)
     (λ c. search needs)
-    (λ c κs. let e = c .before in let p = e .before .before .before .pre in (p, sym (rooms (p .input .coded) (p .input .numbered) .2 (e .before .if1 .left) (e .if2 .left))))
-    (λ c. search needs))
+    (λ c. search needs)
+    (λ c. search needs)
+    (λ c. search needs)
+    excess-in-requires
+    (λ c. search needs)
+    (λ c. search needs)
+    (λ c. search needs)
+    (λ c. search needs)
+    (λ c. search needs)
+    (λ c. search needs)
+    (λ c. search needs)
+    excess-in-requires-2
+    (λ c. search needs)
+    (λ c. search needs)
+    )

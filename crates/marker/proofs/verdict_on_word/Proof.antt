@@ -7,14 +7,15 @@ use mir.Facts.{toZ-ofZ}
 use mir.Syntax.{w32}
 use mir.Val.{SFits, toZ, ofZ}
 use Rattle.metric.specs.Metric.{metric}
+use Rattle.metric.specs.Scratch.{scratch-long}
 use Rattle.metric.proofs.Marks.{marked-none}
 use Rattle.marker.proofs.Marking.{word-in, word-with, lacks-fits}
 use Rattle.marker.proofs.Refusals.{Mark-taken, mark-accepted}
 use Rattle.marker.proofs.verdict_on_word.Statement.{statement}
 use Rattle.marker.proofs.verdict_on_word.Tie as tie
 
-taken : (s : tie.Start) → Mark-taken (s .args .shape .m) (s .args .row .now) (s .args .word .now)
-taken s = mark-accepted _ _ _ (s .pre .1 .0)
+taken : (s : tie.Start) → Mark-taken (s .args .shape .m) (s .args .row .now) (s .args .word .now) scratch-long
+taken s = mark-accepted _ _ _ _ (s .pre .1 .0)
 
 abbrev start : tie.After-word-metric → tie.Start
 start c = c .before .before .before .before

@@ -1,6 +1,6 @@
 -- `report::list` meets its contract: a refused sheet has its one line, any other the header, the lines and the count, and each finds room.
 -- Assumes nothing.
-use Rattle.basics.proofs.Kit.{_≡_, _-_, needs, length, now}
+use Rattle.basics.proofs.Kit.{_≡_, refl, _-_, needs, length, now}
 use Rattle.report.specs.Within.{Sheet-taken}
 use Rattle.report.proofs.Whole.{wrong-length, refused-room, refused, counted, header-room, lines-room, count-room, accepted}
 use Rattle.report.proofs.list.Statement.{statement}
@@ -21,10 +21,10 @@ returns-2 c = let s = c .before .before .before .before .before .before .before 
     refused (now (s .args .sheet)) (now (s .args .out)) _ (j .result) _ (c .before .before .before .before .before .before .if1 .left) (j .ensures) (c .before .before .before .before .if2 .taken) (c .before .before .put-refused .ensures)
 
 put-count-requires : tie.Need-put-count-requires
-put-count-requires c κs = let l = c .before .before .before in let h = l .before .before .before .before in count-room (taken h) (whole h) (h .put-header .ensures) (l .put-lines .ensures)
+put-count-requires c κs = let l = c .before .before .before .before in let h = l .before .before .before .before .before in count-room (taken h) (whole h) (h .put-header .ensures) (l .put-lines .ensures)
 
 returns-3 : tie.Need-returns-3
-returns-3 c = let k = c .before .before in let l = k .before .before .before .before in let h = l .before .before .before .before in
+returns-3 c = let k = c .before .before in let l = k .before .before .before .before .before in let h = l .before .before .before .before .before in
     accepted (taken h) (whole h) (h .put-header .ensures) (l .put-lines .ensures) (k .put-count .ensures)
 
 pub list-spec : {M : Type 1} → statement M
@@ -38,7 +38,8 @@ list-spec =
     returns-2
     (λ c κs. header-room (c .before .before .before .if1 .left))
     (λ c. search needs)
-    (λ c κs. let h = c .before .before .before in (taken h, lines-room (taken h) (whole h) (h .put-header .ensures)))
+    (λ c. search needs)
+    (λ c κs. let h = c .before .before .before .before in (taken h, (refl, lines-room (taken h) (whole h) (h .put-header .ensures))))
     put-count-requires
     (λ c. search needs)
     returns-3)

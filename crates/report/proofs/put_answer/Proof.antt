@@ -10,13 +10,13 @@ use Rattle.report.proofs.put_answer.Statement.{statement}
 use Rattle.report.proofs.put_answer.Tie as tie
 
 abbrev chosen : tie.After-decode-accepted → tie.After-by-number
-chosen d = d .before .before .before .before
+chosen d = d .before .before .before .before .before
 
 abbrev st : tie.After-by-number → tie.Start
 st b = b .before .before .before .before
 
-abbrev dec : tie.After-soft → tie.After-decode-accepted
-dec c = c .before .before .before
+abbrev dec : tie.After-scratch → tie.After-decode-accepted
+dec c = c .before .before .before .before
 
 decoded : (d : tie.After-decode-accepted) → let s = st (chosen d) .args in
     Decoded-question (question (s .code) (s .number) (now (s .row)) (now (s .word))) (toZ w32 (ofZ w32 (d .decode-accepted .result))) (d .decode-accepted .last .1 .1 .1 .0)
@@ -42,9 +42,10 @@ put-answer-spec =
     tie.close
     (tie.spec
     (λ c κs. search needs)
-    (λ c κs. let b = c .before .before .before in accepted (st b .pre .0) (b .by-number .ensures))
+    (λ c κs. let b = c .before .before .before .before in accepted (st b .pre .0) (b .by-number .ensures))
     verdict-on-word-requires
     put-question-requires
+    (λ c. search needs)
     (λ c. search needs)
     (λ c. search needs)
     (λ c. search needs)

@@ -9,12 +9,12 @@ use Rattle.report.proofs.put_next.Tie as tie
 
 put-read-requires : tie.Need-put-read-requires
 put-read-requires c κs =
-    let n = c .before .before .before .before .before .before .before .before .before .before in let s = n .before .before .before .before .before in
+    let n = c .before .before .before .before .before .before .before .before .before .before .before in let s = n .before .before .before .before .before in
     let z = n .by-number .ensures .coded in
     let r =
     rooms (now (s .args .sheet)) (s .args .place .word) (n .before .before .word-at .ensures) (n .before .head-code-of .ensures) (n .by-number .ensures)
-    (length-take-le _ _ (bits-le z)) (length-take-le _ _ (n-le z)) (length-take-le _ _ (n-le z)) (length-take-le _ _ (bits-le z)) in
-    (s .pre .0, (r, s .pre .1))
+    (length-take-le _ _ (bits-le z)) (length-take-le _ _ (n-le z)) (length-take-le _ _ (n-le z)) (length-take-le _ _ (bits-le z)) (s .pre .1 .0) in
+    (s .pre .0, (r, s .pre .1 .1))
 
 pub put-next-spec : {M : Type 1} → statement M
 put-next-spec =
@@ -32,5 +32,6 @@ put-next-spec =
     (λ c. sym (length-take-le _ _ (n-le (c .before .before .before .before .before .before .before .before .by-number .ensures .coded))))
     (λ c. sym (length-take-le _ _ (bits-le (c .before .before .before .before .before .before .before .before .before .by-number .ensures .coded))))
     put-read-requires
+    (λ c. search needs)
     (λ c. search needs)
     (λ c. search needs))

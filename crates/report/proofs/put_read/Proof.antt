@@ -9,11 +9,11 @@ abbrev st : tie.After-question-at → tie.Start
 st y = y .before .before .before .before .before .before .before
 
 put-answer-requires : tie.Need-put-answer-requires
-put-answer-requires c κs = let a = c .before .before .before .before .before .before in let y = a .before .before .before .before .before in let s = st y in
+put-answer-requires c κs = let a = c .before .before .before .before .before .before .before in let y = a .before .before .before .before .before in let s = st y in
     (holds (s .pre .0 .1) (s .pre .1 .0) (y .question-at .ensures) (a .answer .given .1), s .pre .1 .1)
 
 returns : tie.Need-returns
-returns c = let p = c .before .before .before .before .before in let a = p .before .before .before .before .before .before .before in let y = a .before .before .before .before .before in let s = st y in
+returns c = let p = c .before .before .before .before .before .before in let a = p .before .before .before .before .before .before .before .before in let y = a .before .before .before .before .before in let s = st y in
     record {
       line = rw (here (s .pre .0 .1) (s .pre .1 .0) (y .question-at .ensures) (a .answer .given .1)) at (p .put-answer .ensures);
       next = next-is (s .pre .0 .1) (s .pre .1 .0) (y .question-at .ensures);
@@ -32,6 +32,7 @@ put-read-spec =
     (λ c κs. search needs)
     (λ c. search needs)
     put-answer-requires
+    (λ c. search needs)
     (λ c. search needs)
     (λ c. search needs)
     (λ c. search needs)

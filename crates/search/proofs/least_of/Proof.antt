@@ -1,74 +1,59 @@
--- `search::least_of` meets its contract: the tuples that it lends are those of the code.
+-- `search::least_of` meets its contract.
 -- Assumes nothing.
-use Rattle.basics.proofs.Kit.{_≡_, refl, needs}
-use Rattle.code.specs.Within.{number-of}
-use Rattle.configurations.specs.Configurations.{configurations}
-use Rattle.search.specs.Within.{cap}
-use Rattle.search.proofs.Walking.{third, first, second, tuples-as, least-as}
+use Rattle.basics.proofs.Kit.{arith}
+use Rattle.search.proofs.Laying.{slots-ok}
+use borrow.Author.Needs.{needs}
 use Rattle.search.proofs.least_of.Statement.{statement}
 use Rattle.search.proofs.least_of.Tie as tie
+use Rattle.search.proofs.least_of.Reads as reads
+use Rattle.search.proofs.least_of.Lts as lts
+use Rattle.search.proofs.lay.Reads as lay-reads
+use Rattle.spots.proofs.slots.Reads as slots-reads
+use Rattle.spots.proofs.steps.Reads as steps-reads
+use Rattle.spots.proofs.turns.Reads as turns-reads
+use Rattle.walk.proofs.least_of.Reads as least-of-reads
 
-abbrev start3 : tie.Then1 → tie.Start
-start3 c = c .before .before .before
+lay-requires : tie.Need-lay-requires
+lay-requires c κs = search needs
 
-abbrev start1 : tie.Then2 → tie.Start
-start1 c = c .before .before .before .before .before
+slots-requires : tie.Need-slots-requires
+slots-requires c κs = search needs
 
-abbrev start2 : tie.Else2 → tie.Start
-start2 c = c .before .before .before .before .before
+steps-requires : tie.Need-steps-requires
+steps-requires c κs = search needs
 
-is-3 : (c : tie.Then1) → number-of (start3 c .args .shape) ≡ 3
-is-3 c = third (start3 c .args .shape) (c .if1 .taken)
+slice-aggregate-least-of : tie.Need-slice-aggregate-least-of
+slice-aggregate-least-of c = search needs
 
-is-1 : (c : tie.Then2) → number-of (start1 c .args .shape) ≡ 1
-is-1 c = first (start1 c .args .shape) (c .before .before .if1 .left) (c .if2 .taken)
+slice-aggregate-least-of-2 : tie.Need-slice-aggregate-least-of-2
+slice-aggregate-least-of-2 c = search needs
 
-is-2 : (c : tie.Else2) → number-of (start2 c .args .shape) ≡ 2
-is-2 c = second (start2 c .args .shape) (c .before .before .if1 .left) (c .if2 .left)
+turns-requires : tie.Need-turns-requires
+turns-requires c κs = search needs
 
 least-of-requires : tie.Need-least-of-requires
-unfolding configurations
-least-of-requires c κs = let a = c .before in let b = a .before in let s = start3 b in
-    tuples-as (s .args .shape) (s .args .shape .size) cap (s .args .t .now) (is-3 b) refl (a .all-of-code-3 .ensures) (s .pre)
+least-of-requires c κs = let s = c .before .before .before .before .before .before .before .before .before .before .before .before .before .before .before .before in rw (c .turns .ensures, c .before .before .before .before .before .slots .ensures, c .before .before .before .before .steps .ensures) (slots-ok (s .pre .0) (c .before .before .before .before .before .before .before .before .before .before .lay .ensures) (s .pre .1 .0 .0) (s .pre .1 .0 .1), omega arith)
+
+same-length : tie.Need-same-length
+same-length c = search needs
+
+same-length-2 : tie.Need-same-length-2
+same-length-2 c = search needs
 
 returns : tie.Need-returns
-unfolding configurations
-returns c = let a = c .before .before in let b = a .before in let s = start3 b in
-    least-as (s .args .shape) (s .args .shape .size) cap (s .args .t .now) (is-3 b) refl (a .all-of-code-3 .ensures) _ (c .least-of .ensures)
-
-least-of-requires-2 : tie.Need-least-of-requires-2
-unfolding configurations
-least-of-requires-2 c κs = let a = c .before in let b = a .before in let s = start1 b in
-    tuples-as (s .args .shape) (s .args .shape .size) cap (s .args .t .now) (is-1 b) refl (a .all-of-code-1 .ensures) (s .pre)
-
-returns-2 : tie.Need-returns-2
-unfolding configurations
-returns-2 c = let a = c .before .before in let b = a .before in let s = start1 b in
-    least-as (s .args .shape) (s .args .shape .size) cap (s .args .t .now) (is-1 b) refl (a .all-of-code-1 .ensures) _ (c .least-of2 .ensures)
-
-least-of-requires-3 : tie.Need-least-of-requires-3
-unfolding configurations
-least-of-requires-3 c κs = let a = c .before in let b = a .before in let s = start2 b in
-    tuples-as (s .args .shape) (s .args .shape .size) cap (s .args .t .now) (is-2 b) refl (a .all-of-code-2 .ensures) (s .pre)
-
-returns-3 : tie.Need-returns-3
-unfolding configurations
-returns-3 c = let a = c .before .before in let b = a .before in let s = start2 b in
-    least-as (s .args .shape) (s .args .shape .size) cap (s .args .t .now) (is-2 b) refl (a .all-of-code-2 .ensures) _ (c .least-of3 .ensures)
+returns c = record { laid = c .before .before .before .before .before .before .before .before .before .before .before .lay .ensures; least = rw (c .before .turns .ensures, c .before .before .before .before .before .before .slots .ensures, c .before .before .before .before .before .steps .ensures) at (c .least-of .ensures) }
 
 pub least-of-spec : {M : Type 1} → statement M
 least-of-spec =
     tie.close
     (tie.spec
-    (λ c κs. search needs)
-    (λ c. search needs)
+    lay-requires
+    slots-requires
+    steps-requires
+    slice-aggregate-least-of
+    slice-aggregate-least-of-2
+    turns-requires
     least-of-requires
-    returns
-    (λ c κs. search needs)
-    (λ c. search needs)
-    least-of-requires-2
-    returns-2
-    (λ c κs. search needs)
-    (λ c. search needs)
-    least-of-requires-3
-    returns-3)
+    same-length
+    same-length-2
+    returns)

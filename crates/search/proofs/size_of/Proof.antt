@@ -19,5 +19,4 @@ size-of-spec =
     (λ c κs. search needs)
     (λ c κs. search needs)
     (λ c. let s = c .before .before in record { fits = omega (arith, sum-is c, costs-le row-bound (s .args .r) (s .pre)) })
-    (λ c. search needs)
     (λ c. let s = c .before .before in (sum-is c, omega (arith, sum-is c, costs-le row-bound (s .args .r) (s .pre)))))

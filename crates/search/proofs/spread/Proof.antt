@@ -1,7 +1,8 @@
 -- `search::spread` meets its contract.
 -- Assumes nothing.
 use Rattle.basics.proofs.Kit.{_≡_, refl, ap, _∙_, _-_, _*_, _≤_, arith, length}
-use Rattle.search.specs.Within.{reliability, Spread}
+use Rattle.bridge.specs.Bridge.{reliability}
+use Rattle.search.specs.Within.{Spread}
 use Rattle.search.proofs.Prepared.{length-four, spread-more, inside}
 use Rattle.search.proofs.spread.Statement.{statement}
 use Rattle.search.proofs.spread.Tie as tie

@@ -3,7 +3,7 @@
 use Rattle.basics.proofs.Kit.{_∙_, _*_, arith, needs}
 use lib.ListN.{length-set}
 use mir.Facts.{toZ-ofZ}
-use Rattle.search.specs.Within.{reliability}
+use Rattle.bridge.specs.Bridge.{reliability}
 use Rattle.search.proofs.Prepared.{four-is}
 use Rattle.search.proofs.spread_at.Statement.{statement}
 use Rattle.search.proofs.spread_at.Tie as tie

@@ -6,10 +6,10 @@ use Rattle.test_brute_force.proofs.all_rows.Statement.{statement}
 use Rattle.test_brute_force.proofs.all_rows.Tie as tie
 
 abbrev Inv-loop : tie.InvT-loop
-Inv-loop code rows words t₀ state₀ k₀ t state k = k ≤ rows
+Inv-loop roots from rows words t₀ state₀ k₀ t state k = k ≤ rows
 
 abbrev μ-loop : tie.MeasureT-loop
-μ-loop code rows words t₀ state₀ k₀ t state k = rows - k
+μ-loop roots from rows words t₀ state₀ k₀ t state k = rows - k
 
 pub all-rows-spec : {M : Type 1} → statement M
 all-rows-spec =
@@ -18,6 +18,7 @@ all-rows-spec =
     Inv-loop
     μ-loop
     (λ c. search needs)
+    (λ c κs. search needs)
     (λ c κs. search needs)
     (λ c κs. search needs)
     (λ c. search needs)

@@ -1,8 +1,7 @@
 -- `ties::row_span` meets its contract.
 -- Assumes nothing.
-use Rattle.basics.proofs.Kit.{_≡_, ℕ, _+_, _-_, _≤_, arith, needs, getD}
-use Rattle.ties.specs.Ties.{word-at}
-use Rattle.ties.specs.Turn.{Spans, Widened}
+use Rattle.basics.proofs.Kit.{_≡_, ℕ, _+_, _-_, _≤_, arith, needs}
+use Rattle.ties.specs.Turn.{Spans}
 use Rattle.ties.proofs.Spans.{spans-more, spans-over}
 use Rattle.ties.proofs.row_span.Statement.{statement}
 use Rattle.ties.proofs.row_span.Tie as tie
@@ -22,19 +21,16 @@ loop-holds c = let z = c .before .before .before .before .before .args in
     let e : z .p + 0 ≡ z .p = omega arith in
     (omega arith, λ a h. rw e h)
 
-word-of-requires : tie.Need-word-of-requires Inv-loop μ-loop
-word-of-requires c κs = let s = c .before .before .before .before .before .before .before in
-    let q = s .pre in
-    (omega (arith, q .keys), q .within (s .args .p + c .before .loop .x) (omega (arith, q .keys)))
+place-span-requires : tie.Need-place-span-requires Inv-loop μ-loop
+place-span-requires c κs = let q = c .before .before .before .before .before .before .before .pre in
+    record { numbers = omega (arith, q .numbers); keys = omega (arith, q .keys); within = q .within }
 
 loop-again : tie.Need-loop-again Inv-loop μ-loop
-loop-again c = let z = c .before .before .before .before .before .before .before .before .before .before .args in
-    let l = c .before .before .before .before .loop in
-    let m = c .widened in
-    let v = c .before .before .word-of in
+loop-again c = let z = c .before .before .before .before .before .before .before .before .args in
+    let l = c .before .before .loop in
+    let m = c .place-span in
     let e : z .p + (l .x + 1) ≡ z .p + l .x + 1 = omega arith in
-    let wide : Widened (z .least) (getD (z .g .now) (z .p + l .x) 0) (word-at (z .t .now) (z .places .now) (z .p + l .x)) (l .r .low) (l .r .high) (m .result .low) (m .result .high) = rw (v .ensures) at (m .ensures) in
-    (omega arith, λ a h. rw e (spans-more (z .t .now) (z .places .now) (z .g .now) (z .least) a (z .p + l .x) (l .r .low) (l .r .high) (m .result .low) (m .result .high) (l .inv .1 a h) wide))
+    (omega arith, λ a h. rw e (spans-more (z .t .now) (z .places .now) (z .g .now) (z .least) a (z .p + l .x) (l .r .low) (l .r .high) (m .result .low) (m .result .high) (l .inv .1 a h) (m .ensures)))
 
 returns-2 : tie.Need-returns-2 Inv-loop μ-loop
 returns-2 c = let l = c .before .loop in
@@ -51,11 +47,7 @@ row-span-spec =
     returns
     loop-holds
     (λ c. search needs)
-    word-of-requires
-    (λ c. search needs)
-    (λ c. search needs)
-    (λ c. search needs)
-    (λ c κs. search needs)
+    place-span-requires
     (λ c. search needs)
     (λ c. search needs)
     loop-again

@@ -8,10 +8,10 @@ use Rattle.test_brute_force.proofs.words.list.Statement.{statement}
 use Rattle.test_brute_force.proofs.words.list.Tie as tie
 
 abbrev Inv-loop : tie.InvT-loop
-Inv-loop code to₀ found₀ word₀ to found word = (word ≤ 2097152) × (length to ≡ length to₀)
+Inv-loop r to₀ found₀ word₀ to found word = (word ≤ 2097152) × (length to ≡ length to₀)
 
 abbrev μ-loop : tie.MeasureT-loop
-μ-loop code to₀ found₀ word₀ to found word = 2097152 - word
+μ-loop r to₀ found₀ word₀ to found word = 2097152 - word
 
 pub list-spec : {M : Type 1} → statement M
 list-spec =

@@ -1,5 +1,0 @@
-pub mod Writing
-pub mod Decodings
-pub mod Finding
-pub mod Refusals
-pub mod Roomed

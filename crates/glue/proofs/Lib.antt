@@ -1,5 +1,0 @@
-pub mod Tuples
-pub mod Walks
-pub mod Engine
-pub mod Alone
-pub mod Choosing

@@ -1,3 +1,0 @@
-pub mod Adjoint
-pub mod Advancing
-pub mod Soft
