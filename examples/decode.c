@@ -10,10 +10,12 @@
 
 enum { CODE = 1, N = TUGZECK_WORD(CODE), BITS = TUGZECK_ROW(CODE) };
 
+static int32_t scratch[TUGZECK_SCRATCH];
+
 static int decode(const int16_t row[BITS]) {
     uint8_t word[N];
     int16_t soft[BITS];
-    struct tugzeck_decoding d = tugzeck_decode(CODE, row, BITS, word, N, soft, BITS);
+    struct tugzeck_decoding d = tugzeck_decode(CODE, row, BITS, word, N, soft, BITS, scratch, TUGZECK_SCRATCH);
     if (d.number != 0) {
         printf("refused %u\n", (unsigned)d.number);
         return 1;
@@ -30,7 +32,7 @@ static int decode(const int16_t row[BITS]) {
 
 static int mark(const int16_t row[BITS], const uint8_t word[N]) {
     static const char *const verdicts[] = {"none", "short", "best"};
-    struct tugzeck_marking m = tugzeck_mark(CODE, row, BITS, word, N);
+    struct tugzeck_marking m = tugzeck_mark(CODE, row, BITS, word, N, scratch, TUGZECK_SCRATCH);
     if (m.number != 0) {
         printf("refused %u\n", (unsigned)m.number);
         return 1;

@@ -18,6 +18,7 @@ int main(void) {
     static const float samples[] = {0.9f, 1.1f, -1.2f, -0.8f, -1.0f, 0.7f, 1.0f, 1.3f, 0.9f, -0.2f, 1.1f, 1.0f, 0.8f, 0.9f, 1.2f, 1.0f, 1.1f, 0.6f};
     int16_t row[BITS], soft[BITS];
     uint8_t word[N];
+    static int32_t scratch[TUGZECK_SCRATCH];
 
     uint32_t refusal = tugzeck_receive(CODE, kinds, SYMBOLS, samples, sizeof samples / sizeof *samples, row, BITS);
     if (refusal != 0) {
@@ -27,7 +28,7 @@ int main(void) {
     printf("row");
     for (int b = 0; b < BITS; b++)
         printf(" %d", row[b]);
-    struct tugzeck_decoding d = tugzeck_decode(CODE, row, BITS, word, N, soft, BITS);
+    struct tugzeck_decoding d = tugzeck_decode(CODE, row, BITS, word, N, soft, BITS, scratch, TUGZECK_SCRATCH);
     if (d.number != 0) {
         printf("refused %u\n", (unsigned)d.number);
         return 1;

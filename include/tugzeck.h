@@ -1,17 +1,19 @@
-/* Most-likely words of short Reed-Solomon codes, three by number and ten by parameters: the calls of libtugzeck.a for C and C++, on x86-64 Linux.
+/* Most-likely words of ten short Reed-Solomon codes, each by its parameters and five by a number too: the calls of libtugzeck.a for C and C++, on
+ * x86-64 Linux.
  *
  * Every call is proved for every input: it ends, answers what is said here, refuses bad input by the first number in the order stated at
  * the call, and changes no output then. crates/tugzeck/src/lib.rt has the promises.
  *
  * What no proof covers, and a caller must see to:
- *   - A pointer is valid for as many elements as the count behind it says: outputs to be written, all others to be read.
+ *   - A pointer is valid for as many elements as the count behind it says: outputs and scratches to be written, all others to be read.
  *   - A pointer is aligned for its type and never null, even where its count is 0.
- *   - An output overlaps nothing else that the call is handed; nobody else reads or writes it, and nobody writes an input, while the call runs.
+ *   - An output or a scratch overlaps nothing else that the call is handed; nobody else reads or writes it, and nobody writes an input, while the
+ *     call runs.
  *   - A count is at most PTRDIFF_MAX bytes' worth of elements, as that of any C object is.
  *
  * Every pointer belongs to the caller, and no call keeps one. Nothing is allocated, there is no global state, and nothing is locked: any
- * number of threads may call at once, each with its own outputs. A call takes less than 64 KiB of stack, and of the C library memset alone
- * (both tested, not proved). Counts are in elements.
+ * number of threads may call at once, each with its own outputs and scratch. A call takes less than 64 KiB of stack, tugzeck_list less than 192 KiB, and of
+ * the C library memset alone (both tested, not proved). Counts are in elements.
  */
 #ifndef TUGZECK_H
 #define TUGZECK_H
@@ -23,12 +25,12 @@
 extern "C" {
 #endif
 
-/* LENGTHS. They hold for the codes 1, 2 and 3. */
+/* LENGTHS. They hold for the codes 1 to 5: (7, 5), (7, 3), (15, 13), (15, 11) and (15, 9). */
 
 /* Symbols to a word (n) and to a message (k), and bits to a word (n*m), which is how long a row is. */
-#define TUGZECK_WORD(code) ((code) == 3 ? 15 : 7)
-#define TUGZECK_MESSAGE(code) ((code) == 3 ? 13 : (code) == 2 ? 3 : 5)
-#define TUGZECK_ROW(code) ((code) == 3 ? 60 : 21)
+#define TUGZECK_WORD(code) ((code) < 3 ? 7 : 15)
+#define TUGZECK_MESSAGE(code) ((code) == 1 ? 5 : (code) == 2 ? 3 : (code) == 3 ? 13 : (code) == 4 ? 11 : 9)
+#define TUGZECK_ROW(code) ((code) < 3 ? 21 : 60)
 
 /* The same for a code by its parameters: m bits to a symbol (3 or 4) and roots alpha to alpha^r. It may be chosen if r is from 1 to 6 and m times the
  * difference of the dimensions of the Reed-Solomon and the BCH code is at most 16: with m = 3 each r from 1 to 6, with m = 4 the r 1, 2, 4, 6. */
@@ -41,14 +43,14 @@ extern "C" {
 #define TUGZECK_MOST_MESSAGE 14
 #define TUGZECK_MOST_ROW 60
 
-/* Numbers of a scratch. */
+/* Numbers of a scratch, which decoder and marker are lent: they may hold anything, and are all 0 after the call, unchanged where it refuses. */
 #define TUGZECK_SCRATCH 16384
 
 /* The greatest size of a reliability. */
 #define TUGZECK_MOST_RELIABILITY 127
 
 /* A sheet has so many bytes for each of its questions, and so many for its end; at most 200 questions, so at most 19204 bytes. */
-#define TUGZECK_QUESTION_BYTES(code) ((code) == 3 ? 96 : 40)
+#define TUGZECK_QUESTION_BYTES(code) ((code) < 3 ? 40 : 96)
 #define TUGZECK_END_BYTES 4
 #define TUGZECK_MOST_QUESTIONS 200
 #define TUGZECK_MOST_SHEET 19204
@@ -61,7 +63,7 @@ extern "C" {
 
 /* REFUSALS. 0 stands for none. */
 enum tugzeck_refusal {
-    TUGZECK_CODE = 1,         /* the code is not 1, 2 or 3, or m is not 3 or 4 */
+    TUGZECK_CODE = 1,         /* the code is not 1 to 5, or m is not 3 or 4 */
     TUGZECK_ROW_LENGTH = 2,   /* a row is not n*m long */
     TUGZECK_WORD_LENGTH = 3,  /* a word is not n, or a message not k, long */
     TUGZECK_OUTPUT = 4,       /* an output has not exactly its length */
@@ -125,8 +127,7 @@ struct tugzeck_listed {
 };
 
 /* CODES. A call whose name ends in _by takes the code's m and r in place of its number. It does what the call without _by does, and refuses by the same
- * numbers in the same order; only, its code is refused by 1 for an m other than 3 and 4, and directly after that by 16, and tugzeck_decode_by and
- * tugzeck_mark_by are lent a scratch besides, whose length is refused by 17. */
+ * numbers in the same order; only, its code is refused by 1 for an m other than 3 and 4, and directly after that by 16. */
 
 /* WORDS. A symbol is a byte; position 0 first. The message stands at the last k positions. */
 
@@ -167,18 +168,16 @@ uint32_t tugzeck_receive_by(uint32_t m, uint32_t r, const uint8_t *kinds, size_t
 
 /* Decodes a row of n*m reliabilities: 0 and the best metric, in the n places of `word` the codeword that has it or, of several, the first when
  * symbols are compared from position 0, and in the n*m places of `soft` the soft outputs: the greatest metric of a codeword with 0 at that bit
- * less the greatest with 1. Refuses by 1, 2, 4 (`word` or `soft`), 5. */
+ * less the greatest with 1. Refuses by 1, 2, 4 (`word` or `soft`), 17 (`scratch`), 5. */
 struct tugzeck_decoding tugzeck_decode(uint32_t code, const int16_t *row, size_t row_count, uint8_t *word, size_t word_count, int16_t *soft,
-                                       size_t soft_count);
-/* By m and r it is lent a scratch of TUGZECK_SCRATCH numbers besides, whatever they are: all 0 after it, unchanged where it refuses. Refuses by 1, 16, 2, 4,
- * 17 (`scratch`), 5. */
+                                       size_t soft_count, int32_t *scratch, size_t scratch_count);
 struct tugzeck_decoding tugzeck_decode_by(uint32_t m, uint32_t r, const int16_t *row, size_t row_count, uint8_t *word, size_t word_count,
                                           int16_t *soft, size_t soft_count, int32_t *scratch, size_t scratch_count);
 
 /* Marks a word of n symbols, handed in for a row of n*m reliabilities: 0 and the verdict, none (no codeword), short (with the best metric less
- * the word's own) or best, which every codeword with the best metric is. Refuses by 1, 2, 3, 5, 6. */
-struct tugzeck_marking tugzeck_mark(uint32_t code, const int16_t *row, size_t row_count, const uint8_t *word, size_t word_count);
-/* By m and r it is lent a scratch besides, as tugzeck_decode_by is. Refuses by 1, 16, 2, 3, 17 (`scratch`), 5, 6. */
+ * the word's own) or best, which every codeword with the best metric is. Refuses by 1, 2, 3, 17 (`scratch`), 5, 6. */
+struct tugzeck_marking tugzeck_mark(uint32_t code, const int16_t *row, size_t row_count, const uint8_t *word, size_t word_count,
+                                    int32_t *scratch, size_t scratch_count);
 struct tugzeck_marking tugzeck_mark_by(uint32_t m, uint32_t r, const int16_t *row, size_t row_count, const uint8_t *word, size_t word_count,
                                        int32_t *scratch, size_t scratch_count);
 

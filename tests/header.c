@@ -20,7 +20,9 @@ static const char listing[] =
     "question code best verdict short bits least\n"
     "7 1 210 short 100 000000000000000000000 60\n"
     "16777215 3 600 best 0 000000000000000000000000000000000000000000000000000000000000 60\n"
-    "2 questions\n";
+    "8 4 600 short 200 000000000000000000000000000000000000000000000000000000000000 100\n"
+    "9 5 600 none - 000000000000000000000000000000000000000000000000000000000000 140\n"
+    "4 questions\n";
 
 int main(void) {
     static const uint8_t message[5] = {1, 0, 0, 0, 0}, codeword[7] = {3, 6, 1, 0, 0, 0, 0}, other[7] = {1, 0, 0, 0, 0, 0, 0};
@@ -29,7 +31,8 @@ int main(void) {
 
     SAME(tugzeck_encode(1, message, 5, word, 7), 0);
     SAME(memcmp(word, codeword, 7), 0);
-    SAME(tugzeck_encode(4, message, 5, word, 7), TUGZECK_CODE);
+    SAME(tugzeck_encode(0, message, 5, word, 7), TUGZECK_CODE);
+    SAME(tugzeck_encode(6, message, 5, word, 7), TUGZECK_CODE);
     SAME(tugzeck_encode(1, message, 4, word, 7), TUGZECK_WORD_LENGTH);
     SAME(tugzeck_encode(1, message, 5, word, 8), TUGZECK_OUTPUT);
 
@@ -40,9 +43,20 @@ int main(void) {
     SAME(tugzeck_check_word(1, other, 7), TUGZECK_NO_CODEWORD);
     SAME(tugzeck_check_word(1, other, 6), TUGZECK_WORD_LENGTH);
 
-    /* By m and r: message 1 then zeros of (15, 11), and the refusals of the choice. */
-    static const uint8_t eleven[TUGZECK_MESSAGE_BY(4, 4)] = {1};
-    static const uint8_t by_four[TUGZECK_WORD_BY(4)] = {7, 8, 12, 13, 1};
+    /* Message 1 then zeros of (15, 11) and (15, 9): by number, by m and r, and the refusals of the choice. */
+    static const uint8_t eleven[TUGZECK_MESSAGE_BY(4, 4)] = {1}, nine[TUGZECK_MESSAGE(5)] = {1};
+    static const uint8_t by_four[TUGZECK_WORD_BY(4)] = {7, 8, 12, 13, 1}, by_six[TUGZECK_WORD(5)] = {12, 10, 12, 3, 9, 7, 1};
+    SAME(tugzeck_encode(4, eleven, TUGZECK_MESSAGE(4), word, TUGZECK_WORD(4)), 0);
+    SAME(memcmp(word, by_four, 15), 0);
+    SAME(tugzeck_encode(5, nine, TUGZECK_MESSAGE(5), word, TUGZECK_WORD(5)), 0);
+    SAME(memcmp(word, by_six, 15), 0);
+    SAME(tugzeck_read_word(4, by_four, 15, read, 11), 0);
+    SAME(memcmp(read, eleven, 11), 0);
+    SAME(tugzeck_read_word(5, by_four, 15, read, 9), TUGZECK_NO_CODEWORD);
+    SAME(tugzeck_check_word(4, by_six, 15), 0);
+    SAME(tugzeck_check_word(5, by_six, 15), 0);
+    SAME(tugzeck_check_word(5, by_four, 15), TUGZECK_NO_CODEWORD);
+    memset(word, 0, sizeof word);
     SAME(tugzeck_encode_by(4, 4, eleven, 11, word, 15), 0);
     SAME(memcmp(word, by_four, 15), 0);
     SAME(tugzeck_encode_by(5, 9, eleven, 11, word, 15), TUGZECK_CODE);
@@ -66,7 +80,11 @@ int main(void) {
     SAME(b.number, TUGZECK_ROOTS);
     SAME(b.configuration[0] | b.configuration[1] | b.configuration[2] | b.configuration[3], 0);
 
-    struct tugzeck_splitting s = tugzeck_split(1, codeword, 7, bch, 21);
+    struct tugzeck_splitting s = tugzeck_split(4, by_four, 15, bch, TUGZECK_ROW(4));
+    SAME(s.number, 0);
+    SAME(s.configuration[0], 74);
+    SAME(s.configuration[3], 238);
+    s = tugzeck_split(1, codeword, 7, bch, 21);
     SAME(s.number, 0);
     SAME(s.configuration[0], 5);
     SAME(s.configuration[1], 3);
@@ -118,14 +136,21 @@ int main(void) {
 
     for (int i = 0; i < TUGZECK_MOST_ROW; i++)
         row[i] = -10;
-    struct tugzeck_decoding d = tugzeck_decode(1, row, 21, word, 7, soft, 21);
+    static int32_t scratch[TUGZECK_SCRATCH];
+    scratch[0] = scratch[TUGZECK_SCRATCH - 1] = 9;
+    struct tugzeck_decoding d = tugzeck_decode(1, row, 21, word, 7, soft, 21, scratch, TUGZECK_SCRATCH - 1);
+    SAME(d.number, TUGZECK_SCRATCH_LENGTH);
+    SAME(d.metric, 0);
+    SAME(scratch[0], 9);
+    d = tugzeck_decode(1, row, 21, word, 7, soft, 21, scratch, TUGZECK_SCRATCH);
     SAME(d.number, 0);
     SAME(d.metric, 210);
     for (int i = 0; i < 7; i++)
         SAME(word[i], 7);
     for (int i = 0; i < 21; i++)
         SAME(soft[i], -60);
-    static int32_t scratch[TUGZECK_SCRATCH];
+    for (int i = 0; i < TUGZECK_SCRATCH; i++)
+        SAME(scratch[i], 0);
     scratch[0] = scratch[TUGZECK_SCRATCH - 1] = 9;
     d = tugzeck_decode_by(3, 2, row, 21, word, 7, soft, 21, scratch, TUGZECK_SCRATCH - 1);
     SAME(d.number, TUGZECK_SCRATCH_LENGTH);
@@ -136,44 +161,73 @@ int main(void) {
     SAME(soft[20], -60);
     for (int i = 0; i < TUGZECK_SCRATCH; i++)
         SAME(scratch[i], 0);
+    for (uint32_t code = 4; code <= 5; code++) {
+        d = tugzeck_decode(code, row, TUGZECK_ROW(code), word, TUGZECK_WORD(code), soft, TUGZECK_ROW(code), scratch, TUGZECK_SCRATCH);
+        SAME(d.number, 0);
+        SAME(d.metric, 600);
+        SAME(word[14], 15);
+        SAME(soft[59], code == 4 ? -100 : -140);
+    }
     row[20] = -128;
-    d = tugzeck_decode(1, row, 21, word, 7, soft, 21);
+    scratch[0] = 9;
+    d = tugzeck_decode(1, row, 21, word, 7, soft, 21, scratch, TUGZECK_SCRATCH);
     SAME(d.number, TUGZECK_RELIABILITY);
     SAME(d.metric, 0);
+    SAME(scratch[0], 9);
 
     for (int i = 0; i < TUGZECK_MOST_ROW; i++)
         row[i] = 10;
-    struct tugzeck_marking m = tugzeck_mark(1, row, 21, codeword, 7);
+    struct tugzeck_marking m = tugzeck_mark(1, row, 21, codeword, 7, scratch, TUGZECK_SCRATCH - 1);
+    SAME(m.number, TUGZECK_SCRATCH_LENGTH);
+    SAME(m.verdict, 0);
+    SAME(m.shortfall, 0);
+    SAME(scratch[0], 9);
+    m = tugzeck_mark(1, row, 21, codeword, 7, scratch, TUGZECK_SCRATCH);
     SAME(m.number, 0);
     SAME(m.verdict, TUGZECK_SHORT);
     SAME(m.shortfall, 100);
+    SAME(scratch[0], 0);
+    m = tugzeck_mark(4, row, 60, by_six, 15, scratch, TUGZECK_SCRATCH);
+    SAME(m.number, 0);
+    SAME(m.verdict, TUGZECK_SHORT);
+    SAME(m.shortfall, 280);
+    m = tugzeck_mark(5, row, 60, by_four, 15, scratch, TUGZECK_SCRATCH);
+    SAME(m.number, 0);
+    SAME(m.verdict, TUGZECK_NONE);
     m = tugzeck_mark_by(3, 2, row, 21, codeword, 7, scratch, TUGZECK_SCRATCH);
     SAME(m.number, 0);
     SAME(m.shortfall, 100);
-    m = tugzeck_mark(1, row, 21, other, 7);
+    m = tugzeck_mark(1, row, 21, other, 7, scratch, TUGZECK_SCRATCH);
     SAME(m.number, 0);
     SAME(m.verdict, TUGZECK_NONE);
     SAME(m.shortfall, 0);
-    m = tugzeck_mark(2, row, 20, other, 7);
+    m = tugzeck_mark(2, row, 20, other, 7, scratch, TUGZECK_SCRATCH);
     SAME(m.number, TUGZECK_ROW_LENGTH);
     SAME(m.verdict, 0);
     SAME(m.shortfall, 0);
 
-    enum { BYTES = TUGZECK_QUESTION_BYTES(1) + TUGZECK_QUESTION_BYTES(3) + TUGZECK_END_BYTES };
-    static const uint32_t codes[2] = {1, 3}, numbers[2] = {7, TUGZECK_QUESTION_NUMBERS - 1};
-    uint8_t sheet[BYTES], words[7 + 15] = {3, 6, 1};
-    int16_t rows[21 + 60];
-    for (int i = 0; i < 21 + 60; i++)
+    enum {
+        BYTES = TUGZECK_QUESTION_BYTES(1) + TUGZECK_QUESTION_BYTES(3) + TUGZECK_QUESTION_BYTES(4) + TUGZECK_QUESTION_BYTES(5) + TUGZECK_END_BYTES,
+        ROWS = TUGZECK_ROW(1) + TUGZECK_ROW(3) + TUGZECK_ROW(4) + TUGZECK_ROW(5),
+        WORDS = TUGZECK_WORD(1) + TUGZECK_WORD(3) + TUGZECK_WORD(4) + TUGZECK_WORD(5)
+    };
+    static const uint32_t codes[4] = {1, 3, 4, 5}, numbers[4] = {7, TUGZECK_QUESTION_NUMBERS - 1, 8, 9}, code_6[4] = {1, 3, 6, 5};
+    uint8_t sheet[BYTES], words[WORDS] = {3, 6, 1};
+    memcpy(words + 22, by_four, 15);
+    memcpy(words + 37, by_four, 15);
+    int16_t rows[ROWS];
+    for (int i = 0; i < ROWS; i++)
         rows[i] = 10;
-    SAME(tugzeck_write_sheet(codes, 2, numbers, 2, rows, 21 + 60, words, 7 + 15, sheet, BYTES), 0);
+    SAME(tugzeck_write_sheet(codes, 4, numbers, 4, rows, ROWS, words, WORDS, sheet, BYTES), 0);
     SAME(sheet[0] | sheet[1] << 8 | sheet[2] << 16 | sheet[3] << 24, 0x11000007);
     SAME(sheet[BYTES - 1], 0xF0);
-    SAME(tugzeck_write_sheet(codes, 2, numbers, 1, rows, 21 + 60, words, 7 + 15, sheet, BYTES), TUGZECK_COUNT);
-    SAME(tugzeck_write_sheet(codes, 2, numbers, 2, rows, 21 + 60, words, 7 + 15, sheet, BYTES - 1), TUGZECK_OUTPUT);
+    SAME(tugzeck_write_sheet(codes, 4, numbers, 3, rows, ROWS, words, WORDS, sheet, BYTES), TUGZECK_COUNT);
+    SAME(tugzeck_write_sheet(code_6, 4, numbers, 4, rows, ROWS, words, WORDS, sheet, BYTES), TUGZECK_CODE);
+    SAME(tugzeck_write_sheet(codes, 4, numbers, 4, rows, ROWS, words, WORDS, sheet, BYTES - 1), TUGZECK_OUTPUT);
 
     struct tugzeck_judgement j = tugzeck_judge_sheet(sheet, BYTES);
     SAME(j.number, 0);
-    SAME(j.questions, 2);
+    SAME(j.questions, 4);
     j = tugzeck_judge_sheet(sheet, BYTES - 4);
     SAME(j.number, TUGZECK_RUNS_OUT);
     SAME(j.questions, 0);
@@ -183,6 +237,11 @@ int main(void) {
     SAME(q.found, 1);
     SAME(q.code, 3);
     SAME(q.question, TUGZECK_QUESTION_NUMBERS - 1);
+    q = tugzeck_question(sheet, BYTES, 3, row, 60, word, 15);
+    SAME(q.number, 0);
+    SAME(q.code, 5);
+    SAME(q.question, 9);
+    SAME(memcmp(word, by_four, 15), 0);
     q = tugzeck_question(sheet, BYTES, 0, row, 21, word, 7);
     SAME(q.number, 0);
     SAME(q.found, 1);
@@ -190,7 +249,7 @@ int main(void) {
     SAME(q.question, 7);
     SAME(memcmp(word, codeword, 7), 0);
     SAME(memcmp(row, rows, sizeof(int16_t) * 21), 0);
-    q = tugzeck_question(sheet, BYTES, 2, row, 21, word, 7);
+    q = tugzeck_question(sheet, BYTES, 4, row, 21, word, 7);
     SAME(q.number | q.found | q.code | q.question, 0);
     q = tugzeck_question(sheet, BYTES, 1, row, 21, word, 7);
     SAME(q.number, TUGZECK_OUTPUT);

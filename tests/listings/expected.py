@@ -4,18 +4,27 @@
     tests/listings/expected.py          compare the committed files with what is computed here
     tests/listings/expected.py --write  write them anew
 
-Everything is computed here from document 01 alone: field products bit by bit, the codewords of codes 1 and 2 one after another,
-and code 3 by a trellis over the 2^8 values that a word can have at its two roots (the Wolf trellis), which is also held to the
-codewords one after another of codes 1 and 2. A refusal stands beside its sheet, and the reader below must find it too.
-It needs Python alone and takes some ten seconds.
+Everything is computed here from documents 01 and 02 alone: field products bit by bit, and every code by the layers of its words,
+over the valid configurations. That is held to the codewords one after another of codes 1 and 2, to a trellis over the values that a
+word can have at its roots (the Wolf trellis) for codes 1 to 3 on every row and for code 4 on two, and in every code to the word that the
+signs of the soft outputs spell where none is 0. A refusal stands beside its sheet, and the reader below must find it too.
+It needs Python alone and takes some 30 seconds.
 """
+import array
+import itertools
 import os
 import sys
 
 ROOT = os.path.join(os.path.dirname(os.path.abspath(__file__)), "..", "..", "crates")
 
 # --- codes: (n, k, m, roots, the field's polynomial)
-CODES = {1: (7, 5, 3, 2, 0b1011), 2: (7, 3, 3, 4, 0b1011), 3: (15, 13, 4, 2, 0b10011)}
+CODES = {
+    1: (7, 5, 3, 2, 0b1011),
+    2: (7, 3, 3, 4, 0b1011),
+    3: (15, 13, 4, 2, 0b10011),
+    4: (15, 11, 4, 4, 0b10011),
+    5: (15, 9, 4, 6, 0b10011),
+}
 
 
 def product(code, a, b):
@@ -50,16 +59,16 @@ def is_codeword(code, word):
 
 
 def parities(code):
-    """For each message position the parity symbols of a 1 there, found by trying all."""
-    n, k, m, roots, _ = CODES[code]
-    found = []
-    for p in range(k):
-        for x in range(1 << (m * roots)):
-            parity = [x >> (m * j) & ((1 << m) - 1) for j in range(roots)]
-            word = parity + [1 if q == p else 0 for q in range(k)]
-            if is_codeword(code, word):
-                found.append(parity)
-                break
+    """For each message position the parity symbols of a 1 there: what is left of that power of X when it is divided by all X - alpha^t."""
+    _, k, _, roots, _ = CODES[code]
+    generator = [1]
+    for t in range(1, roots + 1):
+        by_root = [product(code, c, power(code, t)) for c in generator]
+        generator = [a ^ b for a, b in zip([0] + generator, by_root + [0])]
+    found = [generator[:-1]]
+    for _ in range(1, k):
+        top = found[-1][-1]
+        found.append([a ^ product(code, top, g) for a, g in zip([0] + found[-1][:-1], generator)])
     return found
 
 
@@ -99,6 +108,7 @@ def all_codewords(code):
 
 
 EVERY = {1: all_codewords(1), 2: all_codewords(2)}
+NONE = -(10**9)
 
 
 def one_after_another(code, row):
@@ -116,7 +126,7 @@ def one_after_another(code, row):
 
 
 def trellis(code, row):
-    """The same over the values at the roots."""
+    """The same over the values at all roots at once."""
     n, _, m, roots, _ = CODES[code]
     columns = []
     for i in range(n):
@@ -125,12 +135,12 @@ def trellis(code, row):
             for t in range(1, roots + 1):
                 column |= product(code, 1 << j, power(code, i * t)) << (m * (t - 1))
             columns.append(column)
-    states, none = 1 << (m * roots), -(10**9)
+    states = 1 << (m * roots)
 
     def step(table, r, c):
-        return [max(table[s] + r, table[s ^ c] - r) for s in range(states)]
+        return array.array("i", [max(table[s] + r, table[s ^ c] - r) for s in range(states)])
 
-    start = [0] + [none] * (states - 1)
+    start = [0] + [NONE] * (states - 1)
     ahead = [start]
     for r, c in zip(row, columns):
         ahead.append(step(ahead[-1], r, c))
@@ -146,11 +156,100 @@ def trellis(code, row):
     return ahead[-1][0], soft
 
 
+def taken_at(code):
+    """The t of the values alpha^t that make a syndrome, each with the values that a layer can have there, as they are numbered."""
+    _, _, m, roots, _ = CODES[code]
+    every = list(range(1 << m))
+    return [(t, values) for t, values in ((1, every), (3, every), (5, [0, 1, 6, 7])) if t <= roots and (t < 5 or m == 4)]
+
+
+def valid_values(code, t, values):
+    """The values of all layers at alpha^t with which the sum over layers is zero at every root whose value follows by squaring."""
+    n, _, m, roots, _ = CODES[code]
+    valid = list(itertools.product(values, repeat=m))
+    squared = {v: v for v in values}
+    for e in range(m):
+        if (t << e) % n in range(1, roots + 1):
+            times = [{v: product(code, power(code, j), squared[v]) for v in values} for j in range(m)]
+
+            def total(layers):
+                s = 0
+                for j, v in enumerate(layers):
+                    s ^= times[j][v]
+                return s
+
+            valid = [layers for layers in valid if total(layers) == 0]
+        squared = {v: product(code, x, x) for v, x in squared.items()}
+    return valid
+
+
+def configurations(code):
+    """Every valid tuple of syndromes."""
+    m = CODES[code][2]
+    found, size = [(0,) * m], 1
+    for t, values in taken_at(code):
+        places = [[size * values.index(v) for v in layers] for layers in valid_values(code, t, values)]
+        found = [tuple(map(sum, zip(s, place))) for s in found for place in places]
+        size *= len(values)
+    return size, found
+
+
+CONFIGURATIONS = {code: configurations(code) for code in CODES}
+assert [len(found) for _, found in CONFIGURATIONS.values()] == [8, 64, 256, 65536, 65536]
+
+
+def layer(code, row):
+    """For each position and bit value: by the syndrome, the greatest metric of a binary word that has it there."""
+    n = CODES[code][0]
+    size = CONFIGURATIONS[code][0]
+    columns = []
+    for i in range(n):
+        column, weight = 0, 1
+        for t, values in taken_at(code):
+            column += weight * values.index(power(code, i * t % n))
+            weight *= len(values)
+        columns.append(column)
+    found = []
+    for i in range(n):
+        table = [0] + [NONE] * (size - 1)
+        for r, c in zip(row[:i] + row[i + 1 :], columns[:i] + columns[i + 1 :]):
+            table = [max(table[s] + r, table[s ^ c] - r) for s in range(size)]
+        found.append(([x + row[i] for x in table], [table[s ^ columns[i]] - row[i] for s in range(size)]))
+    return found
+
+
+def by_layers(code, row):
+    """The same over the valid configurations."""
+    n, _, m, _, _ = CODES[code]
+    size, tuples = CONFIGURATIONS[code]
+    layers = [layer(code, row[j::m]) for j in range(m)]
+    best = [[max(zero, one) for zero, one in zip(*layers[j][0])] for j in range(m)]
+    others = [[NONE] * size for _ in range(m)]
+    for syndromes in tuples:
+        own = [best[j][s] for j, s in enumerate(syndromes)]
+        total = sum(own)
+        for j, s in enumerate(syndromes):
+            rest = total - own[j]
+            if rest > others[j][s]:
+                others[j][s] = rest
+
+    def greatest(j, held):
+        return max(a + b for a, b in zip(others[j], held))
+
+    pairs = [[greatest(j, held) for held in layers[j][i]] for i in range(n) for j in range(m)]
+    return max(pairs[0]), [zero - one for zero, one in pairs]
+
+
 def decoded(code, row):
-    if code == 3:
-        return trellis(code, row)
-    found = one_after_another(code, row)
-    assert found == trellis(code, row)
+    best, soft = found = by_layers(code, row)
+    if code in EVERY:
+        assert found == one_after_another(code, row)
+    if code < 4:
+        assert found == trellis(code, row)
+    if all(soft):
+        m = CODES[code][2]
+        word = [sum((s < 0) << j for j, s in enumerate(soft[i : i + m])) for i in range(0, len(soft), m)]
+        assert is_codeword(code, word) and metric(code, row, word) == best
     return found
 
 
@@ -237,6 +336,9 @@ def read(data):
 
 
 # --- listings
+MET = set()
+
+
 def line(code, number, row, word):
     best, soft = decoded(code, row)
     verdict, short = "none", "-"
@@ -244,6 +346,7 @@ def line(code, number, row, word):
         short = best - metric(code, row, word)
         verdict = "short" if short else "best"
     decided = "".join("1" if s < 0 else "0" for s in soft)
+    MET.update([(code, verdict), (code, "one best word" if all(soft) else "tied")])
     return f"{number} {code} {best} {verdict} {short} {decided} {min(abs(s) for s in soft)}\n"
 
 
@@ -352,9 +455,10 @@ def cases():
     yield "zero_questions", sheet([]), None
     yield "ties", sheet(ties()), None
     yield "largest_numbers", sheet(largest()), None
-    three = [(code, 7, any_row(code), any_word(code)) for code in CODES]
-    yield "all_codes", sheet(three), None
-    yield "codes_1_and_2", sheet(three[:2]), None
+    five = [(code, 7, any_row(code), any_word(code)) for code in CODES]
+    yield "all_codes", sheet(five), None
+    yield "codes_1_and_2", sheet(five[:2]), None
+    yield "codes_5_and_4", sheet(five[:2:-1]), None
 
     def at_127(code, r):
         row = flat(code, 1)
@@ -364,9 +468,11 @@ def cases():
     yield "last_reliability_127", sheet([at_127(1, 127)]), None
     yield "last_reliability_minus_127", sheet([at_127(1, -127)]), None
     yield "last_reliability_minus_128", sheet([at_127(1, -128)]), 5
+    yield "last_reliability_minus_127_of_codes_4_and_5", sheet([at_127(4, -127), at_127(5, -127)]), None
+    yield "last_reliability_minus_128_of_code_5", sheet([at_127(4, -127), at_127(5, -128)]), 5
 
-    # words 0 to 9: the question of code 1; 10 to 19: of code 2; 20 to 43: of code 3; 44: the end
-    words = sheet_words(three)
+    # words 0 to 9: the question of code 1; 10 to 19: of code 2; 20 to 43: of code 3; 44 to 67: of code 4; 68 to 91: of code 5; 92: the end
+    words = sheet_words(five)
 
     def with_word(i, w):
         return as_bytes(words[:i] + [w] + words[i + 1 :])
@@ -383,12 +489,15 @@ def cases():
     yield "ends_before_the_row", as_bytes(words[:1]), 9
     yield "ends_in_a_row", as_bytes(words[:13]), 9
     yield "ends_in_a_word", as_bytes(words[:42]), 9
-    yield "no_end", as_bytes(words[:44]), 9
+    yield "ends_in_the_last_word", as_bytes(words[:91]), 9
+    yield "no_end", as_bytes(words[:92]), 9
     yield "no_end_after_two", as_bytes(words[:20]), 9
     yield "code_0", with_word(10, 0x10000002), 1
-    yield "code_4", with_word(20, 0x14000003), 1
+    yield "code_6", with_word(20, 0x16000003), 1
     yield "code_15", with_word(0, 0x1F000001), 1
+    yield "code_1_for_code_4", with_word(44, 0x11000007), 10
     yield "minus_128", with_word(23, reliability_128(23)), 5
+    yield "minus_128_of_code_4", with_word(64, reliability_128(64)), 5
     yield "symbol_8", with_word(8, words[8] & ~0xF00 | 0x800), 6
     yield "symbol_8_of_code_2", with_word(19, 0x30000008), 6
     yield "row_for_a_head", with_word(0, words[1]), 10
@@ -396,25 +505,27 @@ def cases():
     yield "symbols_in_a_row", with_word(30, words[42]), 10
     yield "row_in_a_word", with_word(9, words[1]), 10
     yield "end_in_a_row", with_word(4, 0xF0000000), 10
-    yield "kind_0", with_word(44, 3), 10
+    yield "row_in_a_word_of_code_5", with_word(91, words[90] & 0xFFFFFFF | 0x20000000), 10
+    yield "kind_0", with_word(92, 5), 10
     yield "above_three_reliabilities", with_bits(6, 0x1000000), 11
     yield "above_six_symbols", with_bits(41, 0x8000000), 11
     yield "above_the_last_symbol", with_bits(9, 0x10), 11
     yield "above_three_symbols", with_bits(43, 0x800000), 11
-    yield "above_the_end_count", with_bits(44, 0x4000000), 11
-    yield "end_counts_two", with_word(44, 0xF0000002), 12
-    yield "end_counts_four", with_word(44, 0xF0000004), 12
+    yield "above_three_symbols_of_code_4", with_bits(67, 0x1000), 11
+    yield "above_the_end_count", with_bits(92, 0x4000000), 11
+    yield "end_counts_four", with_word(92, 0xF0000004), 12
+    yield "end_counts_six", with_word(92, 0xF0000006), 12
     yield "one_question_counted_for_none", as_bytes([0xF0000001]), 12
     yield "a_word_after_the_end", as_bytes(words + [0]), 13
-    yield "a_second_end", as_bytes(words + [words[44]]), 13
+    yield "a_second_end", as_bytes(words + [words[92]]), 13
 
     # which comes first
     yield "bytes_before_kind", with_word(0, 0)[:-1], 9
     yield "kind_before_unused_bits", with_word(6, 0x48000000), 10
     yield "unused_bits_before_reliability", with_word(23, reliability_128(23) | 0x1000000), 11
     yield "unused_bits_before_symbol", with_word(9, 0x30000098), 11
-    yield "unused_bits_before_count", with_word(44, 0xF1000002), 11
-    yield "count_before_what_follows", as_bytes(words[:44] + [0xF0000002, 0]), 12
+    yield "unused_bits_before_count", with_word(92, 0xF1000004), 11
+    yield "count_before_what_follows", as_bytes(words[:92] + [0xF0000004, 0]), 12
     yield "first_word_counts", as_bytes(words[:8] + [0x30000008] + words[9:10] + [0x10000002] + words[11:]), 6
     yield "row_before_word", as_bytes(words[:7] + [reliability_128(7), 0x30000008] + words[9:]), 5
 
@@ -432,7 +543,7 @@ def cases():
     yield "two_hundred_questions", sheet(full), None
     yield "two_hundred_and_one", as_bytes(sheet_words(ones)[:-1] + head + [0xF00000C9]), 12
     yield "a_201st_head_alone", as_bytes(sheet_words(ones)[:-1] + head[:1]), 12
-    yield "a_201st_head_before_its_code", as_bytes(sheet_words(ones)[:-1] + [0x14000001, 0xF00000C9]), 12
+    yield "a_201st_head_before_its_code", as_bytes(sheet_words(ones)[:-1] + [0x16000001, 0xF00000C9]), 12
     yield "a_201st_word_of_another_kind", as_bytes(sheet_words(ones)[:-1] + head[1:]), 10
     yield LONG, sheet(full) + b"\1\2\3\4\5\6", 13  # 19,210 bytes, of which 19,208 are judged; all of them would be refused by 9
 
@@ -452,6 +563,9 @@ def texts():
         if name == LONG:
             files["test_long_listing/stdin"] = data
             files["test_long_listing/stdout"] = text.encode()
+    assert MET == {(code, v) for code in CODES for v in ("none", "short", "best", "one best word", "tied")}, MET
+    for row in (any_row(4), [r // 60 for r in any_row(4)]):
+        assert by_layers(4, row) == trellis(4, row)
     files["test_listings/args"] = names.encode()
     files["test_listings/stdout"] = out.encode()
     return files

@@ -43,9 +43,9 @@ impl Comparison {
         Comparison { thresholds: thresholds(), batch: Vec::new(), turn: 0, numbers: 0, nans: 0, refusals: 0 }
     }
 
-    // The codes in turn: n·m is 21 for codes 1 and 2, and 60 for code 3.
+    // The codes in turn: n·m is 21 for codes 1 and 2, and 60 for codes 3 to 5.
     fn code(&self) -> (u32, usize) {
-        [(1, 21), (2, 21), (3, 60)][self.turn % 3]
+        [(1, 21), (2, 21), (3, 60), (4, 60), (5, 60)][self.turn % 5]
     }
 
     fn pattern(&mut self, bits: u32) {
@@ -138,13 +138,13 @@ fn halves(c: &mut Comparison) {
 fn refusals(c: &mut Comparison) {
     let one = [0x3f80_0000u32; 64];
     let nan = [0x7fc0_0000u32; 64];
-    for code in [0, 4, 5, 255, 256, 257, u32::MAX] {
+    for code in [0, 6, 7, 255, 256, 257, u32::MAX] {
         for long in [0, 7, 21, 60] {
             c.refused(code, &one[..long], long, 1);
             c.refused(code, &nan[..long], 3, 1);
         }
     }
-    for (code, n, long) in [(1, 7, 21), (2, 7, 21), (3, 15, 60)] {
+    for (code, n, long) in [(1, 7, 21), (2, 7, 21), (3, 15, 60), (4, 15, 60), (5, 15, 60)] {
         for count in (0..64).filter(|count| *count != long) {
             c.refused(code, &one[..count], long, 2);
             c.refused(code, &nan[..count], n, 2);

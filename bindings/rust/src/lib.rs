@@ -1,28 +1,32 @@
-//! Most-likely words of short Reed-Solomon codes, three by number, (7, 5), (7, 3) and (15, 13), and ten by parameters: safe calls over the static library,
-//! which is proved for every input. One function a call; a call takes any input, refuses bad input by the first [`Refusal`] in the order stated, and
+//! Most-likely words of ten short Reed-Solomon codes, each by its parameters and five by a number too: safe calls over the static library, which is
+//! proved for every input. One function a call; a call takes any input, refuses bad input by the first [`Refusal`] in the order stated, and
 //! changes no output then. Outputs are lent, each with exactly its length. Nothing is allocated, and there is no global state.
 //!
 //! What the proofs do not cover is this package: that it declares the calls as they are, and hands slices over as pointers and counts.
 //! Its tests compare every call with independent Rust.
 //!
-//! The codes are numbered 1 to 3. A word has [`word_length`] symbols (n) of m bits, a row [`row_length`] reliabilities (n·m): entry
-//! i·m + (j - 1) belongs to layer j, the bit of weight 2^(j-1), at position i. A positive reliability favours 0.
+//! The codes are numbered 1 to 5: (7, 5), (7, 3), (15, 13), (15, 11) and (15, 9). A word has [`word_length`] symbols (n) of m bits, a row
+//! [`row_length`] reliabilities (n·m): entry i·m + (j - 1) belongs to layer j, the bit of weight 2^(j-1), at position i. A positive reliability
+//! favours 0.
 //!
 //! A function whose name ends in `_by` takes a code's parameters in place of its number: m, 3 or 4, and r, the number of its roots α to α^r. With m = 3 each
 //! r from 1 to 6 may be chosen, with m = 4 the r 1, 2, 4 and 6. It does what the function without `_by` does; only, its code is refused by 1 for another m,
-//! and directly after that by 16 for another r, and [`decode_by`] and [`mark_by`] are lent a scratch besides, whose length is refused by 17.
+//! and directly after that by 16 for another r.
 //!
 //! ```
 //! let row = [10i16; 21];
-//! let (mut word, mut soft) = ([0u8; 7], [0i16; 21]);
-//! assert_eq!(tugzeck::decode(1, &row, &mut word, &mut soft), Ok(210));
+//! let (mut word, mut soft, mut scratch) = ([0u8; 7], [0i16; 21], vec![0i32; tugzeck::SCRATCH]);
+//! assert_eq!(tugzeck::decode(1, &row, &mut word, &mut soft, &mut scratch), Ok(210));
 //! assert_eq!((word, soft), ([0; 7], [60; 21]));
-//! assert_eq!(tugzeck::mark(1, &row, &[3, 6, 1, 0, 0, 0, 0]), Ok(tugzeck::Verdict::Short(100)));
+//! assert_eq!(tugzeck::mark(1, &row, &[3, 6, 1, 0, 0, 0, 0], &mut scratch), Ok(tugzeck::Verdict::Short(100)));
 //! ```
 
 mod raw;
 
 use std::fmt;
+
+/// Numbers of a scratch, which decoder and marker are lent: they may hold anything, and are all 0 after the call, unchanged where it refuses.
+pub const SCRATCH: usize = 16_384;
 
 /// The greatest size of a reliability.
 pub const MOST_RELIABILITY: i16 = 127;
@@ -48,30 +52,32 @@ pub const SINGLE: u8 = 2;
 /// The kind of a received symbol of two bits, by an in-phase sample and then a quadrature sample.
 pub const PAIR: u8 = 3;
 
-/// Symbols to a word (n). Codes are 1 to 3; of other numbers this says nothing.
+/// Symbols to a word (n). Codes are 1 to 5; of other numbers this says nothing.
 pub const fn word_length(code: u32) -> usize {
-    if code == 3 {
-        15
-    } else {
+    if code < 3 {
         7
+    } else {
+        15
     }
 }
 
-/// Symbols to a message (k). Codes are 1 to 3; of other numbers this says nothing.
+/// Symbols to a message (k). Codes are 1 to 5; of other numbers this says nothing.
 pub const fn message_length(code: u32) -> usize {
     match code {
-        3 => 13,
+        1 => 5,
         2 => 3,
-        _ => 5,
+        3 => 13,
+        4 => 11,
+        _ => 9,
     }
 }
 
-/// Bits to a word, and reliabilities to a row (n·m). Codes are 1 to 3; of other numbers this says nothing.
+/// Bits to a word, and reliabilities to a row (n·m). Codes are 1 to 5; of other numbers this says nothing.
 pub const fn row_length(code: u32) -> usize {
-    if code == 3 {
-        60
-    } else {
+    if code < 3 {
         21
+    } else {
+        60
     }
 }
 
@@ -98,16 +104,16 @@ pub const fn row_length_by(m: u32) -> usize {
     }
 }
 
-/// Bytes of the sheet that holds questions of these codes. Codes are 1 to 3; of other numbers this says nothing.
+/// Bytes of the sheet that holds questions of these codes. Codes are 1 to 5; of other numbers this says nothing.
 pub fn sheet_length(codes: &[u32]) -> usize {
-    codes.iter().map(|code| if *code == 3 { 96 } else { 40 }).sum::<usize>() + 4
+    codes.iter().map(|code| if *code < 3 { 40 } else { 96 }).sum::<usize>() + 4
 }
 
 /// Why a call is refused, with its number.
 #[derive(Clone, Copy, Debug, PartialEq, Eq, Hash)]
 #[repr(u32)]
 pub enum Refusal {
-    /// The code is not 1, 2 or 3, or m is not 3 or 4.
+    /// The code is not 1 to 5, or m is not 3 or 4.
     Code = 1,
     /// A row is not n·m long.
     RowLength = 2,
@@ -279,15 +285,15 @@ pub fn check_word_by(m: u32, r: u32, word: &[u8]) -> Result<bool, Refusal> {
 
 /// Splits a codeword into layers: answers its configuration (with m = 3 the fourth place is 0), and writes into n·m places, layer 1 first,
 /// the BCH word that is left of each layer when the leader of its coset is added: of the coset's words of least weight the one with the smallest number,
-/// position i weighing 2^i. Refuses by 1, 3, 4, 6, 8.
+/// position i weighing 2^i. A syndrome is the value at α, from three roots on + 2^m times that at α^3, and for m = 4 from five on + 256 times the number of
+/// that at α^5, where 0, 1, 6, 7 are numbered 0 to 3. Refuses by 1, 3, 4, 6, 8.
 pub fn split(code: u32, word: &[u8], bch: &mut [u8]) -> Result<[u16; 4], Refusal> {
     // SAFETY: both are slices, and the output is borrowed alone.
     let s = unsafe { raw::tugzeck_split(code, word.as_ptr(), word.len(), bch.as_mut_ptr(), bch.len()) };
     unless_refused(s.number, s.configuration)
 }
 
-/// [`split`], by m and r. A syndrome is the value at α, from three roots on + 2^m times that at α^3, and for m = 4 from five on + 256 times the number of
-/// that at α^5, where 0, 1, 6, 7 are numbered 0 to 3. Refuses by 1, 16, 3, 4, 6, 8.
+/// [`split`], by m and r. Refuses by 1, 16, 3, 4, 6, 8.
 pub fn split_by(m: u32, r: u32, word: &[u8], bch: &mut [u8]) -> Result<[u16; 4], Refusal> {
     // SAFETY: both are slices, and the output is borrowed alone.
     let s = unsafe { raw::tugzeck_split_by(m, r, word.as_ptr(), word.len(), bch.as_mut_ptr(), bch.len()) };
@@ -338,18 +344,26 @@ pub fn receive_by(m: u32, r: u32, kinds: &[u8], samples: &[f32], row: &mut [i16]
 
 /// Decodes a row of n·m reliabilities: answers the best metric, and writes the codeword that has it into n places (of several, the first when
 /// symbols are compared from position 0) and the soft outputs into n·m: the greatest metric of a codeword with 0 at that bit less the greatest
-/// with 1. Refuses by 1, 2, 4, 5.
-pub fn decode(code: u32, row: &[i16], word: &mut [u8], soft: &mut [i16]) -> Result<i32, Refusal> {
-    // SAFETY: all are slices, and the two outputs are borrowed apart.
-    let d = unsafe { raw::tugzeck_decode(code, row.as_ptr(), row.len(), word.as_mut_ptr(), word.len(), soft.as_mut_ptr(), soft.len()) };
+/// with 1. The scratch has [`SCRATCH`] numbers. Refuses by 1, 2, 4, 17, 5.
+pub fn decode(code: u32, row: &[i16], word: &mut [u8], soft: &mut [i16], scratch: &mut [i32]) -> Result<i32, Refusal> {
+    // SAFETY: all are slices, and the outputs and the scratch are borrowed apart.
+    let d = unsafe {
+        raw::tugzeck_decode(
+            code,
+            row.as_ptr(),
+            row.len(),
+            word.as_mut_ptr(),
+            word.len(),
+            soft.as_mut_ptr(),
+            soft.len(),
+            scratch.as_mut_ptr(),
+            scratch.len(),
+        )
+    };
     unless_refused(d.number, d.metric)
 }
 
-/// Numbers of the scratch that [`decode_by`] and [`mark_by`] are lent.
-pub const SCRATCH: usize = 16_384;
-
-/// [`decode`], by m and r, with a scratch of [`SCRATCH`] numbers lent besides, whatever they are: all 0 after it, unchanged where it refuses. Refuses by
-/// 1, 16, 2, 4, 17, 5.
+/// [`decode`], by m and r. Refuses by 1, 16, 2, 4, 17, 5.
 ///
 /// ```
 /// let (mut word, mut soft, mut scratch) = ([0u8; 15], [0i16; 60], vec![0i32; tugzeck::SCRATCH]);
@@ -375,13 +389,14 @@ pub fn decode_by(m: u32, r: u32, row: &[i16], word: &mut [u8], soft: &mut [i16],
     unless_refused(d.number, d.metric)
 }
 
-/// Marks a word of n symbols, handed in for a row of n·m reliabilities. Every codeword with the best metric is `Best`. Refuses by 1, 2, 3, 5, 6.
-pub fn mark(code: u32, row: &[i16], word: &[u8]) -> Result<Verdict, Refusal> {
-    // SAFETY: both are slices.
-    verdict(unsafe { raw::tugzeck_mark(code, row.as_ptr(), row.len(), word.as_ptr(), word.len()) })
+/// Marks a word of n symbols, handed in for a row of n·m reliabilities. Every codeword with the best metric is `Best`. The scratch has [`SCRATCH`]
+/// numbers. Refuses by 1, 2, 3, 17, 5, 6.
+pub fn mark(code: u32, row: &[i16], word: &[u8], scratch: &mut [i32]) -> Result<Verdict, Refusal> {
+    // SAFETY: all are slices, and the scratch is borrowed alone.
+    verdict(unsafe { raw::tugzeck_mark(code, row.as_ptr(), row.len(), word.as_ptr(), word.len(), scratch.as_mut_ptr(), scratch.len()) })
 }
 
-/// [`mark`], by m and r, with a scratch of [`SCRATCH`] numbers lent besides, as [`decode_by`] is. Refuses by 1, 16, 2, 3, 17, 5, 6.
+/// [`mark`], by m and r. Refuses by 1, 16, 2, 3, 17, 5, 6.
 pub fn mark_by(m: u32, r: u32, row: &[i16], word: &[u8], scratch: &mut [i32]) -> Result<Verdict, Refusal> {
     // SAFETY: all are slices, and the scratch is borrowed alone.
     verdict(unsafe { raw::tugzeck_mark_by(m, r, row.as_ptr(), row.len(), word.as_ptr(), word.len(), scratch.as_mut_ptr(), scratch.len()) })

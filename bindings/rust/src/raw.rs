@@ -77,6 +77,8 @@ extern "C" {
         word_count: usize,
         soft: *mut i16,
         soft_count: usize,
+        scratch: *mut i32,
+        scratch_count: usize,
     ) -> Decoding;
     pub fn tugzeck_decode_by(
         m: u32,
@@ -90,7 +92,15 @@ extern "C" {
         scratch: *mut i32,
         scratch_count: usize,
     ) -> Decoding;
-    pub fn tugzeck_mark(code: u32, row: *const i16, row_count: usize, word: *const u8, word_count: usize) -> Marking;
+    pub fn tugzeck_mark(
+        code: u32,
+        row: *const i16,
+        row_count: usize,
+        word: *const u8,
+        word_count: usize,
+        scratch: *mut i32,
+        scratch_count: usize,
+    ) -> Marking;
     pub fn tugzeck_mark_by(
         m: u32,
         r: u32,

@@ -1,13 +1,13 @@
-//! Decoder and marker by m and r against an independent search over the configurations of each of the ten codes: every word of every coset is tried, layer by
-//! layer, and the configurations are the layers of the codewords that are zero at all but the last positions, made by encoding and moved.
+//! Decoder and marker, by m and r and by number, against an independent search over the configurations of each of the ten codes: every word of every coset
+//! is tried, layer by layer, and the configurations are the layers of the codewords that are zero at all but the last positions, made by encoding and moved.
 
 use crate::codes::Code;
 use crate::draw::Draw;
-use crate::parameters::{code_of, encoded, refusal, syndrome, TEN};
-use crate::{number, Output};
+use crate::parameters::{code_of, encoded, refusal, syndrome, NUMBERED, TEN};
+use crate::{number, scratch, Output, CODES, NO_CODES};
 use tugzeck::{Refusal, Verdict};
 
-struct Search {
+pub struct Search {
     code: Code,
     /// The coset of every binary word, position i weighing 2^i, and how many cosets there are.
     cosets: Vec<usize>,
@@ -23,8 +23,7 @@ struct Tables {
 }
 
 impl Search {
-    fn new(m: u32, r: u32) -> Search {
-        let code = code_of(m, r);
+    pub fn new(code: Code) -> Search {
         let columns: Vec<usize> =
             (0..code.n).map(|i| syndrome(&code, &(0..code.n).map(|k| u8::from(k == i)).collect::<Vec<u8>>())).collect();
         let q = columns.iter().map(|c| usize::BITS - c.leading_zeros()).max().expect("a column") as usize;
@@ -71,7 +70,7 @@ impl Search {
     }
 
     /// The best metric, the first best word and every soft output.
-    fn decode(&self, row: &[i16]) -> (i32, Vec<u8>, Vec<i16>) {
+    pub fn decode(&self, row: &[i16]) -> (i32, Vec<u8>, Vec<i16>) {
         let (code, t) = (&self.code, self.tables(row));
         let total = |c: &[usize; 4]| (0..code.m).map(|j| t.least[j][c[j]]).sum::<u32>();
         let least = self.configurations.iter().map(total).min().expect("a configuration");
@@ -80,17 +79,20 @@ impl Search {
             (0..code.n).map(|i| (0..code.m).map(|j| ((t.first[j][c[j]] >> (code.n - 1 - i) & 1) as u8) << j).sum()).collect()
         };
         let first = self.configurations.iter().filter(|c| total(c) == least).map(word).min().expect("a configuration");
-        let mut pairs = vec![[u32::MAX; 2]; code.bits()];
+        // For each layer and coset: the least cost of the other layers, over the configurations with that coset there.
+        let mut others = vec![vec![u32::MAX; self.size]; code.m];
         for c in &self.configurations {
             let sum = total(c);
             for j in 0..code.m {
-                let others = sum - t.least[j][c[j]];
-                for i in 0..code.n {
-                    for v in 0..2 {
-                        let own = t.held[j][c[j]][i][v];
-                        if own != u32::MAX {
-                            pairs[i * code.m + j][v] = pairs[i * code.m + j][v].min(others + own);
-                        }
+                others[j][c[j]] = others[j][c[j]].min(sum - t.least[j][c[j]]);
+            }
+        }
+        let mut pairs = vec![[u32::MAX; 2]; code.bits()];
+        for (j, (rest, held)) in others.iter().zip(&t.held).enumerate() {
+            for (rest, held) in rest.iter().zip(held).filter(|(rest, _)| **rest != u32::MAX) {
+                for (i, own) in held.iter().enumerate().take(code.n) {
+                    for v in (0..2).filter(|v| own[*v] != u32::MAX) {
+                        pairs[i * code.m + j][v] = pairs[i * code.m + j][v].min(rest + own[v]);
                     }
                 }
             }
@@ -112,40 +114,59 @@ fn metric(code: &Code, row: &[i16], word: &[u8]) -> i32 {
     (0..code.bits()).map(|b| if word[b / code.m] >> (b % code.m) & 1 == 0 { i32::from(row[b]) } else { -i32::from(row[b]) }).sum()
 }
 
-fn rows(draw: &mut Draw, bits: usize, count: usize) -> Vec<Vec<i16>> {
-    (0..count)
-        .map(|k| match k % 4 {
-            0 if k == 0 => vec![0; bits],
-            1 => (0..bits).map(|_| draw.below(3) as i16 - 1).collect(),
-            2 => (0..bits).map(|_| if draw.below(8) == 0 { draw.below(255) as i16 - 127 } else { 0 }).collect(),
-            _ => (0..bits).map(|_| draw.below(255) as i16 - 127).collect(),
-        })
-        .collect()
+/// How a code is named to decoder and marker.
+#[derive(Clone, Copy, Debug)]
+enum Named {
+    By(u32, u32),
+    Number(u32),
+}
+
+impl Named {
+    fn decode(self, row: &[i16], word: &mut [u8], soft: &mut [i16], scratch: &mut [i32]) -> Result<i32, Refusal> {
+        match self {
+            Named::By(m, r) => tugzeck::decode_by(m, r, row, word, soft, scratch),
+            Named::Number(code) => tugzeck::decode(code, row, word, soft, scratch),
+        }
+    }
+
+    fn mark(self, row: &[i16], word: &[u8], scratch: &mut [i32]) -> Result<Verdict, Refusal> {
+        match self {
+            Named::By(m, r) => tugzeck::mark_by(m, r, row, word, scratch),
+            Named::Number(code) => tugzeck::mark(code, row, word, scratch),
+        }
+    }
+}
+
+/// The parameters, and the number where there is one.
+fn names(m: u32, r: u32) -> Vec<Named> {
+    let number = (1..).zip(NUMBERED).find(|(_, by)| *by == (m, r)).map(|(code, _)| Named::Number(code));
+    [Named::By(m, r)].into_iter().chain(number).collect()
 }
 
 #[test]
 fn decodings_and_marks() {
     let mut draw = Draw::new(33);
-    let (mut count, mut marks) = (0, [0; 3]);
+    let (mut count, mut numbered, mut marks) = (0, 0, [0; 3]);
     for (m, r) in TEN {
-        let search = Search::new(m, r);
+        let search = Search::new(code_of(m, r));
         let code = &search.code;
-        for row in rows(&mut draw, code.bits(), if m == 3 { 60 } else { 12 }) {
+        for k in 0..if m == 3 { 60 } else { 40 } {
+            let near = encoded(code, &draw.word(code.n - code.roots, code.m));
+            let row = draw.row(k, code.m, &near);
             let (best, first, soft) = search.decode(&row);
-            // The scratch may hold anything before a call.
-            let mut scratch: Vec<i32> = (0..tugzeck::SCRATCH).map(|_| draw.below(1 << 30) as i32 - (1 << 29)).collect();
-            let (mut word, mut out) = (Output::new(code.n), Output::<i16>::new(code.bits()));
-            assert_eq!(tugzeck::decode_by(m, r, &row, word.lent(), out.lent(), &mut scratch), Ok(best), "({m}, {r}), {row:?}");
-            assert_eq!(word.left(), first, "({m}, {r}), {row:?}");
-            assert_eq!(out.left(), soft, "({m}, {r}), {row:?}");
-            assert!(scratch.iter().all(|x| *x == 0));
-            count += 1;
+            for name in names(m, r) {
+                let (mut word, mut out, mut room) = (Output::new(code.n), Output::<i16>::new(code.bits()), scratch());
+                assert_eq!(name.decode(&row, word.lent(), out.lent(), room.lent()), Ok(best), "{name:?}, {row:?}");
+                assert_eq!(word.left(), first, "{name:?}, {row:?}");
+                assert_eq!(out.left(), soft, "{name:?}, {row:?}");
+                room.cleared();
+                count += 1;
+                numbered += usize::from(matches!(name, Named::Number(_)));
+            }
 
-            let other = encoded(code, &draw.word(code.n - code.roots, code.m));
             let mut none = first.clone();
             none[draw.below(code.n)] ^= 1;
-            for handed in [first, other, none] {
-                let mut scratch: Vec<i32> = (0..tugzeck::SCRATCH).map(|_| draw.below(1 << 30) as i32).collect();
+            for handed in [first, near, none] {
                 let expected = if !crate::every::is_codeword(code, &handed) {
                     Verdict::None
                 } else if metric(code, &row, &handed) == best {
@@ -153,18 +174,21 @@ fn decodings_and_marks() {
                 } else {
                     Verdict::Short(best - metric(code, &row, &handed))
                 };
-                assert_eq!(tugzeck::mark_by(m, r, &row, &handed, &mut scratch), Ok(expected), "({m}, {r}), {row:?}");
-                assert!(scratch.iter().all(|x| *x == 0));
-                marks[match expected {
-                    Verdict::None => 0,
-                    Verdict::Short(_) => 1,
-                    Verdict::Best => 2,
-                }] += 1;
+                for name in names(m, r) {
+                    let mut room = scratch();
+                    assert_eq!(name.mark(&row, &handed, room.lent()), Ok(expected), "{name:?}, {row:?}");
+                    room.cleared();
+                    marks[match expected {
+                        Verdict::None => 0,
+                        Verdict::Short(_) => 1,
+                        Verdict::Best => 2,
+                    }] += 1;
+                }
             }
         }
     }
     println!(
-        "compared: {count} rows of the ten codes decoded by parameters, {} best, {} short and {} other words marked",
+        "compared: {count} decodings against a search over the configurations of the ten codes, {numbered} of them by number; {} best, {} short and {} other words marked",
         marks[2], marks[1], marks[0]
     );
 }
@@ -172,43 +196,45 @@ fn decodings_and_marks() {
 #[test]
 fn refusals() {
     let mut count = 0;
-    for m in 0..=6 {
-        for r in 0..=8 {
-            let choice = refusal(m, r);
-            let code = if choice == 0 { code_of(m, r) } else { code_of(4, 4) };
-            let first = |own: u32| if choice == 0 { own } else { choice };
-            for (row, word, soft, scratch, value, own) in [
-                (code.bits() + 1, code.n, code.bits(), tugzeck::SCRATCH, 0, 2),
-                (code.bits(), code.n - 1, code.bits(), tugzeck::SCRATCH - 1, 0, 4),
-                (code.bits(), code.n, code.bits() + 1, 0, 0, 4),
-                (code.bits(), code.n, code.bits(), tugzeck::SCRATCH - 1, 128, 17),
-                (code.bits(), code.n, code.bits(), tugzeck::SCRATCH + 1, 0, 17),
-                (code.bits(), code.n, code.bits(), tugzeck::SCRATCH, -128, 5),
-            ] {
-                let row = vec![value; row];
-                let mut room: Vec<i32> = (0..scratch as i32).collect();
-                let (mut a, mut b) = (Output::new(word), Output::<i16>::new(soft));
-                assert_eq!(number(tugzeck::decode_by(m, r, &row, a.lent(), b.lent(), &mut room)), first(own), "({m}, {r})");
-                a.kept();
-                b.kept();
-                assert!(room.iter().enumerate().all(|(i, x)| *x == i as i32));
-                count += 1;
-            }
-            for (row, word, scratch, value, symbol, own) in [
-                (code.bits() + 1, code.n + 1, 0, 128, 16, 2),
-                (code.bits(), code.n + 1, 0, 128, 16, 3),
-                (code.bits(), code.n, 0, 128, 16, 17),
-                (code.bits(), code.n, tugzeck::SCRATCH, 128, 16, 5),
-                (code.bits(), code.n, tugzeck::SCRATCH, 127, 16, 6),
-            ] {
-                let (row, word) = (vec![value; row], vec![symbol; word]);
-                let mut room: Vec<i32> = (0..scratch as i32).collect();
-                assert_eq!(number(tugzeck::mark_by(m, r, &row, &word, &mut room)), first(own), "({m}, {r})");
-                assert!(room.iter().enumerate().all(|(i, x)| *x == i as i32));
-                count += 1;
-            }
+    let chosen = (0..=6).flat_map(|m| (0..=8).map(move |r| (Named::By(m, r), refusal(m, r), (m, r))));
+    let numbers = (1..).zip(NUMBERED).map(|(code, by)| (Named::Number(code), 0, by));
+    let no_numbers = NO_CODES.iter().flat_map(|c| CODES.map(|like| (Named::Number(*c), 1, NUMBERED[like as usize - 1])));
+    for (name, choice, (m, r)) in chosen.chain(numbers).chain(no_numbers) {
+        let code = if refusal(m, r) == 0 { code_of(m, r) } else { code_of(4, 4) };
+        let first = |own: u32| if choice == 0 { own } else { choice };
+        for (row, word, soft, scratch, value, own) in [
+            (code.bits() + 1, code.n, code.bits(), tugzeck::SCRATCH, 0, 2),
+            (code.bits(), code.n - 1, code.bits(), tugzeck::SCRATCH - 1, 0, 4),
+            (code.bits(), code.n, code.bits() + 1, 0, 0, 4),
+            (code.bits(), code.n, code.bits(), 0, 0, 17),
+            (code.bits(), code.n, code.bits(), tugzeck::SCRATCH - 1, 128, 17),
+            (code.bits(), code.n, code.bits(), tugzeck::SCRATCH + 1, 0, 17),
+            (code.bits(), code.n, code.bits(), tugzeck::SCRATCH, -128, 5),
+        ] {
+            let row = vec![value; row];
+            let (mut a, mut b, mut room) = (Output::new(word), Output::<i16>::new(soft), Output::new(scratch));
+            assert_eq!(number(name.decode(&row, a.lent(), b.lent(), room.lent())), first(own), "{name:?}");
+            a.kept();
+            b.kept();
+            room.kept();
+            count += 1;
+        }
+        for (row, word, scratch, value, symbol, own) in [
+            (code.bits() + 1, code.n + 1, 0, 128, 16, 2),
+            (code.bits(), code.n + 1, 0, 128, 16, 3),
+            (code.bits(), code.n, 0, 128, 16, 17),
+            (code.bits(), code.n, tugzeck::SCRATCH - 1, 0, 0, 17),
+            (code.bits(), code.n, tugzeck::SCRATCH + 1, 0, 0, 17),
+            (code.bits(), code.n, tugzeck::SCRATCH, 128, 16, 5),
+            (code.bits(), code.n, tugzeck::SCRATCH, 127, 16, 6),
+        ] {
+            let (row, word) = (vec![value; row], vec![symbol; word]);
+            let mut room = Output::new(scratch);
+            assert_eq!(number(name.mark(&row, &word, room.lent())), first(own), "{name:?}");
+            room.kept();
+            count += 1;
         }
     }
     assert_eq!(Refusal::Scratch.number(), 17);
-    println!("compared: {count} refusals of decoder and marker by parameters");
+    println!("compared: {count} refusals of decoder and marker, by parameters and by number");
 }

@@ -1,6 +1,6 @@
 //! Compares every call of the library with independent Rust, written from the paper on the codes and not from the library: every codeword of
-//! codes 1 and 2, a Wolf trellis of the whole of code 3 (shared with the bench), a judge and a writer of sheets, plain f64 arithmetic,
-//! received symbols read from the end.
+//! codes 1 and 2, a Wolf trellis of the whole of code 3 (shared with the bench), a search over the configurations of every code, a judge and a
+//! writer of sheets, plain f64 arithmetic, received symbols read from the end.
 //! Each test prints what it compared; `cargo test -- --nocapture` shows it.
 
 #[path = "../../../../bench/src/codes.rs"]
@@ -38,6 +38,12 @@ impl Mark for u8 {
 impl Mark for i16 {
     fn at(i: usize) -> i16 {
         -30_000 + i as i16
+    }
+}
+
+impl Mark for i32 {
+    fn at(i: usize) -> i32 {
+        (i as i32 + 1).wrapping_mul(-0x61c8_8647)
     }
 }
 
@@ -79,13 +85,25 @@ impl<T: Mark> Output<T> {
     }
 }
 
+/// A scratch of the right length, full of marks.
+pub fn scratch() -> Output<i32> {
+    Output::new(tugzeck::SCRATCH)
+}
+
+impl Output<i32> {
+    /// A scratch after an accepted call.
+    pub fn cleared(&self) {
+        assert!(self.left().iter().all(|x| *x == 0), "the scratch is not zero");
+    }
+}
+
 /// A result by its number.
 pub fn number<T>(result: Result<T, tugzeck::Refusal>) -> u32 {
     result.map_or_else(tugzeck::Refusal::number, |_| 0)
 }
 
 /// The numbers of the codes.
-pub const CODES: [u32; 3] = [1, 2, 3];
+pub const CODES: [u32; 5] = [1, 2, 3, 4, 5];
 
 /// Numbers of no code: near the codes, and near their multiples by bytes.
-pub const NO_CODES: [u32; 7] = [0, 4, 5, 255, 257, 0x0100_0003, u32::MAX];
+pub const NO_CODES: [u32; 8] = [0, 6, 7, 255, 257, 0x0100_0003, 0x0100_0005, u32::MAX];

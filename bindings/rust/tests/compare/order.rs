@@ -4,6 +4,7 @@
 use crate::codes::Code;
 use crate::draw::Draw;
 use crate::every::is_codeword;
+use crate::parameters::numbered;
 use crate::{number, Output, CODES, NO_CODES};
 
 /// The first condition that is met.
@@ -13,13 +14,30 @@ fn first(conditions: &[(u32, bool)]) -> u32 {
 
 /// Every code with its own lengths, and numbers of no code with the lengths of some code.
 fn codes() -> Vec<(u32, Code)> {
-    let own = CODES.map(|c| (c, Code::of(c)));
-    let none = NO_CODES.iter().flat_map(|c| CODES.map(|like| (*c, Code::of(like))));
+    let own = CODES.map(|c| (c, numbered(c)));
+    let none = NO_CODES.iter().flat_map(|c| CODES.map(|like| (*c, numbered(like))));
     own.into_iter().chain(none).collect()
 }
 
 fn lengths(right: usize) -> [usize; 5] {
     [right, right - 1, right + 1, 0, 2 * right]
+}
+
+/// A scratch of the right length and of others, each lent to call after call.
+fn scratches() -> [Output<i32>; 4] {
+    [tugzeck::SCRATCH, tugzeck::SCRATCH - 1, tugzeck::SCRATCH + 1, 0].map(Output::new)
+}
+
+/// Lends a scratch to a call. The refused calls before an accepted one have kept it, and that one clears it; then there is a new one.
+fn lend<T>(scratch: &mut Output<i32>, expected: u32, call: impl FnOnce(&mut [i32]) -> T) -> T {
+    if expected != 0 {
+        return call(scratch.lent());
+    }
+    scratch.kept();
+    let answer = call(scratch.lent());
+    scratch.cleared();
+    *scratch = crate::scratch();
+    answer
 }
 
 /// Symbols that fit, but at one place, if there is one.
@@ -51,7 +69,7 @@ fn reliabilities(draw: &mut Draw, long: usize) -> Vec<Vec<i16>> {
 }
 
 fn is_code(code: u32) -> bool {
-    (1..=3).contains(&code)
+    (1..=5).contains(&code)
 }
 
 fn unfit(code: &Code, word: &[u8]) -> bool {
@@ -128,22 +146,32 @@ fn first_refusals_of_rows() {
     for (c, code) in codes() {
         for long in lengths(code.bits()) {
             for row in reliabilities(&mut draw, long) {
+                let mut scratches = scratches();
                 for (words, softs) in lengths(code.n).into_iter().flat_map(|w| lengths(code.bits()).map(|s| (w, s))) {
-                    let wrong = words != code.n || softs != code.bits();
-                    let expected = first(&[(1, !is_code(c)), (2, long != code.bits()), (4, wrong), (5, outside(&row))]);
-                    let (mut word, mut soft) = (Output::new(words), Output::new(softs));
-                    if counts.met(tugzeck::decode(c, &row, word.lent(), soft.lent()), expected, "decode") {
-                        word.kept();
-                        soft.kept();
+                    for scratch in &mut scratches {
+                        let wrong = words != code.n || softs != code.bits();
+                        let other = scratch.lent().len() != tugzeck::SCRATCH;
+                        let lengths = [(1, !is_code(c)), (2, long != code.bits()), (4, wrong), (17, other)];
+                        let expected = first(&[&lengths[..], &[(5, outside(&row))]].concat());
+                        let (mut word, mut soft) = (Output::new(words), Output::new(softs));
+                        let answer = lend(scratch, expected, |room| tugzeck::decode(c, &row, word.lent(), soft.lent(), room));
+                        if counts.met(answer, expected, "decode") {
+                            word.kept();
+                            soft.kept();
+                        }
                     }
                 }
                 for words in lengths(code.n) {
                     for word in symbols(&mut draw, &code, words) {
-                        let lengths = [(1, !is_code(c)), (2, long != code.bits()), (3, words != code.n)];
-                        let expected = first(&[&lengths[..], &[(5, outside(&row)), (6, unfit(&code, &word))]].concat());
-                        counts.met(tugzeck::mark(c, &row, &word), expected, "mark");
+                        for scratch in &mut scratches {
+                            let other = scratch.lent().len() != tugzeck::SCRATCH;
+                            let lengths = [(1, !is_code(c)), (2, long != code.bits()), (3, words != code.n), (17, other)];
+                            let expected = first(&[&lengths[..], &[(5, outside(&row)), (6, unfit(&code, &word))]].concat());
+                            counts.met(lend(scratch, expected, |room| tugzeck::mark(c, &row, &word, room)), expected, "mark");
+                        }
                     }
                 }
+                scratches.iter().for_each(Output::kept);
             }
             let good = vec![0.5f32; long];
             let mut not_a_number = good.clone();

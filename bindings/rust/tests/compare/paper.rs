@@ -1,8 +1,12 @@
 //! Sheets by the paper that says what they are: read, judged, written and listed, with none of the library's code.
 
-use crate::codes::{verdict, Code};
+use crate::codes::verdict;
+use crate::configured::Search;
 use crate::every::is_codeword;
+use crate::parameters::numbered;
 use crate::wolf::Wolf;
+use crate::CODES;
+use std::sync::OnceLock;
 
 #[derive(Clone, Debug, PartialEq)]
 pub struct Question {
@@ -67,9 +71,9 @@ pub fn read(bytes: &[u8]) -> Result<Vec<Question>, u32> {
             15 if items.at < words.len() => return Err(13),
             15 => return Ok(questions),
             1 if questions.len() == MOST => return Err(12),
-            1 if !(1..=3).contains(&middle) => return Err(1),
+            1 if !CODES.contains(&middle) => return Err(1),
             1 => {
-                let code = Code::of(middle);
+                let code = numbered(middle);
                 let row = items.take(2, 8, code.bits(), |r| if r == 0x80 { Err(5) } else { Ok(()) })?;
                 let word = items.take(3, 4, code.n, |s| if s >> code.m == 0 { Ok(()) } else { Err(6) })?;
                 questions.push(Question {
@@ -95,6 +99,18 @@ pub fn write(questions: &[Question]) -> Vec<u8> {
     words.iter().flat_map(|w| w.to_le_bytes()).collect()
 }
 
+/// The best metric, the first best word and the soft outputs: by the trellis of the whole code, for codes 4 and 5 by the search over configurations.
+pub fn decoded(number: u32, row: &[i16]) -> (i32, Vec<u8>, Vec<i16>) {
+    static SEARCHES: [OnceLock<Search>; 2] = [OnceLock::new(), OnceLock::new()];
+    let code = numbered(number);
+    if number > 3 {
+        return SEARCHES[number as usize - 4].get_or_init(|| Search::new(code)).decode(row);
+    }
+    let (mut word, mut soft) = (vec![0; code.n], vec![0; code.bits()]);
+    let best = Wolf::new(number).decode(row, &mut word, &mut soft);
+    (best, word, soft)
+}
+
 /// The listing of a sheet.
 pub fn listing(bytes: &[u8]) -> String {
     let questions = match read(bytes) {
@@ -103,9 +119,8 @@ pub fn listing(bytes: &[u8]) -> String {
     };
     let mut text = String::from("question code best verdict short bits least\n");
     for q in &questions {
-        let code = Code::of(q.code);
-        let (mut word, mut soft) = (vec![0; code.n], vec![0; code.bits()]);
-        let best = Wolf::new(q.code).decode(&q.row, &mut word, &mut soft);
+        let code = numbered(q.code);
+        let (best, _, soft) = decoded(q.code, &q.row);
         let marked = match verdict(is_codeword(&code, &q.word), best, code.metric(&q.row, &q.word)) {
             (0, _) => String::from("none -"),
             (1, short) => format!("short {short}"),
@@ -146,13 +161,13 @@ impl List {
         let mut questions = Vec::new();
         for (i, (&number, &question)) in self.codes.iter().zip(&self.numbers).enumerate() {
             let last = i + 1 == self.codes.len();
-            if !(1..=3).contains(&number) {
+            if !CODES.contains(&number) {
                 return Err(1);
             }
             if question >> 24 != 0 {
                 return Err(11);
             }
-            let code = Code::of(number);
+            let code = numbered(number);
             let fits = |left: usize, needed: usize| if last { left == needed } else { left >= needed };
             if !fits(rows.len(), code.bits()) {
                 return Err(2);

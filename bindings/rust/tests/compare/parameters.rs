@@ -10,8 +10,17 @@ use tugzeck::Refusal;
 /// The codes that may be chosen.
 pub const TEN: [(u32, u32); 10] = [(3, 1), (3, 2), (3, 3), (3, 4), (3, 5), (3, 6), (4, 1), (4, 2), (4, 4), (4, 6)];
 
+/// Those with a number, code 1 first.
+pub const NUMBERED: [(u32, u32); 5] = [(3, 2), (3, 4), (4, 2), (4, 4), (4, 6)];
+
 pub fn code_of(m: u32, r: u32) -> Code {
     Code { m: m as usize, n: (1 << m) - 1, roots: r as usize }
+}
+
+/// The code of a number.
+pub fn numbered(number: u32) -> Code {
+    let (m, r) = NUMBERED[number as usize - 1];
+    code_of(m, r)
 }
 
 /// What the choice of m and r is refused by, from the dimensions: that of the BCH code by the conjugates of its roots.
@@ -69,8 +78,8 @@ pub fn syndrome(code: &Code, layer: &[u8]) -> usize {
     s
 }
 
-/// The leader of every coset, of all binary words: least weight, then the smallest number.
-fn leaders(code: &Code) -> Vec<(u32, u32)> {
+/// The leader of every coset with its weight, of all binary words: least weight, then the smallest number.
+pub fn leaders(code: &Code) -> Vec<(u32, u32)> {
     let columns: Vec<usize> = (0..code.n).map(|i| syndrome(code, &bits(code.n, 1 << i))).collect();
     let size = 1 << columns.iter().map(|c| usize::BITS - c.leading_zeros()).max().expect("a column");
     let mut least = vec![(u32::MAX, 0); size];
@@ -81,7 +90,7 @@ fn leaders(code: &Code) -> Vec<(u32, u32)> {
     least
 }
 
-fn bits(n: usize, word: u32) -> Vec<u8> {
+pub fn bits(n: usize, word: u32) -> Vec<u8> {
     (0..n).map(|i| (word >> i & 1) as u8).collect()
 }
 
@@ -237,25 +246,47 @@ fn rows() {
     println!("compared: {count} rows quantised and received by parameters");
 }
 
-/// The codes that have a number too: both forms of a call answer the same.
+/// The codes that have a number too: both forms of a call answer the same, refused or not.
 #[test]
 fn both_forms() {
     let mut draw = Draw::new(34);
     let mut count = 0;
-    for (code, m, r) in [(1, 3, 2), (2, 3, 4), (3, 4, 2)] {
-        let n = tugzeck::word_length(code);
-        for k in 0..2_000 {
+    for (code, (m, r)) in (1..).zip(NUMBERED) {
+        let (n, k, long) = (tugzeck::word_length(code), tugzeck::message_length(code), tugzeck::row_length(code));
+        assert_eq!((n, k, long), (tugzeck::word_length_by(m), tugzeck::message_length_by(m, r), tugzeck::row_length_by(m)));
+        for i in 0..2_000 {
             let mut word = draw.word(n, m as usize);
-            if k % 2 == 0 {
-                let message = word[r as usize..].to_vec();
-                tugzeck::encode(code, &message, &mut word).expect("a message");
+            if i % 3 == 0 {
+                word = encoded(&numbered(code), &word[r as usize..]);
             }
-            let (mut a, mut b) = (Output::new(tugzeck::row_length(code)), Output::new(tugzeck::row_length(code)));
+            if i % 7 == 0 {
+                word[draw.below(n)] = 1 << m;
+            }
+            if i % 11 == 0 {
+                word.pop();
+            }
+            let message = &word[word.len() - k..];
+            let (mut a, mut b) = (Output::new(n), Output::new(n));
+            assert_eq!(tugzeck::encode(code, message, a.lent()), tugzeck::encode_by(m, r, message, b.lent()));
+            assert_eq!(a.left(), b.left());
+            let (mut a, mut b) = (Output::new(k), Output::new(k));
+            assert_eq!(tugzeck::read_word(code, &word, a.lent()), tugzeck::read_word_by(m, r, &word, b.lent()));
+            assert_eq!(a.left(), b.left());
+            let (mut a, mut b) = (Output::new(long), Output::new(long));
             assert_eq!(tugzeck::split(code, &word, a.lent()), tugzeck::split_by(m, r, &word, b.lent()));
             assert_eq!(a.left(), b.left());
             assert_eq!(tugzeck::check_word(code, &word), tugzeck::check_word_by(m, r, &word));
+
+            let samples: Vec<f32> = (0..long + i % 5 / 4).map(|_| f32::from(draw.within(300)) / 64.0).collect();
+            let (mut a, mut b) = (Output::<i16>::new(long), Output::<i16>::new(long));
+            assert_eq!(tugzeck::quantise(code, &samples, a.lent()), tugzeck::quantise_by(m, r, &samples, b.lent()));
+            assert_eq!(a.left(), b.left());
+            let kinds = vec![tugzeck::SINGLE; long];
+            let (mut a, mut b) = (Output::<i16>::new(long), Output::<i16>::new(long));
+            assert_eq!(tugzeck::receive(code, &kinds, &samples, a.lent()), tugzeck::receive_by(m, r, &kinds, &samples, b.lent()));
+            assert_eq!(a.left(), b.left());
             count += 1;
         }
     }
-    println!("compared: {count} words by a code's number and by its parameters");
+    println!("compared: {count} words and rows by a code's number and by its parameters");
 }

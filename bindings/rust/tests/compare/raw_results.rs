@@ -10,29 +10,33 @@ use raw::*;
 fn every_field() {
     let word = [3u8, 6, 1, 0, 0, 0, 0];
     let row = [10i16; 21];
-    let (mut bytes, mut numbers) = ([0u8; 21], [0i16; 21]);
-    let (b, n) = (bytes.as_mut_ptr(), numbers.as_mut_ptr());
+    let (mut bytes, mut numbers, mut scratch) = ([0u8; 21], [0i16; 21], vec![0i32; tugzeck::SCRATCH]);
+    let (b, n, s, long) = (bytes.as_mut_ptr(), numbers.as_mut_ptr(), scratch.as_mut_ptr(), scratch.len());
     let (w, r) = (word.as_ptr(), row.as_ptr());
-    // SAFETY: no count is above its array's length, and the two outputs are two arrays.
+    // SAFETY: no count is above its array's length, and the outputs and the scratch are arrays of their own.
     unsafe {
         let Splitting { number, configuration } = tugzeck_split(1, w, 7, b, 21);
         assert_eq!((number, configuration), (0, [5, 3, 2, 0]));
         let Splitting { number, configuration } = tugzeck_split(1, w, 7, b, 20);
         assert_eq!((number, configuration), (4, [0; 4]));
 
-        let Decoding { number, metric } = tugzeck_decode(1, r, 21, b, 7, n, 21);
+        let Decoding { number, metric } = tugzeck_decode(1, r, 21, b, 7, n, 21, s, long);
         assert_eq!((number, metric), (0, 210));
-        let Decoding { number, metric } = tugzeck_decode(1, r, 20, b, 7, n, 21);
+        let Decoding { number, metric } = tugzeck_decode(1, r, 20, b, 7, n, 21, s, long);
         assert_eq!((number, metric), (2, 0));
+        let Decoding { number, metric } = tugzeck_decode(1, r, 21, b, 7, n, 21, s, long - 1);
+        assert_eq!((number, metric), (17, 0));
 
-        let Marking { number, verdict, shortfall } = tugzeck_mark(1, r, 21, w, 7);
+        let Marking { number, verdict, shortfall } = tugzeck_mark(1, r, 21, w, 7, s, long);
         assert_eq!((number, verdict, shortfall), (0, 1, 100));
-        let Marking { number, verdict, shortfall } = tugzeck_mark(1, r, 21, [0u8; 7].as_ptr(), 7);
+        let Marking { number, verdict, shortfall } = tugzeck_mark(1, r, 21, [0u8; 7].as_ptr(), 7, s, long);
         assert_eq!((number, verdict, shortfall), (0, 2, 0));
-        let Marking { number, verdict, shortfall } = tugzeck_mark(1, r, 21, [1u8; 7].as_ptr(), 6);
+        let Marking { number, verdict, shortfall } = tugzeck_mark(1, r, 21, [1u8; 7].as_ptr(), 6, s, long);
         assert_eq!((number, verdict, shortfall), (3, 0, 0));
-        let Marking { number, verdict, shortfall } = tugzeck_mark(1, r, 21, [1u8, 0, 0, 0, 0, 0, 0].as_ptr(), 7);
+        let Marking { number, verdict, shortfall } = tugzeck_mark(1, r, 21, [1u8, 0, 0, 0, 0, 0, 0].as_ptr(), 7, s, long);
         assert_eq!((number, verdict, shortfall), (0, 0, 0));
+        let Marking { number, verdict, shortfall } = tugzeck_mark(1, r, 21, w, 7, s, 0);
+        assert_eq!((number, verdict, shortfall), (17, 0, 0));
     }
 
     let mut sheet = [0u8; 44];

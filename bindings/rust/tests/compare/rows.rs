@@ -4,7 +4,7 @@ use crate::codes::{verdict, Code};
 use crate::draw::Draw;
 use crate::every::{is_codeword, unpacked, Best, Every};
 use crate::wolf::Wolf;
-use crate::{Output, CODES};
+use crate::{scratch, Output, CODES};
 use tugzeck::{Refusal, Verdict};
 
 /// The verdict as the library's Rust has it.
@@ -36,7 +36,9 @@ fn rows(number: u32, count: usize, best: impl Fn(&[i16]) -> Best, mut other: imp
 
         let mut word = Output::new(code.n);
         let mut soft = Output::new(code.bits());
-        let metric = tugzeck::decode(number, &row, word.lent(), soft.lent());
+        let mut room = scratch();
+        let metric = tugzeck::decode(number, &row, word.lent(), soft.lent(), room.lent());
+        room.cleared();
         assert_eq!(metric, Ok(expected.metric), "code {number}, {row:?}");
         assert_eq!(word.left(), expected.first, "code {number}, {row:?}");
         assert_eq!(soft.left(), expected.soft, "code {number}, {row:?}");
@@ -53,7 +55,9 @@ fn rows(number: u32, count: usize, best: impl Fn(&[i16]) -> Best, mut other: imp
         let any = draw.word(code.n, code.m);
         for handed in [word.left(), &expected.last, &near, &turned, &any, &other(&mut draw)] {
             let expected = expected_verdict(&code, expected.metric, &row, handed);
-            assert_eq!(tugzeck::mark(number, &row, handed), Ok(expected), "code {number}, {row:?}, {handed:?}");
+            let mut room = scratch();
+            assert_eq!(tugzeck::mark(number, &row, handed, room.lent()), Ok(expected), "code {number}, {row:?}, {handed:?}");
+            room.cleared();
             counts.verdicts[match expected {
                 Verdict::None => 0,
                 Verdict::Short(_) => 1,
@@ -115,18 +119,19 @@ fn rows_of_code_3() {
 #[test]
 fn recorded_rows() {
     let (mut word, mut soft) = ([9; 7], [9; 21]);
+    let mut scratch = vec![9; tugzeck::SCRATCH];
     let mut row = [10; 21];
-    assert_eq!(tugzeck::decode(1, &row, &mut word, &mut soft), Ok(210));
+    assert_eq!(tugzeck::decode(1, &row, &mut word, &mut soft, &mut scratch), Ok(210));
     assert_eq!((word, soft), ([0; 7], [60; 21]));
     row[0] = -10;
-    assert_eq!(tugzeck::decode(1, &row, &mut word, &mut soft), Ok(190));
+    assert_eq!(tugzeck::decode(1, &row, &mut word, &mut soft, &mut scratch), Ok(190));
     assert_eq!(word, [0; 7]);
     assert!((0..7).all(|i| soft[3 * i] == 20));
-    assert_eq!(tugzeck::decode(1, &[-10; 21], &mut word, &mut soft), Ok(210));
+    assert_eq!(tugzeck::decode(1, &[-10; 21], &mut word, &mut soft, &mut scratch), Ok(210));
     assert_eq!((word, soft), ([7; 7], [-60; 21]));
-    assert_eq!(tugzeck::decode(1, &[0; 21], &mut word, &mut soft), Ok(0));
+    assert_eq!(tugzeck::decode(1, &[0; 21], &mut word, &mut soft, &mut scratch), Ok(0));
     assert_eq!((word, soft), ([0; 7], [0; 21]));
-    assert_eq!(tugzeck::mark(1, &[0; 21], &[7; 7]), Ok(Verdict::Best));
+    assert_eq!(tugzeck::mark(1, &[0; 21], &[7; 7], &mut scratch), Ok(Verdict::Best));
 }
 
 /// 32 times an f32 is exact in an f64, and `round` takes halves away from zero.

@@ -1,13 +1,13 @@
 //! Sheets: judged, read by number, written and listed.
 
-use crate::codes::Code;
 use crate::draw::Draw;
 use crate::paper::{self, List, Question};
+use crate::parameters::{encoded, numbered};
 use crate::{number, Output, CODES};
 use std::collections::BTreeMap;
 
 fn any_question(draw: &mut Draw, number: u32) -> Question {
-    let code = Code::of(number);
+    let code = numbered(number);
     let near = draw.word(code.n, code.m);
     let k = 8 + draw.below(1000);
     Question { code: number, number: draw.below(1 << 24) as u32, row: draw.row(k, code.m, &near), word: draw.word(code.n, code.m) }
@@ -114,23 +114,37 @@ fn round_trips() {
 fn listings() {
     let mut draw = Draw::new(31);
     let mut lines = 0;
+    let mut verdicts = [[0; 3]; 5];
     for count in (0..25).chain([200]) {
         let mut list = any_questions(&mut draw, count);
-        // half of the words handed in are best words
-        for q in list.iter_mut().step_by(2) {
-            let mut soft = vec![0; q.row.len()];
-            crate::wolf::Wolf::new(q.code).decode(&q.row, &mut q.word, &mut soft);
+        // one word handed in of three is the best word of its row, and one a codeword
+        for (i, q) in list.iter_mut().enumerate() {
+            let code = numbered(q.code);
+            match i % 3 {
+                0 => q.word = paper::decoded(q.code, &q.row).1,
+                1 => q.word = encoded(&code, &q.word[code.roots..]),
+                _ => {}
+            }
         }
         let sheet = paper::write(&list);
-        assert_eq!(listed(&sheet), paper::listing(&sheet));
+        let text = paper::listing(&sheet);
+        assert_eq!(listed(&sheet), text);
+        for (q, line) in list.iter().zip(text.lines().skip(1)) {
+            let verdict = ["none", "short", "best"].iter().position(|v| line.contains(v)).expect("a verdict");
+            verdicts[q.code as usize - 1][verdict] += 1;
+        }
         lines += count;
     }
-    // the longest listing there can be: numbers of 8 digits, code 3, metrics of 4 digits, shortfalls of 5, soft outputs of 5
-    let longest = Question { code: 3, number: (1 << 24) - 1, row: vec![127; 60], word: vec![15; 15] };
-    let sheet = paper::write(&vec![longest; 200]);
-    assert_eq!(sheet.len(), tugzeck::MOST_SHEET);
-    assert_eq!(listed(&sheet), paper::listing(&sheet));
-    println!("compared: listings of {} questions, line by line", lines + 200);
+    assert!(verdicts.concat().iter().all(|met| *met > 0), "{verdicts:?}");
+    // the longest listings of codes 3 to 5: numbers of 8 digits, metrics of 4, shortfalls of 5
+    for code in 3..=5 {
+        let longest = Question { code, number: (1 << 24) - 1, row: vec![127; 60], word: vec![15; 15] };
+        let sheet = paper::write(&vec![longest; 200]);
+        assert_eq!(sheet.len(), tugzeck::MOST_SHEET);
+        assert_eq!(listed(&sheet), paper::listing(&sheet));
+        lines += 200;
+    }
+    println!("compared: listings of {lines} questions, line by line");
 }
 
 /// Every byte of a sheet at every value, every beginning of it, and what is longer.
@@ -168,6 +182,7 @@ fn damaged_sheets() {
         damaged(&paper::write(&[any_question(&mut draw, code)]), &mut refusals);
     }
     damaged(&paper::write(&[any_question(&mut draw, 3), any_question(&mut draw, 1)]), &mut refusals);
+    damaged(&paper::write(&[any_question(&mut draw, 2), any_question(&mut draw, 5), any_question(&mut draw, 4)]), &mut refusals);
     damaged(&paper_sheet(), &mut refusals);
     said("damaged sheets", &refusals);
     assert_eq!(refusals.keys().copied().collect::<Vec<_>>(), [0, 1, 5, 6, 9, 10, 11, 12, 13]);
@@ -183,7 +198,18 @@ fn shuffled_sheets() {
         let sheet = paper::write(&any_questions(&mut draw, count));
         let mut words: Vec<&[u8]> = sheet.chunks(4).collect();
         let head = draw
-            .of(&[0x1100_0001u32, 0x1000_0001, 0x1400_0001, 0xF000_0000, 0xF000_0001, 0xF100_0001, 0x2080_8080, 0x30FF_FFFF, 0])
+            .of(&[
+                0x1100_0001u32,
+                0x1000_0001,
+                0x1400_0001,
+                0x1600_0001,
+                0xF000_0000,
+                0xF000_0001,
+                0xF100_0001,
+                0x2080_8080,
+                0x30FF_FFFF,
+                0,
+            ])
             .to_le_bytes();
         for _ in 0..1 + draw.below(2) {
             let (a, b) = (draw.below(words.len()), draw.below(words.len()));

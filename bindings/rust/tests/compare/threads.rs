@@ -1,20 +1,20 @@
 //! Calls from several threads at once, each with a small stack.
 
 use crate::draw::Draw;
+use crate::parameters::TEN;
 use std::thread::Builder;
 
 /// What a call may take of the stack, with room for what the test itself takes.
 const STACK: usize = 64 * 1024;
 
-/// The codes that may be chosen by m and r.
-const CHOSEN: [(u32, u32); 10] = [(3, 1), (3, 2), (3, 3), (3, 4), (3, 5), (3, 6), (4, 1), (4, 2), (4, 4), (4, 6)];
+/// The same for the listing.
+const LIST_STACK: usize = 192 * 1024;
 
 /// What every call by parameters answers, for thirty rows.
 fn results_by(seed: u64) -> Vec<String> {
     let mut draw = Draw::new(seed);
     let mut scratch = vec![0; tugzeck::SCRATCH];
-    CHOSEN
-        .iter()
+    TEN.iter()
         .cycle()
         .take(30)
         .map(|&(m, r)| {
@@ -38,13 +38,13 @@ fn results_by(seed: u64) -> Vec<String> {
         .collect()
 }
 
-/// What every call by number answers, for sixty rows.
-fn results(seed: u64) -> Vec<String> {
+/// What every call by number answers, for sixty rows, and the sheets of each.
+fn results(seed: u64) -> (Vec<String>, Vec<Vec<u8>>) {
     let mut draw = Draw::new(seed);
-    let mut text = vec![0; tugzeck::LISTING];
+    let mut scratch = vec![0; tugzeck::SCRATCH];
     (0..60)
         .map(|k| {
-            let code = k % 3 + 1;
+            let code = k % 5 + 1;
             let (n, bits) = (tugzeck::word_length(code), tugzeck::row_length(code));
             let samples: Vec<f32> = (0..bits).map(|_| f32::from(draw.within(127)) / 32.0).collect();
             let (mut row, mut word, mut soft) = (vec![0; bits], vec![0; n], vec![0; bits]);
@@ -53,28 +53,54 @@ fn results(seed: u64) -> Vec<String> {
             let answers = (
                 tugzeck::quantise(code, &samples, &mut row),
                 tugzeck::receive(code, &vec![2; bits], &samples, &mut row),
-                tugzeck::decode(code, &row, &mut word, &mut soft),
+                tugzeck::decode(code, &row, &mut word, &mut soft, &mut scratch),
                 tugzeck::check_word(code, &word),
                 tugzeck::read_word(code, &word, &mut message),
                 tugzeck::encode(code, &message, &mut word),
                 tugzeck::split(code, &word, &mut bch),
-                tugzeck::mark(code, &row, &word),
+                tugzeck::mark(code, &row, &word, &mut scratch),
                 tugzeck::write_sheet(&[code], &[k], &row, &word, &mut sheet),
                 tugzeck::judge_sheet(&sheet),
                 tugzeck::question(&sheet, 0, &mut row, &mut word),
-                tugzeck::list(&sheet, &mut text),
             );
-            format!("{answers:?} {row:?} {word:?} {soft:?} {message:?} {bch:?} {sheet:?}")
+            assert!(answers.0.is_ok() && answers.2.is_ok() && answers.7 == Ok(tugzeck::Verdict::Best));
+            assert_eq!(answers.10, Ok(Some(tugzeck::Question { code, number: k })));
+            (format!("{answers:?} {row:?} {word:?} {soft:?} {message:?} {bch:?} {sheet:?}"), sheet)
         })
-        .collect()
+        .unzip()
+}
+
+/// The listings of sheets.
+fn listings(sheets: &[Vec<u8>]) -> Vec<Vec<u8>> {
+    let listed = |sheet: &Vec<u8>| {
+        let mut text = vec![0; tugzeck::LISTING];
+        let long = tugzeck::list(sheet, &mut text).expect("an output of the right length");
+        text.truncate(long);
+        text
+    };
+    sheets.iter().map(listed).collect()
+}
+
+/// Runs it for eight seeds, alone and from eight threads at once.
+fn both_ways<T: PartialEq + std::fmt::Debug + Send + 'static>(stack: usize, run: impl Fn(u64) -> T + Clone + Send + 'static) {
+    let alone: Vec<T> = (0..8).map(&run).collect();
+    let spawned = |seed| {
+        let run = run.clone();
+        Builder::new().stack_size(stack).spawn(move || run(seed)).expect("a thread")
+    };
+    let threads: Vec<_> = (0..8).map(spawned).collect();
+    let at_once: Vec<T> = threads.into_iter().map(|t| t.join().expect("it ends")).collect();
+    assert_eq!(alone, at_once);
 }
 
 #[test]
 fn at_once_on_small_stacks() {
-    let every = |seed| (results(seed), results_by(seed));
-    let alone: Vec<_> = (0..8).map(every).collect();
-    let threads: Vec<_> = (0..8).map(|seed| Builder::new().stack_size(STACK).spawn(move || every(seed)).expect("a thread")).collect();
-    let at_once: Vec<_> = threads.into_iter().map(|t| t.join().expect("it ends")).collect();
-    assert_eq!(alone, at_once);
-    println!("compared: every call from 8 threads at once, each with a stack of {} KiB, and from one thread", STACK / 1024);
+    both_ways(STACK, |seed| (results(seed), results_by(seed)));
+    let sheets: Vec<Vec<Vec<u8>>> = (0..8).map(|seed| results(seed).1).collect();
+    both_ways(LIST_STACK, move |seed| listings(&sheets[seed as usize]));
+    println!(
+        "compared: every call from 8 threads at once, each with a stack of {} KiB ({} KiB for the listing), and from one thread",
+        STACK / 1024,
+        LIST_STACK / 1024
+    );
 }

@@ -2,7 +2,8 @@
 
 use crate::codes::Code;
 use crate::draw::Draw;
-use crate::every::{is_codeword, unpacked, value, Every};
+use crate::every::{is_codeword, unpacked, Every};
+use crate::parameters::{bits, leaders, numbered, syndrome};
 use crate::{Output, CODES};
 use tugzeck::Refusal;
 
@@ -37,24 +38,28 @@ fn messages() {
             count += 1;
         }
     }
-    let code = Code::of(3);
-    for _ in 0..20_000 {
-        let message = draw.word(13, 4);
-        round_trip(3, &code, &message);
-        count += 1;
+    for number in [3, 4, 5] {
+        let code = numbered(number);
+        for _ in 0..20_000 {
+            let message = draw.word(code.n - code.roots, code.m);
+            round_trip(number, &code, &message);
+            count += 1;
+        }
     }
     println!("compared: {count} messages encoded and read back, every one of codes 1 and 2");
 }
 
+/// Message 1 then zeros gives the generator. Those of codes 4 and 5 are not on record; they are the ones that textbooks print.
 #[test]
 fn recorded_words() {
-    let on_record: [(u32, &[u8], &[u8]); 3] = [
-        (1, &[1, 0, 0, 0, 0], &[3, 6, 1, 0, 0, 0, 0]),
-        (2, &[1, 0, 0], &[3, 2, 1, 3, 1, 0, 0]),
-        (3, &[1, 0, 0, 0, 0, 0, 0, 0, 0, 0, 0, 0, 0], &[8, 6, 1, 0, 0, 0, 0, 0, 0, 0, 0, 0, 0, 0, 0]),
-    ];
-    for (number, message, word) in on_record {
-        assert_eq!(encoded(number, &Code::of(number), message), word);
+    let generators: [&[u8]; 5] = [&[3, 6, 1], &[3, 2, 1, 3, 1], &[8, 6, 1], &[7, 8, 12, 13, 1], &[12, 10, 12, 3, 9, 7, 1]];
+    for (number, generator) in CODES.into_iter().zip(generators) {
+        let code = numbered(number);
+        let mut message = vec![0; tugzeck::message_length(number)];
+        message[0] = 1;
+        let mut word = generator.to_vec();
+        word.resize(tugzeck::word_length(number), 0);
+        assert_eq!(encoded(number, &code, &message), word);
     }
     let mut bch = [0; 21];
     assert_eq!(tugzeck::split(1, &[3, 6, 1, 0, 0, 0, 0], &mut bch), Ok([5, 3, 2, 0]));
@@ -67,7 +72,7 @@ fn membership() {
     let mut draw = Draw::new(2);
     let (mut inside, mut outside) = (0, 0);
     for number in CODES {
-        let code = Code::of(number);
+        let code = numbered(number);
         for k in 0..30_000 {
             let mut word = draw.word(code.n, code.m);
             if k % 2 == 0 {
@@ -99,51 +104,15 @@ fn membership() {
     println!("compared: the codeword test on {inside} codewords and {outside} other words");
 }
 
-/// The syndrome of a binary word: its value at α; with four roots, that and 8 times its value at α^3.
-fn syndrome(code: &Code, layer: &[u8]) -> usize {
-    let first = value(code, 1, layer);
-    if code.roots < 3 {
-        first
-    } else {
-        first | value(code, 3, layer) << code.m
-    }
-}
-
-/// The member of least weight of every coset, of all binary words.
-fn leaders(code: &Code) -> Vec<Vec<u8>> {
-    let size = 1 << if code.roots < 3 { code.m } else { 2 * code.m };
-    let mut least: Vec<Option<(u32, u32)>> = vec![None; size];
-    let mut tied = vec![false; size];
-    let columns: Vec<usize> = (0..code.n).map(|i| syndrome(code, &bits(code.n, 1 << i))).collect();
-    for word in 0..1u32 << code.n {
-        let s = (0..code.n).filter(|i| word >> i & 1 == 1).fold(0, |s, i| s ^ columns[i]);
-        let weight = word.count_ones();
-        match least[s] {
-            Some((w, _)) if w < weight => {}
-            Some((w, _)) if w == weight => tied[s] = true,
-            _ => {
-                least[s] = Some((weight, word));
-                tied[s] = false;
-            }
-        }
-    }
-    assert!(tied.iter().all(|t| !t), "two leaders");
-    least.iter().map(|l| bits(code.n, l.expect("a member").1)).collect()
-}
-
-fn bits(n: usize, word: u32) -> Vec<u8> {
-    (0..n).map(|i| (word >> i & 1) as u8).collect()
-}
-
 #[test]
 fn splits() {
     let mut draw = Draw::new(3);
     let mut count = 0;
     for number in CODES {
-        let code = Code::of(number);
+        let code = numbered(number);
         let leaders = leaders(&code);
-        let words: Vec<Vec<u8>> = if number == 3 {
-            (0..20_000).map(|_| encoded(3, &code, &draw.word(13, 4))).collect()
+        let words: Vec<Vec<u8>> = if number > 2 {
+            (0..20_000).map(|_| encoded(number, &code, &draw.word(code.n - code.roots, code.m))).collect()
         } else {
             Every::new(number).codewords.iter().map(|b| unpacked(&code, *b)).collect()
         };
@@ -156,7 +125,7 @@ fn splits() {
                 let layer: Vec<u8> = word.iter().map(|c| c >> j & 1).collect();
                 let s = syndrome(&code, &layer);
                 *place = s as u16;
-                left.extend(layer.iter().zip(&leaders[s]).map(|(a, b)| a ^ b));
+                left.extend(layer.iter().zip(bits(code.n, leaders[s].1)).map(|(a, b)| a ^ b));
             }
             assert_eq!(configuration, expected, "code {number}, {word:?}");
             assert_eq!(bch.left(), left, "code {number}, {word:?}");
