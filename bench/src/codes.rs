@@ -1,4 +1,4 @@
-//! The three codes, from their roots: written apart from the library, to compare with it.
+//! The five codes, from their roots: written apart from the library, to compare with it.
 
 pub struct Code {
     /// Bits to a symbol.
@@ -15,6 +15,8 @@ impl Code {
             1 => (3, 2),
             2 => (3, 4),
             3 => (4, 2),
+            4 => (4, 4),
+            5 => (4, 6),
             _ => panic!("no code {number}"),
         };
         Code { m, n: (1 << m) - 1, roots }
@@ -52,6 +54,11 @@ impl Code {
             let value = self.times(self.alpha(j), self.alpha(i * t));
             h | value << (self.m * (t - 1))
         })
+    }
+
+    /// Whether a word has the value 0 at every root.
+    pub fn is_codeword(&self, word: &[u8]) -> bool {
+        (1..=self.roots).all(|t| (0..self.n).fold(0, |x, i| x ^ self.times(word[i].into(), self.alpha(i * t))) == 0)
     }
 
     pub fn metric(&self, row: &[i16], word: &[u8]) -> i32 {

@@ -27,23 +27,43 @@ extern "C" {
         word_length: usize,
         soft: *mut i16,
         soft_length: usize,
+        scratch: *mut i32,
+        scratch_length: usize,
     ) -> Decoding;
 
-    fn tugzeck_mark(code: u32, row: *const i16, row_length: usize, word: *const u8, word_length: usize) -> Mark;
+    fn tugzeck_mark(
+        code: u32,
+        row: *const i16,
+        row_length: usize,
+        word: *const u8,
+        word_length: usize,
+        scratch: *mut i32,
+        scratch_length: usize,
+    ) -> Mark;
 }
 
-pub fn decode(code: u32, row: &[i16], word: &mut [u8], soft: &mut [i16]) -> i32 {
-    // SAFETY: each pointer is valid for its length, and the two outputs are borrowed apart.
+pub fn decode(code: u32, row: &[i16], word: &mut [u8], soft: &mut [i16], scratch: &mut [i32]) -> i32 {
+    // SAFETY: each pointer is valid for its length, and the outputs and the scratch are borrowed apart.
     let d = unsafe {
-        tugzeck_decode(code, row.as_ptr(), row.len(), word.as_mut_ptr(), word.len(), soft.as_mut_ptr(), soft.len())
+        tugzeck_decode(
+            code,
+            row.as_ptr(),
+            row.len(),
+            word.as_mut_ptr(),
+            word.len(),
+            soft.as_mut_ptr(),
+            soft.len(),
+            scratch.as_mut_ptr(),
+            scratch.len(),
+        )
     };
     assert_eq!(d.number, 0);
     d.metric
 }
 
-pub fn mark(code: u32, row: &[i16], word: &[u8]) -> (u32, i32) {
-    // SAFETY: each pointer is valid for its length.
-    let m = unsafe { tugzeck_mark(code, row.as_ptr(), row.len(), word.as_ptr(), word.len()) };
+pub fn mark(code: u32, row: &[i16], word: &[u8], scratch: &mut [i32]) -> (u32, i32) {
+    // SAFETY: each pointer is valid for its length, and the scratch is borrowed alone.
+    let m = unsafe { tugzeck_mark(code, row.as_ptr(), row.len(), word.as_ptr(), word.len(), scratch.as_mut_ptr(), scratch.len()) };
     assert_eq!(m.number, 0);
     (m.verdict, m.shortfall)
 }
@@ -59,4 +79,4 @@ pub fn sheet(code: u32, questions: &[(Vec<i16>, Vec<u8>)]) -> Vec<u8> {
     output
 }
 
-pub use package::{list, quantise, receive, LISTING};
+pub use package::{list, quantise, receive, LISTING, SCRATCH};

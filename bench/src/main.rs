@@ -1,11 +1,11 @@
-//! Compares this library with plain Rust of the same algorithm and with a Wolf trellis of the whole code.
+//! Compares this library with plain Rust of the same algorithm and, for codes 1 to 3, with a Wolf trellis of the whole code.
 //!
-//!     bench check CODE COUNT               all three agree on that many rows
+//!     bench check CODE COUNT               all of them agree on that many rows
 //!     bench call WHICH CALL CODE N [ROWS]  N calls on rows of one pool, for a count of instructions
 //!     bench time WHICH CALL CODE N [ROWS]  nanoseconds a call, the least of five runs of N calls
 //!
-//! WHICH is library, plain or wolf; CALL is decode or mark, for library and plain also quantise or receive, for the library alone list: a
-//! listing of the whole pool. ROWS is random, as where none is named, or zero, sparse or small (of -1, 0 and 1).
+//! WHICH is library, plain or, for codes 1 to 3, wolf; CALL is decode or mark, for library and plain also quantise or receive, for the
+//! library alone list: a listing of the whole pool. ROWS is random, as where none is named, or zero, sparse or small (of -1, 0 and 1).
 
 mod codes;
 mod front;
@@ -24,29 +24,36 @@ const POOL: usize = 32;
 
 struct Decoders {
     number: u32,
+    scratch: Vec<i32>,
     plain: Plain,
-    wolf: Wolf,
+    /// None for codes 4 and 5, whose trellises have 16^4 and 16^6 states.
+    wolf: Option<Wolf>,
 }
 
 impl Decoders {
     fn new(number: u32) -> Decoders {
-        Decoders { number, plain: Plain::new(number), wolf: Wolf::new(number) }
+        let scratch = vec![0; library::SCRATCH];
+        Decoders { number, scratch, plain: Plain::new(number), wolf: (number < 4).then(|| Wolf::new(number)) }
+    }
+
+    fn wolf(&mut self) -> &mut Wolf {
+        self.wolf.as_mut().unwrap_or_else(|| usage())
     }
 
     fn decode(&mut self, which: &str, row: &[i16], word: &mut [u8], soft: &mut [i16]) -> i32 {
         match which {
-            "library" => library::decode(self.number, row, word, soft),
+            "library" => library::decode(self.number, row, word, soft, &mut self.scratch),
             "plain" => self.plain.decode(row, word, soft),
-            "wolf" => self.wolf.decode(row, word, soft),
+            "wolf" => self.wolf().decode(row, word, soft),
             _ => usage(),
         }
     }
 
     fn mark(&mut self, which: &str, row: &[i16], word: &[u8]) -> (u32, i32) {
         match which {
-            "library" => library::mark(self.number, row, word),
+            "library" => library::mark(self.number, row, word, &mut self.scratch),
             "plain" => self.plain.mark(row, word),
-            "wolf" => self.wolf.mark(row, word),
+            "wolf" => self.wolf().mark(row, word),
             _ => usage(),
         }
     }
@@ -166,7 +173,7 @@ fn calls(which: &str, call: &str, decoders: &mut Decoders, pool: &[(Vec<i16>, Ve
     let code = Code::of(decoders.number);
     let mut word = vec![0; code.n];
     let mut soft = vec![0; code.bits()];
-    let sheet = library::sheet(decoders.number, pool);
+    let sheet = if call == "list" { library::sheet(decoders.number, pool) } else { vec![] };
     let mut text = vec![0; library::LISTING];
     let front = Front::new(code.bits());
     for (k, (row, handed)) in pool.iter().cycle().take(n).enumerate() {
@@ -195,36 +202,36 @@ fn calls(which: &str, call: &str, decoders: &mut Decoders, pool: &[(Vec<i16>, Ve
 }
 
 /// Random rows, and rows that tie often: of -1, 0 and 1, sparse, zero. Metrics, words, soft outputs and marks are the same; a word is a
-/// codeword with the metric.
+/// codeword with the metric. Another word ties where a soft output is 0.
 fn check(number: u32, count: usize) {
     let code = Code::of(number);
     let mut rows = Rows::new(code.bits());
     let mut decoders = Decoders::new(number);
-    let (mut handed, mut last) = (vec![0; code.n], vec![0; code.n]);
+    let all: &[&str] = if decoders.wolf.is_some() { &["library", "plain", "wolf"] } else { &["library", "plain"] };
+    let mut handed = vec![0; code.n];
     let (mut ties, mut verdicts) = (0, [0; 3]);
     for k in 0..count {
         let row = rows.row(["random", "small", "sparse", "random", "small", "sparse", "random", "zero"][k % 8]);
         let mut seen = None;
-        for which in ["library", "plain", "wolf"] {
+        for which in all {
             let mut word = vec![0; code.n];
             let mut soft = vec![0; code.bits()];
             let metric = decoders.decode(which, &row, &mut word, &mut soft);
-            assert!(decoders.wolf.is_codeword(&word), "{which}: no codeword for row {k}");
+            assert!(code.is_codeword(&word), "{which}: no codeword for row {k}");
             assert_eq!(code.metric(&row, &word), metric, "{which}: metric of row {k}");
             let mut turned = handed.clone();
             turned[k % code.n] ^= 1;
             let marks = [&handed, &word, &turned].map(|w| decoders.mark(which, &row, w));
-            let result = (metric, word.clone(), soft, marks);
+            let result = (metric, word, soft, marks);
             match &seen {
                 None => seen = Some(result),
                 Some(first) => assert_eq!(*first, result, "{which}: row {k}"),
             }
-            if which == "wolf" {
-                marks.iter().for_each(|m| verdicts[m.0 as usize] += 1);
-                decoders.wolf.last(&row, &mut last);
-                ties += usize::from(last != word);
-                handed = word;
-            }
+        }
+        if let Some((_, word, soft, marks)) = seen {
+            marks.iter().for_each(|m| verdicts[m.0 as usize] += 1);
+            ties += usize::from(soft.contains(&0));
+            handed = word;
         }
     }
     let front = Front::new(code.bits());
@@ -238,7 +245,7 @@ fn check(number: u32, count: usize) {
         assert_eq!(rows[0], rows[1], "quantised and received, row {k}");
     }
     let [none, short, best] = verdicts;
-    print!("code {number}: all three agree on {count} rows, {ties} with another tied word, ");
+    print!("code {number}: {} agree on {count} rows, {ties} with another tied word, ", all.join(", "));
     println!("and on marks of {best} best, {short} short and {none} other words");
 }
 

@@ -3,6 +3,7 @@
 //! once, and buffers are kept.
 
 use crate::codes::{verdict, Code};
+use std::ops::Add;
 
 pub struct Plain {
     code: Code,
@@ -28,14 +29,21 @@ const NEVER: i32 = -1_000_000;
 impl Plain {
     pub fn new(number: u32) -> Plain {
         let code = Code::of(number);
-        // the value at α, and from three roots on that at α^3; the others are powers of these
+        // the value at α, from three roots on that at α^3, and from five on the number of that at α^5; the others are powers of these
         let syndrome = |i: usize| {
-            let first = code.alpha(i);
-            if code.roots < 3 { first } else { first | code.alpha(3 * i) << code.m }
+            let mut s = code.alpha(i);
+            if code.roots > 2 {
+                s |= code.alpha(3 * i) << code.m;
+            }
+            if code.roots > 4 {
+                s |= fifth_number(code.alpha(5 * i)) << (2 * code.m);
+            }
+            s
         };
         let columns: Vec<usize> = (0..code.n).map(syndrome).collect();
-        let cosets = if code.roots < 3 { 1 << code.m } else { 1 << (2 * code.m) };
-        let configurations = configurations(&code, cosets);
+        let syndrome_bits = [code.m, 2 * code.m, 2 * code.m + 2][(code.roots - 1) / 2];
+        let cosets = 1 << syndrome_bits;
+        let configurations = configurations(&code, syndrome_bits);
         let checks = (0..code.bits()).map(|b| code.column(b / code.m, b % code.m)).collect();
         let tables = vec![vec![0; (code.n + 1) * cosets]; code.m];
         let marginals = vec![vec![0; cosets]; code.m];
@@ -48,7 +56,7 @@ impl Plain {
 
     pub fn decode(&mut self, row: &[i16], word: &mut [u8], soft: &mut [i16]) -> i32 {
         self.make_tables(row);
-        let best = self.walk();
+        let best = if self.is_long() { self.long_walk() } else { self.walk() };
         let (m, mut left) = (self.code.m, self.first(row));
         for symbol in word.iter_mut().rev() {
             *symbol = left as u8 & ((1 << m) - 1);
@@ -62,8 +70,18 @@ impl Plain {
 
     pub fn mark(&mut self, row: &[i16], word: &[u8]) -> (u32, i32) {
         self.make_tables(row);
-        let best = self.configurations.iter().map(|c| total(&self.tables, c)).max().unwrap();
+        let best = if self.is_long() {
+            let tables = four(&self.tables, self.cosets);
+            self.configurations.iter().map(|c| four_total(&tables, c)).max().unwrap()
+        } else {
+            self.configurations.iter().map(|c| total(&self.tables, c)).max().unwrap()
+        };
         verdict(self.is_codeword(word), best, self.code.metric(row, word))
+    }
+
+    /// Codes 4 and 5: with 65,536 configurations the walk is nearly all of a call, and it is written out for their four layers.
+    fn is_long(&self) -> bool {
+        self.cosets > 64
     }
 
     fn is_codeword(&self, word: &[u8]) -> bool {
@@ -110,6 +128,36 @@ impl Plain {
         best
     }
 
+    /// The same for a long code.
+    fn long_walk(&mut self) -> i32 {
+        let size = self.cosets;
+        for marginal in &mut self.marginals {
+            marginal.fill(NEVER);
+        }
+        let tables = four(&self.tables, size);
+        let [m0, m1, m2, m3] = &mut self.marginals[..] else { unreachable!() };
+        let marginals = [&mut m0[..size], &mut m1[..size], &mut m2[..size], &mut m3[..size]];
+        let mut best = NEVER;
+        for c in &self.configurations {
+            let own = [tables[0][c[0]], tables[1][c[1]], tables[2][c[2]], tables[3][c[3]]];
+            let sum = own[0] + own[1] + own[2] + own[3];
+            if sum >= best {
+                if sum > best {
+                    best = sum;
+                    self.tied.clear();
+                }
+                self.tied.push(*c);
+            }
+            for j in 0..4 {
+                let others = sum - own[j];
+                if others > marginals[j][c[j]] {
+                    marginals[j][c[j]] = others;
+                }
+            }
+        }
+        best
+    }
+
     /// The least number of a best word: its symbols are the digits, position 0 leading, so that words are ordered as their numbers. That of a
     /// configuration is the sum over its layers.
     fn first(&mut self, row: &[i16]) -> u64 {
@@ -117,6 +165,10 @@ impl Plain {
             return (0..self.code.m).map(|j| self.trace(row, j, only[j])).sum();
         }
         self.make_numbers(row);
+        if self.is_long() {
+            let numbers = four(&self.numbers, self.cosets);
+            return self.tied.iter().map(|c| four_total(&numbers, c)).min().unwrap();
+        }
         let number = |c: &[usize; 4]| self.numbers.iter().zip(c).map(|(numbers, &s)| numbers[s]).sum();
         self.tied.iter().map(number).min().unwrap()
     }
@@ -179,32 +231,63 @@ fn total(tables: &[Vec<i32>], c: &[usize; 4]) -> i32 {
     tables.iter().zip(c).map(|(table, &s)| table[s]).sum()
 }
 
-/// The tuples of syndromes at which, at every root, the sum of α^j times the layer's value is zero.
-fn configurations(code: &Code, cosets: usize) -> Vec<[usize; 4]> {
+/// The entries of four layers for all syndromes.
+#[inline]
+fn four<T>(layers: &[Vec<T>], size: usize) -> [&[T]; 4] {
+    [&layers[0][..size], &layers[1][..size], &layers[2][..size], &layers[3][..size]]
+}
+
+#[inline]
+fn four_total<T: Copy + Add<Output = T>>(layers: &[&[T]; 4], c: &[usize; 4]) -> T {
+    layers[0][c[0]] + layers[1][c[1]] + layers[2][c[2]] + layers[3][c[3]]
+}
+
+/// 0 and the powers of α^5 for m = 4, by their numbers, which add as these do.
+const FIFTHS: [usize; 4] = [0, 1, 6, 7];
+
+fn fifth_number(value: usize) -> usize {
+    FIFTHS.iter().position(|x| *x == value).unwrap()
+}
+
+/// The tuples of syndromes at which, at every root, the sum of α^j times the layer's value is zero, in order. The sum is linear in the bits
+/// of the syndromes: each bit is reduced by those before it; what sums to zero then is such a tuple, and all are sums of these.
+fn configurations(code: &Code, syndrome_bits: usize) -> Vec<[usize; 4]> {
     let mask = (1 << code.m) - 1;
     let value = |s: usize, t: usize| {
-        let a = s & mask;
-        let square = code.times(a, a);
+        let square = |x| code.times(x, x);
+        let (first, third) = (s & mask, s >> code.m & mask);
         match t {
-            1 => a,
-            2 => square,
-            3 => s >> code.m,
-            _ => code.times(square, square),
+            1 => first,
+            2 => square(first),
+            3 => third,
+            4 => square(square(first)),
+            5 => FIFTHS[s >> (2 * code.m)],
+            _ => square(third),
         }
     };
-    let valid = |c: &[usize; 4]| {
-        (1..=code.roots).all(|t| (0..code.m).fold(0, |x, j| x ^ code.times(code.alpha(j), value(c[j], t))) == 0)
-    };
-    (0..cosets.pow(code.m as u32))
-        .map(|k| {
-            let mut c = [0; 4];
-            let mut left = k;
-            for s in c[..code.m].iter_mut().rev() {
-                *s = left % cosets;
-                left /= cosets;
+    let (mut reduced, mut tuples) = (vec![], vec![[0; 4]]);
+    for (j, b) in (0..code.m).flat_map(|j| (0..syndrome_bits).map(move |b| (j, b))) {
+        let at_root = |t| code.times(code.alpha(j), value(1 << b, t));
+        let mut sum = (1..=code.roots).fold(0, |h, t| h << code.m | at_root(t));
+        let mut c = [0; 4];
+        c[j] = 1 << b;
+        for &(other, d) in &reduced {
+            if sum ^ other < sum {
+                sum ^= other;
+                c = added(c, d);
             }
-            c
-        })
-        .filter(valid)
-        .collect()
+        }
+        if sum != 0 {
+            reduced.push((sum, c));
+        } else {
+            let sums: Vec<[usize; 4]> = tuples.iter().map(|&d| added(c, d)).collect();
+            tuples.extend(sums);
+        }
+    }
+    tuples.sort_unstable();
+    tuples
+}
+
+fn added(c: [usize; 4], d: [usize; 4]) -> [usize; 4] {
+    [0, 1, 2, 3].map(|j| c[j] ^ d[j])
 }

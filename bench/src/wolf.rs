@@ -33,7 +33,8 @@ impl Wolf {
         self.tables[0]
     }
 
-    /// The last best word of the row that was decoded before. It is the first one too where no other word ties.
+    /// The last best word of the row that was decoded before. It is the first one too where no other word ties. The tests of the Rust package ask for it.
+    #[allow(dead_code)]
     pub fn last(&self, row: &[i16], word: &mut [u8]) {
         self.trace(row, word, |zero, one| zero <= one);
     }
