@@ -1,4 +1,1 @@
-pub mod Writing
-pub mod Decodings
-pub mod Finding
 pub mod Refusals

@@ -5,16 +5,14 @@ use borrow.Author.Tests.{eqb-true}
 use Rattle.refusal.proofs.Tests.{passed}
 use Rattle.refusal.specs.Refusal.{first, Outcome}
 use Rattle.code.specs.declared.Shape.{Shape}
-use Rattle.code.specs.Code.{is-codeword}
 use Rattle.code.specs.Bits.{row-long}
 use Rattle.code.specs.Within.{Coded}
-use Rattle.metric.specs.Metric.{Decoded}
 use Rattle.code.specs.declared.Chosen.{Chosen}
 use Rattle.code.specs.Within.{Chosen-says}
 use Rattle.code.proofs.Promise.{as-chosen}
 use Rattle.decoder.specs.declared.Decoding.{Decoding}
 use Rattle.decoder.specs.Calls.{decode-refusal, Decode-says}
-use Rattle.decoder.specs.Within.{Accepted}
+use Rattle.decoding.specs.Within.{Accepted}
 
 pub decode-accepted : {s : Shape} → Coded s → (rs : List ℤ) (a b x : ℕ) → decode-refusal (s .m) rs a b x ≡ 0 → Accepted s rs a b x
 unfolding decode-refusal row-long
@@ -35,8 +33,3 @@ pub decode-as : {z m r : ℕ} {a : Chosen} → Chosen-says z m r a → (rs : Lis
     Decode-says (a .number) (a .shape .m) (a .shape .r) rs d w w' e e' x x' → Decode-says z m r rs d w w' e e' x x'
 unfolding Decode-says first Outcome
 decode-as s rs d w w' e e' x x' = as-chosen (λ z m r. Decode-says z m r rs d w w' e e' x x') (λ n m r k l y. y) s
-
--- what was decoded, by the code's number
-pub decoded-as : {a b m r : ℕ} {rs : List ℤ} {word : List ℕ} {x y : ℤ} {soft : List ℤ} → a ≡ m → b ≡ r → y ≡ x →
-    Decoded a (is-codeword a b) rs word x soft → Decoded m (is-codeword m r) rs word y soft
-decoded-as e f g d = rw (← e, ← f, g) d

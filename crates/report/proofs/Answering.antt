@@ -10,8 +10,8 @@ use Rattle.code.proofs.Promise.{of-shape, of-number, By-number, by-number-m, by
 use Rattle.metric.specs.Metric.{Greatest, Decoded, Marked}
 use Rattle.metric.specs.Scratch.{scratch-long}
 use Rattle.metric.proofs.Promise.{decoded-greatest}
-use Rattle.decoder.specs.Within.{Accepted}
-use Rattle.decoder.proofs.Refusals.{decoded-as}
+use Rattle.decoding.specs.Within.{Accepted}
+use Rattle.decoding.proofs.Decodings.{decoded-as}
 use Rattle.marker.specs.declared.Mark.{Mark}
 use Rattle.marker.specs.Calls.{mark-refusal}
 use Rattle.marker.specs.Within.{Verdict}

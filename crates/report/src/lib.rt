@@ -43,7 +43,7 @@ fn put_answer(
 {
     let chosen = code::by_number(code);
     let shape = chosen.shape;
-    let metric = decoder::decode_accepted(shape, row, best, soft, scratch);
+    let metric = decoding::decode_accepted(shape, row, best, soft, scratch);
     let mark = marker::verdict_on_word(shape, row, word, metric);
     let verdict = mark.verdict;
     let shortfall = mark.shortfall;

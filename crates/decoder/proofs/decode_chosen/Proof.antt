@@ -7,7 +7,7 @@ use Rattle.refusal.proofs.Tests.{first-none}
 use Rattle.refusal.proofs.Outcomes.{outcome-done, outcome-refused}
 use Rattle.search.proofs.Roomed.{cleared-is}
 use Rattle.decoder.specs.Calls.{decode-refusal, Decode-says}
-use Rattle.decoder.specs.Within.{Accepted}
+use Rattle.decoding.specs.Within.{Accepted}
 use Rattle.decoder.proofs.Refusals.{decode-accepted}
 use Rattle.decoder.proofs.decode_chosen.Statement.{statement}
 use Rattle.decoder.proofs.decode_chosen.Tie as tie

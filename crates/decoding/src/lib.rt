@@ -1,0 +1,338 @@
+// The decoding of an accepted row, over the search: the first best word, its metric and the soft outputs. `decode_accepted` is for the crates above, which
+// know that nothing is refused; how the search goes is no part of its promise.
+use code::Shape;
+use search::Best;
+ghost use mathlib.Core.Path.{_≡_};
+ghost use Prim.Native.Nat.{ℕ, _+_, _*_, _^_, _<_, _≤_};
+ghost use lib.ListN.{length, getD, take};
+ghost use lib.IntN.{pos, _-ℤ_};
+ghost use Rattle.code.specs.Code.{is-codeword};
+ghost use Rattle.code.specs.Within.{Coded};
+ghost use Rattle.metric.specs.Metric.{Decoded};
+ghost use Rattle.tails.specs.Tails.{columns};
+ghost use Rattle.walk.specs.Walk.{Marginals, Scattered};
+ghost use Rattle.pass.specs.Pass.{Pass, Passed};
+ghost use Rattle.search.specs.Within.{cap, bound, Input, Roomy, Tabled, Small-keys, Walked, Laid, slots-of, steps-of, turns-of};
+ghost use Rattle.decoding.specs.Within.{Soft-within, Soft-written, Softs-within, Softened, Softs, Tables-room, Rooms, Others-room, Found, Soften-room, Outputs, Accepted};
+
+// Every number of a table the same.
+fn reset(t: &mut [u32], x: u32)
+    ensures { λ _. ⌜ (length (now (t .exit)) ≡ length (now (t .entry))) × ((p : ℕ) → p < length (now (t .entry)) → getD (now (t .exit)) p 0 ≡ x) ⌝ }
+{
+    let mut p = 0;
+    while p < t.len() {
+        t[p] = x;
+        p += 1;
+    }
+}
+
+// a less b.
+fn minus(a: u32, b: u32) -> i32
+    requires { ⌜ (a < 2 ^ 31) × (b < 2 ^ 31) ⌝ }
+    ensures { λ r. ⌜ r ≡ pos a -ℤ pos b ⌝ }
+{
+    (a as i32) - (b as i32)
+}
+
+// A soft output: twice the least cost with a 1 less twice that with a 0.
+fn soft_from(zero: u32, one: u32) -> i16
+    requires { ⌜ (zero < bound) × (one < bound) ⌝ }
+    ensures { λ r. ⌜ r ≡ pos (2 * one) -ℤ pos (2 * zero) ⌝ }
+{
+    minus(2 * one, 2 * zero) as i16
+}
+
+// One position's soft outputs.
+fn soft_row(m: u32, z: [u32; 4], o: [u32; 4], at: usize, soft: &mut [i16])
+    requires { ⌜ Soft-within m at z o (now soft) ⌝ }
+    ensures { λ _. ⌜ Soft-written m at z o (now (soft .entry)) (now (soft .exit)) ⌝ }
+{
+    soft[at + 0] = soft_from(z[0], o[0]);
+    soft[at + 1] = soft_from(z[1], o[1]);
+    soft[at + 2] = soft_from(z[2], o[2]);
+    if m == 4 {
+        soft[at + 3] = soft_from(z[3], o[3]);
+    }
+}
+
+// All soft outputs.
+fn soft_rows(m: u32, n: usize, zero: &[u32], one: &[u32], soft: &mut [i16])
+    requires { ⌜ Softs-within m n (now zero) (now one) (now soft) ⌝ }
+    ensures { λ _. ⌜ Softened m (now (zero .entry)) (now (one .entry)) n (now (soft .entry)) (now (soft .exit)) ⌝ }
+{
+    let w = m as usize;
+    let mut i = 0;
+    let mut at = 0;
+    while i < n {
+        soft_row(m, rows::load(zero, i), rows::load(one, i), at, soft);
+        at += w;
+        i += 1;
+    }
+}
+
+// The tables of a row. The tails take their turn in the first part of g.
+fn tabulate(
+    shape: Shape,
+    row: &[i16],
+    hs: &[u16],
+    zs: &mut [u32],
+    os: &mut [u32],
+    t: &mut [u32],
+    g: &mut [u16],
+    scratch: &mut [i32],
+)
+    requires { ⌜ Input shape (now row) ⌝ }
+    requires { ⌜ now hs ≡ columns (shape .m) (shape .r) ⌝ }
+    requires { ⌜ Tables-room shape (now zs) (now os) (now t) (now g) (now scratch) ⌝ }
+    ensures { λ _. ⌜ Tabled shape (now (row .entry)) (now (hs .entry)) (now (zs .exit)) (now (os .exit)) (now (t .exit)) (now (scratch .exit)) ⌝ }
+{
+    let states = shape.size * 4;
+    search::of_row(shape, row, hs, zs, os, t, &mut g[..states], scratch);
+}
+
+// The walk over the tables. The marginals take their turn in the first part of g.
+fn walk_over(shape: Shape, t: &[u32], places: &mut [u16], f: &mut [u16], g: &mut [u16]) -> Best
+    requires { ⌜ Coded shape ⌝ }
+    requires { ⌜ Small-keys (now t) ⌝ }
+    requires { ⌜ Rooms shape (now t) (now places) (now f) (now g) ⌝ }
+    ensures { λ r. ⌜ Walked shape (now (t .entry)) (now (places .exit)) (now (f .exit)) (take (length (now (places .entry))) (now (g .exit))) (r .total) (r .words) ⌝ }
+{
+    let count = places.len();
+    search::best_of(shape, t, places, f, &mut g[..count])
+}
+
+// What the other layers cost at the least, for each layer and coset, in place of the tables. The marginals are used up.
+fn others(t: &mut [u32], places: &[u16], f: &[u16], g: &mut [u16])
+    requires { ⌜ Others-room (now t) (now places) (now f) (now g) ⌝ }
+    ensures { λ _. ⌜ Scattered cap (now (f .entry)) (take (length (now (places .entry))) (now (g .entry))) (now (places .entry)) (now (t .exit)) ⌝ }
+{
+    let count = places.len();
+    reset(t, search::CAP as u32);
+    walk::scatter(f, &mut g[..count], places, t, search::CAP as u32);
+}
+
+// The soft pass. The tables behind the columns take their turn in the first part of g.
+fn soft_costs(
+    shape: Shape,
+    hs: &[u16],
+    zs: &[u32],
+    os: &[u32],
+    t: &mut [u32],
+    g: &mut [u16],
+    scratch: &[i32],
+    zero: &mut [u32],
+    one: &mut [u32],
+)
+    requires { ⌜ shape .size * 4 ≤ length (now g) ⌝ }
+    requires { ⌜ Pass (shape .q) (shape .size) cap (now t) (take (shape .size * 4) (now g)) (now hs) (now zs) (now os) (now scratch) (now zero) (now one) ⌝ }
+    ensures { λ _. ⌜ Passed (shape .size) cap (now (t .entry)) (now (hs .entry)) (now (zs .entry)) (now (os .entry)) 0 (length (now (hs .entry))) (now (zero .exit)) ⌝ }
+    ensures { λ _. ⌜ Passed (shape .size) cap (now (t .entry)) (now (hs .entry)) (now (zs .entry)) (now (os .entry)) 1 (length (now (hs .entry))) (now (one .exit)) ⌝ }
+{
+    let states = shape.size * 4;
+    pass::pass(
+        t,
+        &mut g[..states],
+        scratch,
+        shape.q,
+        shape.size,
+        hs,
+        zs,
+        os,
+        search::CAP as u32,
+        zero,
+        one,
+    );
+}
+
+// The search: the tables, the walk, and the word.
+fn find_word(
+    shape: Shape,
+    row: &[i16],
+    hs: &[u16],
+    zs: &mut [u32],
+    os: &mut [u32],
+    t: &mut [u32],
+    places: &mut [u16],
+    f: &mut [u16],
+    g: &mut [u16],
+    word: &mut [u8],
+    scratch: &mut [i32],
+) -> u16
+    requires { ⌜ Input shape (now row) ⌝ }
+    requires { ⌜ now hs ≡ columns (shape .m) (shape .r) ⌝ }
+    requires { ⌜ Tables-room shape (now zs) (now os) (now t) (now g) (now scratch) ⌝ }
+    requires { ⌜ Rooms shape (now t) (now places) (now f) (now g) × (length (now word) ≡ shape .n) ⌝ }
+    ensures { λ x. ⌜ Found shape (now (row .entry)) (now (hs .entry)) (now (zs .exit)) (now (os .exit)) (now (t .exit)) (now (places .exit)) (now (f .exit)) (now (g .exit)) (now (scratch .exit)) (now (word .exit)) x ⌝ }
+{
+    tabulate(shape, row, hs, zs, os, t, g, scratch);
+    let best = walk_over(shape, t, places, f, g);
+    let words = best.words;
+    search::write_word(words, word);
+    best.total
+}
+
+// The soft outputs, from what the search left. The tables are used up.
+fn soften(
+    shape: Shape,
+    row: &[i16],
+    hs: &[u16],
+    zs: &[u32],
+    os: &[u32],
+    t: &mut [u32],
+    places: &[u16],
+    f: &[u16],
+    g: &mut [u16],
+    scratch: &[i32],
+    zero: &mut [u32],
+    one: &mut [u32],
+    soft: &mut [i16],
+)
+    requires { ⌜ Input shape (now row) ⌝ }
+    requires { ⌜ Tabled shape (now row) (now hs) (now zs) (now os) (now t) (now scratch) ⌝ }
+    requires { ⌜ Laid shape (now t) (now places) (now f) ⌝ }
+    requires { ⌜ Marginals (turns-of shape) cap (now f) (slots-of shape) (steps-of shape) (take (length (now places)) (now g)) ⌝ }
+    requires { ⌜ Soften-room shape (now places) (now g) (now scratch) (now zero) (now one) (now soft) ⌝ }
+    ensures { λ _. ⌜ Softs shape (now (row .entry)) (now (zero .exit)) (now (one .exit)) ⌝ }
+    ensures { λ _. ⌜ Softened (shape .m) (now (zero .exit)) (now (one .exit)) (shape .n) (now (soft .entry)) (now (soft .exit)) ⌝ }
+{
+    others(t, places, f, g);
+    soft_costs(shape, hs, zs, os, t, g, scratch, zero, one);
+    soft_rows(shape.m, shape.n, zero, one, soft);
+}
+
+// A decoding, with every buffer lent. Marginals, tails and the tables behind the columns take turns in g.
+fn decode_with(
+    shape: Shape,
+    row: &[i16],
+    hs: &[u16],
+    zs: &mut [u32],
+    os: &mut [u32],
+    t: &mut [u32],
+    places: &mut [u16],
+    f: &mut [u16],
+    g: &mut [u16],
+    zero: &mut [u32],
+    one: &mut [u32],
+    word: &mut [u8],
+    soft: &mut [i16],
+    scratch: &mut [i32],
+) -> i32
+    requires { ⌜ Input shape (now row) ⌝ }
+    requires { ⌜ now hs ≡ columns (shape .m) (shape .r) ⌝ }
+    requires { ⌜ Rooms shape (now t) (now places) (now f) (now g) ⌝ }
+    requires { ⌜ Outputs shape (now zs) (now os) (now zero) (now one) (now word) (now soft) (now scratch) ⌝ }
+    ensures { λ x. ⌜ Decoded (shape .m) (is-codeword (shape .m) (shape .r)) (now (row .entry)) (now (word .exit)) x (now (soft .exit)) ⌝ }
+{
+    let least = find_word(shape, row, hs, zs, os, t, places, f, g, word, scratch);
+    soften(
+        shape,
+        row,
+        hs,
+        zs,
+        os,
+        t,
+        places,
+        f,
+        g,
+        scratch,
+        zero,
+        one,
+        soft,
+    );
+    minus(search::weight(row), 2 * (least as u32))
+}
+
+// With the rooms for tables and places lent, which may be longer than the code needs.
+fn decode_in(
+    shape: Shape,
+    row: &[i16],
+    t: &mut [u32],
+    places: &mut [u16],
+    f: &mut [u16],
+    g: &mut [u16],
+    word: &mut [u8],
+    soft: &mut [i16],
+    scratch: &mut [i32],
+) -> i32
+    requires { ⌜ Accepted shape (now row) (length (now word)) (length (now soft)) (length (now scratch)) ⌝ }
+    requires { ⌜ Roomy shape (now t) (now places) (now f) (now g) ⌝ }
+    ensures { λ x. ⌜ Decoded (shape .m) (is-codeword (shape .m) (shape .r)) (now (row .entry)) (now (word .exit)) x (now (soft .exit)) ⌝ }
+{
+    let columns = spots::columns(shape.m, shape.r);
+    let hs: &[u16] = &columns;
+    let mut zs_room = [0u32; 60];
+    let zs: &mut [u32] = &mut zs_room;
+    let mut os_room = [0u32; 60];
+    let os: &mut [u32] = &mut os_room;
+    let mut zero_room = [0u32; 60];
+    let zero: &mut [u32] = &mut zero_room;
+    let mut one_room = [0u32; 60];
+    let one: &mut [u32] = &mut one_room;
+    let n = shape.n;
+    let wide = n * 4;
+    let states = shape.size * 4;
+    let count = search::places_of(shape);
+    decode_with(
+        shape,
+        row,
+        &hs[..n],
+        &mut zs[..wide],
+        &mut os[..wide],
+        &mut t[..states],
+        &mut places[..count],
+        &mut f[..count],
+        g,
+        &mut zero[..wide],
+        &mut one[..wide],
+        word,
+        soft,
+        scratch,
+    )
+}
+
+// A decoding of an accepted call, which leaves in the scratch what it does. The rooms are of the size that its code needs: making the largest would cost
+// the smallest code as much as its search. They are filled with a number that is not 0, which takes a tenth of what zeroing takes; nothing reads them before
+// they are written.
+pub fn decode_accepted(
+    shape: Shape,
+    row: &[i16],
+    word: &mut [u8],
+    soft: &mut [i16],
+    scratch: &mut [i32],
+) -> i32
+    requires { ⌜ Accepted shape (now row) (length (now word)) (length (now soft)) (length (now scratch)) ⌝ }
+    ensures { λ x. ⌜ Decoded (shape .m) (is-codeword (shape .m) (shape .r)) (now (row .entry)) (now (word .exit)) x (now (soft .exit)) ⌝ }
+{
+    if search::places_of(shape) <= 400 {
+        let mut t = [search::CAP as u32; 256];
+        let mut places = [search::CAP; 400];
+        let mut f = [search::CAP; 400];
+        let mut g = [search::CAP; 400];
+        return decode_in(
+            shape,
+            row,
+            &mut t,
+            &mut places,
+            &mut f,
+            &mut g,
+            word,
+            soft,
+            scratch,
+        );
+    }
+    let mut t = [search::CAP as u32; 4096];
+    let mut places = [search::CAP; 4096];
+    let mut f = [search::CAP; 4096];
+    let mut g = [search::CAP; 4096];
+    decode_in(
+        shape,
+        row,
+        &mut t,
+        &mut places,
+        &mut f,
+        &mut g,
+        word,
+        soft,
+        scratch,
+    )
+}
