@@ -1,6 +1,6 @@
 -- The tables of the search, from the tails to position 0: what each loop keeps.
 -- Assumes nothing.
-use Rattle.basics.proofs.Kit.{_≡_, refl, sym, ap, _∙_, List, ℕ, suc, _+_, _-_, _*_, _/_, _^_, _≤_, _<_, arith, length, getD, ℤ, pos}
+use Rattle.basics.proofs.Kit.{_≡_, refl, sym, ap, _∙_, Bool, true, List, ℕ, suc, _+_, _-_, _*_, _/_, _^_, _≤_, _<_, arith, length, getD, ℤ, pos}
 use native.Mathlib.Nat.{two-pow-succ, suc-mul, one-mul, mul-le-mul-right}
 use native.Mathlib.Decide.{decLe, ℕ-discrete}
 use Rattle.field.specs.Field.{xor}
@@ -273,25 +273,25 @@ module _ {q size : ℕ} {hs zs os : List ℕ} (a : Layers q size hs zs os) where
     }
 
 -- THE LOOP OVER THE HEADS: the keys from position i on, and the tables kept from there on
-pub record Making (q size : ℕ) (hs zs os : List ℕ) (kept₀ : List ℤ) (t : List ℕ) (kept : List ℤ) (i bit : ℕ) : Type 0 where
+pub record Making (asked : Bool) (q size : ℕ) (hs zs os : List ℕ) (kept₀ : List ℤ) (t : List ℕ) (kept : List ℤ) (i bit : ℕ) : Type 0 where
   pub inside : i + q ≤ length hs
   pub bit-is : bit ≡ 2 ^ (length hs - i)
   pub keys : Keys size hs zs os i t
   pub long : length kept ≡ length kept₀
-  pub tables : (k s j : ℕ) → i ≤ k → 0 < k → k < length hs - q → s < size → j < 4 →
+  pub tables : asked ≡ true → (k s j : ℕ) → i ≤ k → 0 < k → k < length hs - q → s < size → j < 4 →
       getD kept ((k - 1) * (size * 4) + (s * 4 + j)) (pos 0) ≡ pos (least hs zs os k j s)
 
 module _ {q size : ℕ} {hs zs os : List ℕ} (a : Layers q size hs zs os) where
-  pub make-start : {t : List ℕ} {kept : List ℤ} → Keys size hs zs os (length hs - q) t → Making q size hs zs os kept t kept (length hs - q) size
+  pub make-start : {asked : Bool} {t : List ℕ} {kept : List ℤ} → Keys size hs zs os (length hs - q) t → Making asked q size hs zs os kept t kept (length hs - q) size
   make-start f = record {
     inside = omega (arith, a .fits);
     bit-is = let e : length hs - (length hs - q) ≡ q = omega (arith, a .fits) in rw e (a .size-is);
     keys = f;
     long = refl;
-    tables = λ k s j l o u. absurd (omega arith);
+    tables = λ y k s j l o u. absurd (omega arith);
   }
 
-  module _ {kept₀ kept : List ℤ} {t : List ℕ} {i bit : ℕ} (f : Making q size hs zs os kept₀ t kept i bit) (p : 0 < i) where
+  module _ {asked : Bool} {kept₀ kept : List ℤ} {t : List ℕ} {i bit : ℕ} (f : Making asked q size hs zs os kept₀ t kept i bit) (p : 0 < i) where
     whole : suc (i - 1) ≡ i
     whole = omega arith
 
@@ -309,28 +309,28 @@ module _ {q size : ℕ} {hs zs os : List ℕ} (a : Layers q size hs zs os) where
           let l : i - 1 ≤ length hs - q - 1 = omega (arith, f .inside) in
           rw (b .long) (omega (arith, mul-le-mul-right (size * 4) l, f .long))
 
-      pub make-next : {kept' : List ℤ} → Keeps (i - 1) t' kept kept' → Making q size hs zs os kept₀ t' kept' (i - 1) (bit + bit)
+      pub make-next : {kept' : List ℤ} → Keeps asked (i - 1) t' kept kept' → Making asked q size hs zs os kept₀ t' kept' (i - 1) (bit + bit)
       make-next {kept'} r = record {
         inside = omega (arith, f .inside);
         bit-is = let e : length hs - (i - 1) ≡ suc (length hs - i) = omega (arith, f .inside, a .some) in rw e (omega (arith, f .bit-is, two-pow-succ (length hs - i)));
         keys = b;
         long = r .long ∙ f .long;
-        tables = λ k s j l o u ls lj. go k s j l o u ls lj (ℕ-discrete k (i - 1));
+        tables = λ y k s j l o u ls lj. go y k s j l o u ls lj (ℕ-discrete k (i - 1));
       }
         where
-          go : (k s j : ℕ) → i - 1 ≤ k → 0 < k → k < length hs - q → s < size → j < 4 → Dec (k ≡ i - 1) →
+          go : asked ≡ true → (k s j : ℕ) → i - 1 ≤ k → 0 < k → k < length hs - q → s < size → j < 4 → Dec (k ≡ i - 1) →
               getD kept' ((k - 1) * (size * 4) + (s * 4 + j)) (pos 0) ≡ pos (least hs zs os k j s)
-          go k s j l o u ls lj (yes e) =
+          go y k s j l o u ls lj (yes e) =
               rw e (ap (λ (x : ℕ). getD kept' ((i - 1 - 1) * x + (s * 4 + j)) (pos 0)) (sym (b .long))
-              ∙ r .here (s * 4 + j) (omega arith) (omega (arith, b .long))
+              ∙ r .here (s * 4 + j) y (omega arith) (omega (arith, b .long))
               ∙ ap (λ (x : ℕ). pos (x / 65536)) (b .keys s j ls lj)
               ∙ ap pos (key-cost hs zs os j (i - 1) s (a .few)))
-          go k s j l o u ls lj (no x) =
+          go y k s j l o u ls lj (no x) =
               let m : i - 1 ≤ k - 1 = omega arith in
-              r .rest ((k - 1) * (size * 4) + (s * 4 + j)) (rw (b .long) (omega (arith, mul-le-mul-right (size * 4) m))) ∙ f .tables k s j (omega arith) o u ls lj
+              r .rest ((k - 1) * (size * 4) + (s * 4 + j)) (rw (b .long) (omega (arith, mul-le-mul-right (size * 4) m))) ∙ f .tables y k s j (omega arith) o u ls lj
 
-  pub make-keys : {kept₀ kept : List ℤ} {t : List ℕ} {i bit : ℕ} → Making q size hs zs os kept₀ t kept i bit → i ≡ 0 → Keys size hs zs os 0 t
+  pub make-keys : {asked : Bool} {kept₀ kept : List ℤ} {t : List ℕ} {i bit : ℕ} → Making asked q size hs zs os kept₀ t kept i bit → i ≡ 0 → Keys size hs zs os 0 t
   make-keys f e = rw e at (f .keys)
 
-  pub make-kept : {kept₀ kept : List ℤ} {t : List ℕ} {i bit : ℕ} → Making q size hs zs os kept₀ t kept i bit → i ≡ 0 → Kept q size hs zs os kept
-  make-kept f e i s j p = f .tables i s j (omega arith) p
+  pub make-kept : {asked : Bool} {kept₀ kept : List ℤ} {t : List ℕ} {i bit : ℕ} → Making asked q size hs zs os kept₀ t kept i bit → i ≡ 0 → asked ≡ true → Kept q size hs zs os kept
+  make-kept f e y i s j p = f .tables y i s j (omega arith) p

@@ -2,6 +2,7 @@
 -- least costs of all that comes from a position on. A coset is numbered by its tail: the last q columns are the powers of two, so that every
 -- coset has one word that is 0 before them. It knows columns, costs and xor, and no code. Assumes nothing: these are definitions.
 use mathlib.Core.Path.{_≡_}
+use mathlib.Core.Bool.{Bool, true}
 use mathlib.Core.List.{List}
 use Prim.Native.Nat.{ℕ, suc, _+_, _-_, _*_, _^_, _≤_, _<_}
 use lib.IntN.{ℤ, pos}
@@ -70,8 +71,8 @@ pub record Freed (size h : ℕ) (t z o : List ℕ) (to : List ℕ) : Type 0 wher
   pub long : length to ≡ length t
   pub made : (s j : ℕ) → s < size → j < 4 → entry to s j ≡ step either (column h z o j) (front t j) s
 
--- what `make` asks besides the layers: room for the keys, for a table of costs, and for the tables kept
-pub record Room (q size : ℕ) (hs t g : List ℕ) (kept : List ℤ) : Type 0 where
+-- what `make` asks besides the layers: room for the keys, for a table of costs and, where they are asked for, for the tables kept
+pub record Room (asked : Bool) (q size : ℕ) (hs t g : List ℕ) (kept : List ℤ) : Type 0 where
   pub length-t : length t ≡ size * 4
   pub length-g : length g ≡ size * 4
-  pub length-kept : (length hs - q - 1) * (size * 4) ≤ length kept
+  pub length-kept : asked ≡ true → (length hs - q - 1) * (size * 4) ≤ length kept

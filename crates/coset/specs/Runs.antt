@@ -1,6 +1,7 @@
 -- How the coset search goes: a column in place by pairs of rows, the tails by doubling, rows of keys and tables kept; what the calls ask, and what
 -- they leave. Assumes nothing: these are definitions.
 use mathlib.Core.Path.{_≡_}
+use mathlib.Core.Bool.{Bool, true}
 use mathlib.Core.List.{List}
 use Prim.Native.Nat.{ℕ, suc, _+_, _-_, _*_, _/_, _%_, _^_, _≤_, _<_, min}
 use lib.IntN.{ℤ, pos}
@@ -102,10 +103,10 @@ pub record Copied (t : List ℕ) (at n : ℕ) (kept kept' : List ℤ) : Type 0 w
   pub here : (k : ℕ) → k < n → getD kept' (at + k) (pos 0) ≡ pos (getD t k 0 / 65536)
   pub rest : (k : ℕ) → at + n ≤ k → getD kept' k (pos 0) ≡ getD kept k (pos 0)
 
--- the table of position i is kept, where i is not 0, and those behind it still are
-pub record Keeps (i : ℕ) (t : List ℕ) (kept kept' : List ℤ) : Type 0 where
+-- the table of position i is kept, where tables are asked for and i is not 0, and those behind it still are
+pub record Keeps (asked : Bool) (i : ℕ) (t : List ℕ) (kept kept' : List ℤ) : Type 0 where
   pub long : length kept' ≡ length kept
-  pub here : (k : ℕ) → 0 < i → k < length t → getD kept' ((i - 1) * length t + k) (pos 0) ≡ pos (getD t k 0 / 65536)
+  pub here : (k : ℕ) → asked ≡ true → 0 < i → k < length t → getD kept' ((i - 1) * length t + k) (pos 0) ≡ pos (getD t k 0 / 65536)
   pub rest : (k : ℕ) → i * length t ≤ k → getD kept' k (pos 0) ≡ getD kept k (pos 0)
 
 -- A TABLE KEPT comes back: what `restore` asks of the numbers, and what it leaves of the first n

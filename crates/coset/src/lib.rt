@@ -2,6 +2,7 @@
 // the tables of least costs that the soft pass meets. It knows columns, costs and xor, and no code. Its functions are for the crates above; their
 // promises cite specs/Coset.antt.
 ghost use mathlib.Core.Path.{_≡_};
+ghost use mathlib.Core.Bool.{true};
 ghost use Prim.Native.Nat.{_+_, _-_, _*_, _^_, _<_, _≤_};
 ghost use lib.ListN.{length};
 ghost use Rattle.lanes.specs.Lanes as L;
@@ -155,13 +156,15 @@ fn copy(t: &[u32], kept: &mut [i32], at: usize)
     }
 }
 
-// The costs from position i on, kept at their place. Those of position 0 are not.
-fn keep(t: &[u32], kept: &mut [i32], i: usize)
-    requires { ⌜ i * length (now t) ≤ length (now kept) ⌝ }
-    ensures { λ _. ⌜ Keeps i (now (t .entry)) (now (kept .entry)) (now (kept .exit)) ⌝ }
+// The costs from position i on, kept at their place, where tables are asked for. Those of position 0 are not.
+fn keep(t: &[u32], kept: &mut [i32], i: usize, asked: bool)
+    requires { ⌜ (asked ≡ true → i * length (now t) ≤ length (now kept)) ⌝ }
+    ensures { λ _. ⌜ Keeps asked i (now (t .entry)) (now (kept .entry)) (now (kept .exit)) ⌝ }
 {
-    if 0 < i {
-        copy(t, kept, (i - 1) * t.len());
+    if asked {
+        if 0 < i {
+            copy(t, kept, (i - 1) * t.len());
+        }
     }
 }
 
@@ -213,7 +216,7 @@ fn free_at(
     free(t, q, size, h, z, o);
 }
 
-// The keys of all cosets, and the tables kept on the way. g is room.
+// The keys of all cosets and, where they are asked for, the tables kept on the way. g is room.
 pub fn make(
     t: &mut [u32],
     g: &mut [u16],
@@ -223,11 +226,12 @@ pub fn make(
     hs: &[u16],
     zs: &[u32],
     os: &[u32],
+    asked: bool,
 )
     requires { ⌜ Layers q size (now hs) (now zs) (now os) ⌝ }
-    requires { ⌜ Room q size (now hs) (now t) (now g) (now kept) ⌝ }
+    requires { ⌜ Room asked q size (now hs) (now t) (now g) (now kept) ⌝ }
     ensures { λ _. ⌜ Keys size (now (hs .entry)) (now (zs .entry)) (now (os .entry)) 0 (now (t .exit)) ⌝ }
-    ensures { λ _. ⌜ Kept q size (now (hs .entry)) (now (zs .entry)) (now (os .entry)) (now (kept .exit)) ⌝ }
+    ensures { λ _. ⌜ (asked ≡ true → Kept q size (now (hs .entry)) (now (zs .entry)) (now (os .entry)) (now (kept .exit))) ⌝ }
     ensures { λ _. ⌜ length (now (kept .exit)) ≡ length (now (kept .entry)) ⌝ }
 {
     tail(g, q, size, hs, zs, os);
@@ -237,7 +241,7 @@ pub fn make(
     while 0 < i {
         i -= 1;
         free_at(t, q, size, hs, zs, os, i, bit);
-        keep(t, kept, i);
+        keep(t, kept, i, asked);
         bit += bit;
     }
 }

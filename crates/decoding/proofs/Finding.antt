@@ -22,7 +22,7 @@ use Rattle.search.proofs.Searching as A
 use Rattle.search.proofs.Foremost as O
 use Rattle.decoding.specs.Within.{Best-word, Found, Softs, Others-room, Soften-room}
 
-module _ {s : Shape} {row : List ℤ} {hs zs os t : List ℕ} {kept : List ℤ} (z : Input s row) (b : Tabled s row hs zs os t kept) where
+module _ {s : Shape} {row : List ℤ} {hs zs os t : List ℕ} {kept : List ℤ} (z : Input s row) (b : Tabled true s row hs zs os t kept) where
   pub found : {places f g word words : List ℕ} {x : ℕ} → Walked s t places f (take (length places) g) x words → word ≡ weave (λ j. leading (s .n) (lane words j)) →
       Found s row hs zs os t places f g kept word x
   found w e =
@@ -79,7 +79,7 @@ module _ {s : Shape} {row : List ℤ} {hs zs os t : List ℕ} {kept : List ℤ} 
           Pass (s .q) (s .size) cap a g' hs zs os kept zero one
       pass-ok {g'} r e = record {
         layers = b .layers;
-        tables = b .tables;
+        tables = b .tables refl;
         head = omega (arith, A.n-is z b, z .coded .q-is, H.head-there (s .m) (s .r) (z .coded .accepted-is));
         length-a = long-a;
         length-g = e;

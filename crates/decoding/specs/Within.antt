@@ -100,7 +100,7 @@ pub record Best-word (s : Shape) (row : List ℤ) (word : List ℕ) (least : ℕ
 
 -- what the search leaves: the tables, the places of the walk with their costs and marginals, and the word
 pub record Found (s : Shape) (row : List ℤ) (hs zs os t places f g : List ℕ) (scratch : List ℤ) (word : List ℕ) (least : ℕ) : Type 0 where
-  pub tabled : Tabled s row hs zs os t scratch
+  pub tabled : Tabled true s row hs zs os t scratch
   pub laid : Laid s t places f
   pub best : Best-word s row word least
   pub marginals : Marginals (turns-of s) cap f (slots-of s) (steps-of s) (take (length places) g)

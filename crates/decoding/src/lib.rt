@@ -3,6 +3,7 @@
 use code::Shape;
 use search::Best;
 ghost use mathlib.Core.Path.{_≡_};
+ghost use mathlib.Core.Bool.{true};
 ghost use Prim.Native.Nat.{ℕ, _+_, _*_, _^_, _<_, _≤_};
 ghost use lib.ListN.{length, getD, take};
 ghost use lib.IntN.{pos, _-ℤ_};
@@ -84,10 +85,10 @@ fn tabulate(
     requires { ⌜ Input shape (now row) ⌝ }
     requires { ⌜ now hs ≡ columns (shape .m) (shape .r) ⌝ }
     requires { ⌜ Tables-room shape (now zs) (now os) (now t) (now g) (now scratch) ⌝ }
-    ensures { λ _. ⌜ Tabled shape (now (row .entry)) (now (hs .entry)) (now (zs .exit)) (now (os .exit)) (now (t .exit)) (now (scratch .exit)) ⌝ }
+    ensures { λ _. ⌜ Tabled true shape (now (row .entry)) (now (hs .entry)) (now (zs .exit)) (now (os .exit)) (now (t .exit)) (now (scratch .exit)) ⌝ }
 {
     let states = shape.size * 4;
-    search::of_row(shape, row, hs, zs, os, t, &mut g[..states], scratch);
+    search::of_row(shape, row, hs, zs, os, t, &mut g[..states], scratch, true);
 }
 
 // The walk over the tables. The marginals take their turn in the first part of g.
@@ -188,7 +189,7 @@ fn soften(
     soft: &mut [i16],
 )
     requires { ⌜ Input shape (now row) ⌝ }
-    requires { ⌜ Tabled shape (now row) (now hs) (now zs) (now os) (now t) (now scratch) ⌝ }
+    requires { ⌜ Tabled true shape (now row) (now hs) (now zs) (now os) (now t) (now scratch) ⌝ }
     requires { ⌜ Laid shape (now t) (now places) (now f) ⌝ }
     requires { ⌜ Marginals (turns-of shape) cap (now f) (slots-of shape) (steps-of shape) (take (length (now places)) (now g)) ⌝ }
     requires { ⌜ Soften-room shape (now places) (now g) (now scratch) (now zero) (now one) (now soft) ⌝ }

@@ -1,6 +1,6 @@
 -- A mark is right: what a codeword costs more than the least is what it lacks.
 -- Assumes nothing.
-use Rattle.basics.proofs.Kit.{_≡_, sym, ap, _∙_, true, List, ℕ, _-_, _*_, _^_, _≤_, _<_, arith, length, ℤ, pos, natAbs, _-ℤ_}
+use Rattle.basics.proofs.Kit.{_≡_, sym, ap, _∙_, Bool, true, List, ℕ, _-_, _*_, _^_, _≤_, _<_, arith, length, ℤ, pos, natAbs, _-ℤ_}
 use mir.Syntax.{w32}
 use mir.Val.{SFits}
 use Rattle.code.specs.declared.Shape.{Shape}
@@ -25,7 +25,7 @@ use Rattle.marker.specs.Within.{Short, Judged, Lacking}
 use Rattle.marker.proofs.Refusals.{Mark-taken}
 
 -- ---- what a codeword costs more than the least
-module _ {s : Shape} {row : List ℤ} {word hs zs os t : List ℕ} {kept : List ℤ} (j : Judged s row word) (b : Tabled s row hs zs os t kept) where
+module _ {asked : Bool} {s : Shape} {row : List ℤ} {word hs zs os t : List ℕ} {kept : List ℤ} (j : Judged s row word) (b : Tabled asked s row hs zs os t kept) where
   p : Codeword-parts (s .m) (s .r) word
   p = codeword-parts (s .m) (s .r) word (j .codeword)
 

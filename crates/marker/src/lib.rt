@@ -4,6 +4,8 @@
 use code::Chosen;
 use code::Shape;
 ghost use mathlib.Core.Path.{_≡_};
+ghost use mathlib.Core.Bool.{false};
+ghost use mathlib.Core.List.{[]};
 ghost use lib.ListN.{length};
 ghost use Rattle.code.specs.Code.{number-refusal, width, roots, is-codeword, parameter-refusal};
 ghost use Rattle.code.specs.Within.{Coded};
@@ -41,7 +43,7 @@ fn mark_refusal(shape: Shape, row: &[i16], word: &[u8], scratch: usize) -> u32
     refusal::unless(row.len() == shape.bits, 2, word_long)
 }
 
-// What a codeword costs more than the least, with every buffer lent. It needs no marginals.
+// What a codeword costs more than the least, with every buffer lent. It needs no marginals, and no tables behind the columns.
 fn excess_with(
     shape: Shape,
     row: &[i16],
@@ -53,15 +55,15 @@ fn excess_with(
     f: &mut [u16],
     g: &mut [u16],
     word: &[u8],
-    scratch: &mut [i32],
 ) -> u32
     requires { ⌜ Judged shape (now row) (now word) ⌝ }
     requires { ⌜ now hs ≡ columns (shape .m) (shape .r) ⌝ }
-    requires { ⌜ Buffers shape (now zs) (now os) (now t) (now g) (now scratch) ⌝ }
+    requires { ⌜ Buffers false shape (now zs) (now os) (now t) (now g) [] ⌝ }
     requires { ⌜ Places shape (now places) (now f) ⌝ }
     ensures { λ x. ⌜ Short (shape .m) (shape .r) (now (row .entry)) (now (word .entry)) x ⌝ }
 {
-    search::of_row(shape, row, hs, zs, os, t, g, scratch);
+    let mut none = [0i32; 1];
+    search::of_row(shape, row, hs, zs, os, t, g, &mut none, false);
     let least = search::least_of(shape, t, places, f);
     let own = search::word_cost(metric::BOUND, zs, os, word);
     own - (least as u32)
@@ -76,9 +78,8 @@ fn excess_in(
     f: &mut [u16],
     g: &mut [u16],
     word: &[u8],
-    scratch: &mut [i32],
 ) -> u32
-    requires { ⌜ Judged shape (now row) (now word) × (length (now scratch) ≡ scratch-long) ⌝ }
+    requires { ⌜ Judged shape (now row) (now word) ⌝ }
     requires { ⌜ Roomy shape (now t) (now places) (now f) (now g) ⌝ }
     ensures { λ x. ⌜ Short (shape .m) (shape .r) (now (row .entry)) (now (word .entry)) x ⌝ }
 {
@@ -103,13 +104,12 @@ fn excess_in(
         &mut f[..count],
         &mut g[..states],
         word,
-        scratch,
     )
 }
 
 // With rooms of the size that the code needs, filled as in a decoding.
-fn excess(shape: Shape, row: &[i16], word: &[u8], scratch: &mut [i32]) -> u32
-    requires { ⌜ Judged shape (now row) (now word) × (length (now scratch) ≡ scratch-long) ⌝ }
+fn excess(shape: Shape, row: &[i16], word: &[u8]) -> u32
+    requires { ⌜ Judged shape (now row) (now word) ⌝ }
     ensures { λ x. ⌜ Short (shape .m) (shape .r) (now (row .entry)) (now (word .entry)) x ⌝ }
 {
     if search::places_of(shape) <= 400 {
@@ -117,31 +117,13 @@ fn excess(shape: Shape, row: &[i16], word: &[u8], scratch: &mut [i32]) -> u32
         let mut places = [search::CAP; 400];
         let mut f = [search::CAP; 400];
         let mut g = [search::CAP; 400];
-        return excess_in(
-            shape,
-            row,
-            &mut t,
-            &mut places,
-            &mut f,
-            &mut g,
-            word,
-            scratch,
-        );
+        return excess_in(shape, row, &mut t, &mut places, &mut f, &mut g, word);
     }
     let mut t = [search::CAP as u32; 4096];
     let mut places = [search::CAP; 4096];
     let mut f = [search::CAP; 4096];
     let mut g = [search::CAP; 4096];
-    excess_in(
-        shape,
-        row,
-        &mut t,
-        &mut places,
-        &mut f,
-        &mut g,
-        word,
-        scratch,
-    )
+    excess_in(shape, row, &mut t, &mut places, &mut f, &mut g, word)
 }
 
 // The verdict on a codeword, from what its metric lacks of the greatest.
@@ -162,10 +144,10 @@ fn verdict_on(shortfall: i32) -> Mark
     }
 }
 
-// The mark of an accepted call.
-fn judge_accepted(shape: Shape, row: &[i16], word: &[u8], scratch: &mut [i32]) -> Mark
+// The mark of an accepted call. It uses nothing of the scratch.
+fn judge_accepted(shape: Shape, row: &[i16], word: &[u8]) -> Mark
     requires { ⌜ Coded shape ⌝ }
-    requires { ⌜ mark-refusal (shape .m) (now row) (now word) (length (now scratch)) ≡ 0 ⌝ }
+    requires { ⌜ mark-refusal (shape .m) (now row) (now word) scratch-long ≡ 0 ⌝ }
     ensures { λ r. ⌜ Verdict (shape .m) (shape .r) (now (row .entry)) (now (word .entry)) r ⌝ }
 {
     if !code::is_codeword(shape.m, shape.r, word) {
@@ -175,7 +157,7 @@ fn judge_accepted(shape: Shape, row: &[i16], word: &[u8], scratch: &mut [i32]) -
             shortfall: 0,
         };
     }
-    verdict_on((2 * excess(shape, row, word, scratch)) as i32)
+    verdict_on((2 * excess(shape, row, word)) as i32)
 }
 
 // The marker: none, short by exactly what is lacking, or best; the scratch is all 0 after it.
@@ -206,7 +188,7 @@ fn judge_chosen(chosen: Chosen, row: &[i16], word: &[u8], scratch: &mut [i32]) -
             shortfall: 0,
         };
     }
-    let mark = judge_accepted(shape, row, word, scratch);
+    let mark = judge_accepted(shape, row, word);
     search::clear(scratch);
     mark
 }

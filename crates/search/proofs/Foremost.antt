@@ -1,6 +1,6 @@
 -- THE WORDS THAT ARE FOUND are those of the first codeword of least cost.
 -- Assumes nothing.
-use Rattle.basics.proofs.Kit.{_≡_, refl, sym, ap, ap₂, _∙_, true, List, ℕ, _+_, _-_, _*_, _/_, _%_, _^_, _≤_, _<_, arith, length, getD, ℤ}
+use Rattle.basics.proofs.Kit.{_≡_, refl, sym, ap, ap₂, _∙_, Bool, true, List, ℕ, _+_, _-_, _*_, _/_, _%_, _^_, _≤_, _<_, arith, length, getD, ℤ}
 use native.Mathlib.Nat.{pow-le-pow-right, zero-lt-suc}
 use Rattle.order.specs.Order.{not-after}
 use Rattle.order.specs.Number.{number}
@@ -38,7 +38,7 @@ pub record Best (m r : ℕ) (row : List ℤ) (word : List ℕ) (x : ℕ) : Type 
   pub is-least : Least m (is-codeword m r) row x
   pub first : (vs : List ℕ) → is-codeword m r vs ≡ true → cost m row vs ≡ x → not-after word vs ≡ true
 
-module _ {s : Shape} {row : List ℤ} {hs zs os t : List ℕ} {kept : List ℤ} (z : Input s row) (b : Tabled s row hs zs os t kept) {places f : List ℕ} (l : Laid s t places f) where
+module _ {asked : Bool} {s : Shape} {row : List ℤ} {hs zs os t : List ℕ} {kept : List ℤ} (z : Input s row) (b : Tabled asked s row hs zs os t kept) {places f : List ℕ} (l : Laid s t places f) where
   abbrev coset : ℕ → ℕ → ℕ
   coset = visited (s .m) (s .r)
 

@@ -35,7 +35,7 @@ use Rattle.spots.proofs.Walks.{walks, spot-visited, visited-inside, visited-hig
 use Rattle.coset.proofs.Search as C
 use Rattle.search.proofs.Heads.{columns-long}
 
-module _ {s : Shape} {row : List ℤ} {hs zs os t : List ℕ} {kept : List ℤ} (z : Input s row) (b : Tabled s row hs zs os t kept) where
+module _ {asked : Bool} {s : Shape} {row : List ℤ} {hs zs os t : List ℕ} {kept : List ℤ} (z : Input s row) (b : Tabled asked s row hs zs os t kept) where
   abbrev coset : ℕ → ℕ → ℕ
   coset = visited (s .m) (s .r)
 

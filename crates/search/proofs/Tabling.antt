@@ -34,7 +34,7 @@ module _ {s : Shape} {row : List ℤ} (z : Input s row) where
   size-is : s .size ≡ 2 ^ syndrome-long (s .m) (s .r)
   size-is = z .coded .size-is ∙ ap (λ (q : ℕ). 2 ^ q) (z .coded .q-is)
 
-  module _ {zs os t g : List ℕ} {kept : List ℤ} (b : Buffers s zs os t g kept) where
+  module _ {asked : Bool} {zs os t g : List ℕ} {kept : List ℤ} (b : Buffers asked s zs os t g kept) where
     pub costs-ok : Costs-within (s .m) (s .n) row zs os
     costs-ok = record { width = z .coded .width-is; few = short; length-row = row-is; length-zs = b .length-zs; length-os = b .length-os }
 
@@ -66,13 +66,13 @@ module _ {s : Shape} {row : List ℤ} (z : Input s row) where
         room = omega (arith, same-n, short);
       }
 
-      pub room-ok : Room (s .q) (s .size) hs t g kept
+      pub room-ok : Room asked (s .q) (s .size) hs t g kept
       room-ok = record {
         length-t = b .length-t;
         length-g = b .length-g;
-        length-kept = rw (many, z .coded .q-is, size-is, b .length-kept) (H.kept-in (s .m) (s .r) (z .coded .accepted-is));
+        length-kept = λ y. rw (many, z .coded .q-is, size-is, b .length-kept y) (H.kept-in (s .m) (s .r) (z .coded .accepted-is));
       }
 
-      pub tabled : {t' : List ℕ} {kept' : List ℤ} → Keys (s .size) hs zs' os' 0 t' → Kept (s .q) (s .size) hs zs' os' kept' → Tabled s row hs zs' os' t' kept'
+      pub tabled : {t' : List ℕ} {kept' : List ℤ} → Keys (s .size) hs zs' os' 0 t' → (asked ≡ true → Kept (s .q) (s .size) hs zs' os' kept') → Tabled asked s row hs zs' os' t' kept'
       unfolding layers-ok
       tabled x y = record { headed = h; costs = rw (z .coded .n-is) at k; layers = layers-ok; top-is = refl; keys = x; tables = y }

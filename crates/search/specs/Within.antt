@@ -1,7 +1,7 @@
 -- What the functions of the search ask and leave: costs, the tables of an accepted row, and what the walk finds over them. A reader need not believe these
 -- definitions: proofs/ ties them to codewords and metrics. Assumes nothing: these are definitions.
 use mathlib.Core.Path.{_≡_}
-use mathlib.Core.Bool.{true}
+use mathlib.Core.Bool.{Bool, true}
 use mathlib.Core.List.{List, [], _∷_}
 use Prim.Native.Nat.{ℕ, zero, suc, _+_, _*_, _/_, _%_, _^_, _≤_, _<_}
 use lib.ListN.{length, getD}
@@ -76,22 +76,22 @@ pub record Input (s : Shape) (row : List ℤ) : Type 0 where
   pub length-row : length row ≡ row-long (s .m)
   pub good-row : row-good row-bound row ≡ true
 
--- buffers of the lengths that the search wants
-pub record Buffers (s : Shape) (zs os t g : List ℕ) (kept : List ℤ) : Type 0 where
+-- buffers of the lengths that the search wants, a scratch where tables are to be kept
+pub record Buffers (asked : Bool) (s : Shape) (zs os t g : List ℕ) (kept : List ℤ) : Type 0 where
   pub length-zs : length zs ≡ s .n * 4
   pub length-os : length os ≡ s .n * 4
   pub length-t : length t ≡ s .size * 4
   pub length-g : length g ≡ s .size * 4
-  pub length-kept : length kept ≡ scratch-long
+  pub length-kept : asked ≡ true → length kept ≡ scratch-long
 
--- what the tables are made of, and the tables
-pub record Tabled (s : Shape) (row : List ℤ) (hs zs os t : List ℕ) (kept : List ℤ) : Type 0 where
+-- what the tables are made of, the tables and, where they were asked for, those behind the columns
+pub record Tabled (asked : Bool) (s : Shape) (row : List ℤ) (hs zs os t : List ℕ) (kept : List ℤ) : Type 0 where
   pub headed : hs ≡ columns (s .m) (s .r)
   pub costs : Costed (s .m) (long (s .m)) row zs os
   pub layers : Layers (s .q) (s .size) hs zs os
   pub top-is : layers .top ≡ row-bound
   pub keys : Keys (s .size) hs zs os 0 t
-  pub tables : Kept (s .q) (s .size) hs zs os kept
+  pub tables : asked ≡ true → Kept (s .q) (s .size) hs zs os kept
 
 -- the slots and the steps of a code's walk
 abbrev pub slots-of : Shape → List ℕ

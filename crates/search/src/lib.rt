@@ -117,7 +117,7 @@ fn cost_rows(m: u32, n: usize, row: &[i16], zs: &mut [u32], os: &mut [u32])
     }
 }
 
-// The layers' tables of a row.
+// The layers' tables of a row; those behind the columns are kept where they are asked for.
 pub fn of_row(
     shape: Shape,
     row: &[i16],
@@ -127,15 +127,16 @@ pub fn of_row(
     t: &mut [u32],
     g: &mut [u16],
     kept: &mut [i32],
+    asked: bool,
 )
     requires { ⌜ Input shape (now row) ⌝ }
     requires { ⌜ now hs ≡ columns (shape .m) (shape .r) ⌝ }
-    requires { ⌜ Buffers shape (now zs) (now os) (now t) (now g) (now kept) ⌝ }
-    ensures { λ _. ⌜ Tabled shape (now (row .entry)) (now (hs .entry)) (now (zs .exit)) (now (os .exit)) (now (t .exit)) (now (kept .exit)) ⌝ }
+    requires { ⌜ Buffers asked shape (now zs) (now os) (now t) (now g) (now kept) ⌝ }
+    ensures { λ _. ⌜ Tabled asked shape (now (row .entry)) (now (hs .entry)) (now (zs .exit)) (now (os .exit)) (now (t .exit)) (now (kept .exit)) ⌝ }
     ensures { λ _. ⌜ length (now (kept .exit)) ≡ length (now (kept .entry)) ⌝ }
 {
     cost_rows(shape.m, shape.n, row, zs, os);
-    coset::make(t, g, kept, shape.q, shape.size, hs, zs, os);
+    coset::make(t, g, kept, shape.q, shape.size, hs, zs, os, asked);
 }
 
 // The places of the walk, and what each costs.

@@ -6,12 +6,12 @@ use Rattle.marker.proofs.excess.Statement.{statement}
 use Rattle.marker.proofs.excess.Tie as tie
 
 excess-in-requires : tie.Need-excess-in-requires
-excess-in-requires c κs = let b = c .before .before .before .before .before in let s = b .before .before .before in
-    ((s .pre .0, s .pre .1), small-rooms (s .pre .0 .input .coded) _ _ _ _ (b .before .places-of .ensures) (b .if1 .taken) refl refl refl refl)
+excess-in-requires c κs = let b = c .before .before .before .before in let s = b .before .before .before in
+    (s .pre, small-rooms (s .pre .input .coded) _ _ _ _ (b .before .places-of .ensures) (b .if1 .taken) refl refl refl refl)
 
 excess-in-requires-2 : tie.Need-excess-in-requires-2
-excess-in-requires-2 c κs = let s = c .before .before .before .before .before .before .before .before in
-    ((s .pre .0, s .pre .1), large-rooms (s .pre .0 .input .coded) _ _ _ _ refl refl refl refl)
+excess-in-requires-2 c κs = let s = c .before .before .before .before .before .before .before in
+    (s .pre, large-rooms (s .pre .input .coded) _ _ _ _ refl refl refl refl)
 
 pub excess-spec : {M : Type 1} → statement M
 excess-spec =
@@ -30,8 +30,5 @@ excess-spec =
     (λ c. search needs)
     (λ c. search needs)
     (λ c. search needs)
-    (λ c. search needs)
     excess-in-requires-2
-    (λ c. search needs)
-    (λ c. search needs)
-    )
+    (λ c. search needs))
