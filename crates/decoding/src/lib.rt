@@ -304,7 +304,27 @@ pub fn decode_accepted(
     requires { ⌜ Accepted shape (now row) (length (now word)) (length (now soft)) (length (now scratch)) ⌝ }
     ensures { λ x. ⌜ Decoded (shape .m) (is-codeword (shape .m) (shape .r)) (now (row .entry)) (now (word .exit)) x (now (soft .exit)) ⌝ }
 {
-    if search::places_of(shape) <= 400 {
+    let count = search::places_of(shape);
+    if count <= 64 {
+        if shape.size <= 16 {
+            let mut t = [search::CAP as u32; 64];
+            let mut places = [search::CAP; 64];
+            let mut f = [search::CAP; 64];
+            let mut g = [search::CAP; 64];
+            return decode_in(
+                shape,
+                row,
+                &mut t,
+                &mut places,
+                &mut f,
+                &mut g,
+                word,
+                soft,
+                scratch,
+            );
+        }
+    }
+    if count <= 400 {
         let mut t = [search::CAP as u32; 256];
         let mut places = [search::CAP; 400];
         let mut f = [search::CAP; 400];

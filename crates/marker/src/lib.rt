@@ -112,7 +112,17 @@ fn excess(shape: Shape, row: &[i16], word: &[u8]) -> u32
     requires { ⌜ Judged shape (now row) (now word) ⌝ }
     ensures { λ x. ⌜ Short (shape .m) (shape .r) (now (row .entry)) (now (word .entry)) x ⌝ }
 {
-    if search::places_of(shape) <= 400 {
+    let count = search::places_of(shape);
+    if count <= 64 {
+        if shape.size <= 16 {
+            let mut t = [search::CAP as u32; 64];
+            let mut places = [search::CAP; 64];
+            let mut f = [search::CAP; 64];
+            let mut g = [search::CAP; 64];
+            return excess_in(shape, row, &mut t, &mut places, &mut f, &mut g, word);
+        }
+    }
+    if count <= 400 {
         let mut t = [search::CAP as u32; 256];
         let mut places = [search::CAP; 400];
         let mut f = [search::CAP; 400];

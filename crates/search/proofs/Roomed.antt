@@ -1,4 +1,4 @@
--- Rooms of two sizes hold what a code needs, and the scratch is all 0.
+-- Rooms of three sizes hold what a code needs, and the scratch is all 0.
 -- Assumes nothing.
 use Rattle.basics.proofs.Kit.{_≡_, sym, ap, _∙_, List, ℕ, _*_, _^_, _≤_, arith, length, take, ℤ, pos}
 use lib.ListN.{replicate}
@@ -24,27 +24,20 @@ module _ {s : Shape} (z : Coded s) where
   pub wide : s .n * 4 ≤ 60
   wide = omega (arith, z .n-is, long-le (s .m) (z .width-is))
 
+  -- k numbers for a table, and n for places, costs and marginals, which take turns with a table
+  rooms : (t places f g : List ℕ) {n k : ℕ} → s .size * 4 ≤ k → k ≤ n → start (slots-of s) 4 ≤ n → length t ≡ k → length places ≡ n → length f ≡ n → length g ≡ n → Roomy s t places f g
+  rooms t places f g x y l a b c d = record { states-t = omega arith; count-places = omega arith; count-f = omega arith; states-g = omega arith; count-g = omega arith }
+
+  pub least-rooms : {n : ℕ} (t places f g : List ℕ) → n ≡ start (slots-of s) 4 → n ≤ 64 → s .size ≤ 16 → length t ≡ 64 → length places ≡ 64 → length f ≡ 64 → length g ≡ 64 → Roomy s t places f g
+  least-rooms t places f g e h l = rooms t places f g (omega arith) (omega arith) (omega arith)
+
   pub small-rooms : {n : ℕ} (t places f g : List ℕ) → n ≡ start (slots-of s) 4 → n ≤ 400 → length t ≡ 256 → length places ≡ 400 → length f ≡ 400 → length g ≡ 400 → Roomy s t places f g
-  small-rooms t places f g e h a b c d = let q = H.small-in (s .m) (s .r) (z .accepted-is) (omega arith) in record {
-    states-t = omega (arith, size-is);
-    count-places = omega arith;
-    count-f = omega arith;
-    states-g = omega (arith, size-is);
-    count-g = omega arith;
-  }
+  small-rooms t places f g e h = rooms t places f g (omega (arith, size-is, H.small-in (s .m) (s .r) (z .accepted-is) (omega arith))) (omega arith) (omega arith)
 
   pub large-rooms : (t places f g : List ℕ) → length t ≡ 4096 → length places ≡ 4096 → length f ≡ 4096 → length g ≡ 4096 → Roomy s t places f g
   unfolding Walks
-  large-rooms t places f g a b c d =
-      let p = walks (s .m) (s .r) (z .accepted-is) .short in
-      let q = H.states-in (s .m) (s .r) (z .accepted-is) in
-      record {
-        states-t = omega (arith, size-is);
-        count-places = omega arith;
-        count-f = omega arith;
-        states-g = omega (arith, size-is);
-        count-g = omega arith;
-      }
+  large-rooms t places f g =
+      rooms t places f g (omega (arith, size-is, H.states-in (s .m) (s .r) (z .accepted-is))) (omega arith) (omega (arith, walks (s .m) (s .r) (z .accepted-is) .short))
 
   -- the columns of the code in a longer list
   pub headed : (x : List ℕ) → take (long (s .m)) x ≡ columns (s .m) (s .r) → take (s .n) x ≡ columns (s .m) (s .r)
