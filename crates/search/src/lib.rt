@@ -182,7 +182,7 @@ fn walk_all(shape: Shape, f: &[u16], g: &mut [u16]) -> u16
 // The words of the places that take part in the least total, and whether each slot has one.
 fn agree(shape: Shape, t: &[u32], places: &[u16], g: &[u16], least: u16) -> Agreed
     requires { ⌜ Coded shape ⌝ }
-    requires { ⌜ (length (now t) ≡ shape .size * 4) × Placed (shape .m) (shape .r) (shape .size) (now places) × (length (now g) ≡ length (now places)) ⌝ }
+    requires { ⌜ Placed (shape .m) (shape .r) (shape .size) (now places) × (length (now g) ≡ length (now places)) ⌝ }
     ensures { λ r. ⌜ (r .all ≡ true → Agree (slots-of shape) (now (t .entry)) (now (places .entry)) (now (g .entry)) least (r .words)) ⌝ }
 {
     let sl = spots::slots(shape.m, shape.r);

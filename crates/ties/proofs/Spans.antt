@@ -1,67 +1,38 @@
--- The span of the words that take part, place by place.
+-- The span of the entries that take part, place by place.
 -- Assumes nothing.
-use Rattle.basics.proofs.Kit.{_≡_, refl, ap, _∙_, List, ℕ, suc, _+_, _-_, _%_, _≤_, _<_, arith, length, getD, set}
+use Rattle.basics.proofs.Kit.{_≡_, refl, ap, _∙_, List, ℕ, _+_, _-_, _%_, _≤_, _<_, arith, length, getD, set}
 use lib.ListN.{length-set}
 use lib.Seq.{getD-set-same, getD-set-other}
 use native.Mathlib.Numerals.{add-one}
 use native.Mathlib.Decide.{decLe}
-use Rattle.lanes.specs.Lanes.{lane}
+use lib.Bits.{bitAnd, bitOr, and-le-l, and-le-r, or-add-and}
 use Rattle.walk.specs.Walk.{start}
-use Rattle.ties.specs.Ties.{word-at, Agree}
-use Rattle.ties.specs.Turn.{four, Spans, Widened, Read}
+use Rattle.ties.specs.Ties.{word-at}
+use Rattle.ties.specs.Turn.{Spans, One-word}
 use Rattle.ties.proofs.Turns.{each4}
 
-module _ (t places g : List ℕ) (r : ℕ) where
-  -- one place more
-  pub spans-more : (a e low high low' high' : ℕ) → Spans t places g r a e low high → Widened r (getD g e 0) (word-at t places e) low high low' high' → Spans t places g r a (e + 1) low' high'
-  unfolding Spans
-  spans-more a e low high low' high' h m p l u q = go (decLe e p)
-    where
-      go : Dec (e ≤ p) → (low' ≤ word-at t places p) × (word-at t places p ≤ high')
-      go (yes y) =
-          let i : p ≡ e = omega arith in
-          let q' : getD g e 0 ≡ r = rw i at q in
-          rw i (m .in-low q', m .in-high q')
-      go (no y) = let s = h p l (omega arith) q in (omega (arith, m .lower), omega (arith, m .higher))
+-- one place more
+pub spans-more : (places g : List ℕ) (r a e low high x y : ℕ) → Spans places g r a e low high → (getD g e 0 ≡ r → x ≡ getD places e 0) → (getD g e 0 ≡ r → y ≡ getD places e 0) → Spans places g r a (e + 1) (bitAnd low x) (bitOr high y)
+spans-more places g r a e low high x y h ex ey p l u q = go (decLe e p)
+  where
+    go : Dec (e ≤ p) → (bitAnd low x ≤ getD places p 0) × (getD places p 0 ≤ bitOr high y)
+    go (yes s) =
+        let i : p ≡ e = omega arith in
+        let q' : getD g e 0 ≡ r = rw i at q in
+        rw i (omega (arith, and-le-r low x, ex q'), omega (arith, or-add-and high y, and-le-l high y, ey q'))
+    go (no s) = let k = h p l (omega arith) q in (omega (arith, and-le-l low x), omega (arith, or-add-and high y, and-le-r high y))
 
-  -- places that do not take part
-  pub spans-over : (a e low high : ℕ) → Spans t places g r a e low high → ((x : ℕ) → x < 16 → getD g (e + x) 0 ≡ r → ⊥) → Spans t places g r a (e + 16) low high
-  unfolding Spans
-  spans-over a e low high h none p l u q = go (decLe e p)
-    where
-      go : Dec (e ≤ p) → (low ≤ word-at t places p) × (word-at t places p ≤ high)
-      go (yes y) =
-          let i : p ≡ e + (p - e) = omega arith in
-          absurd (none (p - e) (omega arith) (rw i at q))
-      go (no y) = h p l (omega arith) q
+-- where the bounds are one, so are the entries
+pub one-word : (sl t places g : List ℕ) (r j : ℕ) {a e low high : ℕ} → a ≡ start sl j → e ≡ start sl (j + 1) → Spans places g r a e low high → low ≡ high → One-word sl t places g r j (getD t low 0 % 65536)
+one-word sl t places g r j {a} {e} {low} ea ee h q p l u m =
+    let u' : p < e = rw (ee, add-one j) u in
+    let k = h p (omega arith) u' m in
+    let i : getD places p 0 ≡ low = omega arith in
+    rw i refl
 
-  -- fewer places, and none
-  pub spans-less : (a e e' low high : ℕ) → e' ≤ e → Spans t places g r a e low high → Spans t places g r a e' low high
-  unfolding Spans
-  spans-less a e e' low high s h p l u q = h p l (omega arith) q
-
-  pub spans-none : (a low high : ℕ) → Spans t places g r a a low high
-  unfolding Spans
-  spans-none a low high p l u q = absurd (omega arith)
-
-  -- where the least word is the greatest there is one
-  pub one-word : (a e low high : ℕ) → Spans t places g r a e low high → low ≡ high → (p : ℕ) → a ≤ p → p < e → getD g p 0 ≡ r → word-at t places p ≡ low
-  unfolding Spans
-  one-word a e low high h q p l u m = let s = h p l u m in omega arith
-
-  pub four-agree : (sl : List ℕ) (l0 h0 l1 h1 l2 h2 l3 h3 : ℕ) → Spans t places g r (start sl 0) (start sl 1) l0 h0 → Spans t places g r (start sl 1) (start sl 2) l1 h1 → Spans t places g r (start sl 2) (start sl 3) l2 h2 → Spans t places g r (start sl 3) (start sl 4) l3 h3 → (l0 ≡ h0) × (l1 ≡ h1) × (l2 ≡ h2) × (l3 ≡ h3) → Agree sl t places g r (four l0 l1 l2 l3)
-  four-agree sl l0 h0 l1 h1 l2 h2 l3 h3 s0 s1 s2 s3 q j p l =
-      each4 (λ j. start sl j ≤ p → p < start sl (suc j) → getD g p 0 ≡ r → word-at t places p ≡ lane (four l0 l1 l2 l3) j) (one-word (start sl 0) (start sl 1) l0 h0 s0 (q .0) p) (one-word (start sl 1) (start sl 2) l1 h1 s1 (q .1) p) (one-word (start sl 2) (start sl 3) l2 h2 s2 (q .2) p) (one-word (start sl 3) (start sl 4) l3 h3 s3 (q .3) p) j l
-
--- every slot can be read
-pub slot-read : (sl t places g : List ℕ) → (length g ≡ length places) × (length sl ≡ 5) × (start sl 4 ≡ length places) → ((j : ℕ) → j < 4 → start sl j + 16 ≤ start sl (j + 1)) → ((p : ℕ) → p < length places → getD places p 0 < length t) → (j : ℕ) → j < 4 → (a e : ℕ) → a ≡ start sl j → e ≡ start sl (suc j) → Read t places g e × (a + 16 ≤ e)
-slot-read sl t places g q h k j l a e ea ee =
-    let h1 = h 1 (omega arith) in
-    let h2 = h 2 (omega arith) in
-    let h3 = h 3 (omega arith) in
-    let u : start sl (suc j) ≤ length places = each4 (λ j. start sl (suc j) ≤ length places) (omega arith) (omega arith) (omega arith) (omega arith) j l in
-    let v : start sl j + 16 ≤ start sl (suc j) = rw (add-one j) at (h j l) in
-    (record { numbers = omega arith; keys = omega arith; within = k }, omega arith)
+-- every slot ends within
+pub slot-ends : (sl : List ℕ) → ((j : ℕ) → j < 4 → start sl j ≤ start sl (j + 1)) → (j : ℕ) → j < 4 → start sl (j + 1) ≤ start sl 4
+slot-ends sl h = each4 (λ j. start sl (j + 1) ≤ start sl 4) (omega (arith, h 1 (omega arith), h 2 (omega arith), h 3 (omega arith))) (omega (arith, h 2 (omega arith), h 3 (omega arith))) (omega (arith, h 3 (omega arith))) (omega arith)
 
 -- words written over the first k places
 pub record Written (t before now : List ℕ) (k : ℕ) : Type 0 where

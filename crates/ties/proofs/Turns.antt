@@ -35,9 +35,6 @@ none-more P any one x h p e y l = go (decLe x y)
         rw q (p o0)
     go (no a) = h a0 y (omega arith)
 
-pub one-zero : (a b : ℕ) → _≡_ {A = ℕ} (cond (eqb a b) 1 0) 0 → a ≡ b → ⊥
-one-zero a b e h = let z : _≡_ {A = ℕ} 1 0 = rw (eq-eqb a b h) at e in omega arith
-
 -- a lane of rows that lie in f lies in every list of its length
 pub in-lane : (f : List ℕ) (i0 i1 i2 i3 : ℕ) → Rows f i0 i1 i2 i3 → (len : ℕ) → len ≡ length f → (x : ℕ) → x < 16 → Lane len i0 i1 i2 i3 x
 in-lane f i0 i1 i2 i3 r len e x l = record { in0 = omega (arith, r .in0); in1 = omega (arith, r .in1); in2 = omega (arith, r .in2); in3 = omega (arith, r .in3) }

@@ -1,10 +1,9 @@
 -- Of the tuples that cost the least, the one whose word comes first. A word of a layer is a number, position 0 its leading bit; the four of a tuple are
 -- compared symbol by symbol from position 0. Assumes nothing: these are definitions.
 use mathlib.Core.Path.{_≡_}
-use mathlib.Core.Bool.{Bool, true}
 use mathlib.Core.List.{List}
 use Prim.Native.Nat.{ℕ, zero, suc, _+_, _*_, _/_, _%_, _^_, _≤_, _<_}
-use lib.ListN.{length, getD}
+use lib.ListN.{getD}
 use Rattle.lanes.specs.Lanes.{lane, lanes}
 use Rattle.walk.specs.Walk.{sum4, start, spot, total}
 

@@ -7,7 +7,7 @@ use Prim.Native.Nat.{ℕ, zero, suc, _+_, _^_, _≤_, _<_}
 use lib.Dec.{eqb, ltb}
 use lib.ListN.{length, getD}
 use lib.Bits.{bitXor}
-use Rattle.walk.specs.Walk.{step, changed-bit}
+use Rattle.walk.specs.Walk.{start, step, changed-bit}
 use Rattle.ties.specs.Ties.{number-of, word-at}
 
 abbrev pub four : (a b c d : ℕ) → List ℕ
@@ -51,22 +51,13 @@ None-costs f i0 i1 i2 i3 r = (x : ℕ) → x < 16 → cost-at f i0 i1 i2 i3 x �
 abbrev pub Before-all : (f w : List ℕ) → (i0 i1 i2 i3 r : ℕ) → (b : List ℕ) → Type 0
 Before-all f w i0 i1 i2 i3 r b = (x : ℕ) → x < 16 → cost-at f i0 i1 i2 i3 x ≡ r → number-of b < number-of (words-at w i0 i1 i2 i3 x)
 
--- THE SPAN of the words of those places from a to e whose number in g is r
-unfoldable pub Spans : (t places g : List ℕ) → (r a e low high : ℕ) → Type 0
-Spans t places g r a e low high = (p : ℕ) → a ≤ p → p < e → getD g p 0 ≡ r → (low ≤ word-at t places p) × (word-at t places p ≤ high)
+-- THE SPAN of the entries of those places from a to e whose number in g is r
+abbrev pub Spans : (places g : List ℕ) → (r a e low high : ℕ) → Type 0
+Spans places g r a e low high = (p : ℕ) → a ≤ p → p < e → getD g p 0 ≡ r → (low ≤ getD places p 0) × (getD places p 0 ≤ high)
 
--- one more word, which counts where x is r
-pub record Widened (r x v low high low' high' : ℕ) : Type 0 where
-  pub lower : low' ≤ low
-  pub higher : high ≤ high'
-  pub in-low : x ≡ r → low' ≤ v
-  pub in-high : x ≡ r → v ≤ high'
-
--- the tables that the agreement reads
-pub record Read (t places g : List ℕ) (e : ℕ) : Type 0 where
-  pub numbers : e ≤ length g
-  pub keys : e ≤ length places
-  pub within : (p : ℕ) → p < length places → getD places p 0 < length t
+-- those places of slot j have one word
+abbrev pub One-word : (sl t places g : List ℕ) → (r j w : ℕ) → Type 0
+One-word sl t places g r j w = (p : ℕ) → start sl j ≤ p → p < start sl (suc j) → getD g p 0 ≡ r → word-at t places p ≡ w
 
 -- the places after turn k's step; turn 0 has none
 abbrev pub moved : (st : List ℕ) → (k i j : ℕ) → ℕ

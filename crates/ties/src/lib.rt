@@ -1,33 +1,19 @@
 // Of the tuples that cost the least, the one whose word comes first: where the words of all places that take part agree, these; else a second walk.
 // Its functions are for the crates above; their promises cite specs/Ties.antt.
 ghost use mathlib.Core.Path.{_≡_};
-ghost use mathlib.Core.Bool.{true, cond};
+ghost use mathlib.Core.Bool.{true};
 ghost use Prim.Native.Nat.{ℕ, _+_, _*_, _%_, _^_, _<_, _≤_};
-ghost use lib.Dec.{eqb, ltb};
+ghost use lib.Dec.{ltb};
 ghost use lib.ListN.{length, getD};
 ghost use Rattle.walk.specs.Walk.{start, step, changed-bit, Slots};
 ghost use Rattle.ties.specs.Ties.{number-of, Costs, First-tied, word-at, Agree};
-ghost use Rattle.ties.specs.Turn.{four, cost-at, words-at, Lane, Rows, earlier, meet, None-costs, Before-all, Spans, Widened, Read, Moved};
+ghost use Rattle.ties.specs.Turn.{four, cost-at, words-at, Lane, Rows, earlier, meet, None-costs, Before-all, Spans, One-word, Moved};
 
-// 1 where two numbers are the same.
-fn one_if(a: u16, b: u16) -> u16
-    ensures { λ r. ⌜ r ≡ cond (eqb a b) 1 0 ⌝ }
+// v where two numbers are the same, else another.
+fn value_if(a: u16, b: u16, v: u16, other: u16) -> u16
+    ensures { λ r. ⌜ (a ≡ b → r ≡ v) ⌝ }
 {
-    if a == b { 1 } else { 0 }
-}
-
-// Not 0 where one of sixteen numbers is the least.
-fn any_of(g: &[u16], p: usize, least: u16) -> u16
-    requires { ⌜ p + 16 ≤ length (now g) ⌝ }
-    ensures { λ r. ⌜ (r ≡ 0 → (x : ℕ) → x < 16 → getD (now (g .entry)) (p + x) 0 ≡ least → ⊥) ⌝ }
-{
-    let mut any = 0;
-    let mut x = 0;
-    while x < 16 {
-        any |= one_if(g[p + x], least);
-        x += 1;
-    }
-    any
+    if a == b { v } else { other }
 }
 
 // The word of place p: the last 16 bits of its key.
@@ -40,84 +26,29 @@ fn word_of(t: &[u32], places: &[u16], p: usize) -> u16
     (t[k] % 65536) as u16
 }
 
-// The least and the greatest of some words.
+// The bits that all of some entries have, and those that any has: every entry lies between.
 pub struct Span {
     pub low: u16,
     pub high: u16,
 }
 
-// The greater of two words.
-fn greater_of(a: u16, b: u16) -> u16
-    ensures { λ r. ⌜ (a ≤ r) × (b ≤ r) ⌝ }
+// The span of the entries of those places from a to e whose number is the least. Each place is treated alike, so that the loop becomes one of vector
+// instructions.
+fn slot_span(g: &[u16], places: &[u16], a: usize, e: usize, least: u16) -> Span
+    requires { ⌜ (e ≤ length (now g)) × (e ≤ length (now places)) ⌝ }
+    ensures { λ r. ⌜ Spans (now (places .entry)) (now (g .entry)) least a e (r .low) (r .high) ⌝ }
 {
-    if a <= b { b } else { a }
-}
-
-// A span with one word more.
-fn widened(s: Span, v: u16) -> Span
-    ensures { λ r. ⌜ Widened v v v (s .low) (s .high) (r .low) (r .high) ⌝ }
-{
-    Span {
-        low: lanes::less_of(s.low, v),
-        high: greater_of(s.high, v),
+    let mut low = 65535;
+    let mut high = 0;
+    let mut p = a;
+    while p < e {
+        let x = g[p];
+        let v = places[p];
+        low &= value_if(x, least, v, 65535);
+        high |= value_if(x, least, v, 0);
+        p += 1;
     }
-}
-
-// A span with the word of place p, where its number is the least; most are not, and their words are not read.
-fn place_span(g: &[u16], t: &[u32], places: &[u16], p: usize, least: u16, s: Span) -> Span
-    requires { ⌜ Read (now t) (now places) (now g) (p + 1) ⌝ }
-    ensures { λ r. ⌜ Widened least (getD (now (g .entry)) p 0) (word-at (now (t .entry)) (now (places .entry)) p) (s .low) (s .high) (r .low) (r .high) ⌝ }
-{
-    if g[p] != least {
-        return s;
-    }
-    widened(s, word_of(t, places, p))
-}
-
-// The span with the sixteen places from p on; most rows have none that takes part.
-fn row_span(g: &[u16], t: &[u32], places: &[u16], p: usize, least: u16, s: Span) -> Span
-    requires { ⌜ Read (now t) (now places) (now g) (p + 16) ⌝ }
-    ensures { λ r. ⌜ ((a : ℕ) → Spans (now (t .entry)) (now (places .entry)) (now (g .entry)) least a p (s .low) (s .high) → Spans (now (t .entry)) (now (places .entry)) (now (g .entry)) least a (p + 16) (r .low) (r .high)) ⌝ }
-{
-    if any_of(g, p, least) == 0 {
-        return s;
-    }
-    let mut r = s;
-    let mut x = 0;
-    while x < 16 {
-        let m = place_span(g, t, places, p + x, least, r);
-        r = m;
-        x += 1;
-    }
-    r
-}
-
-// Where the row that begins at k begins if it is not to reach past e.
-fn row_before(k: usize, e: usize) -> usize
-    requires { ⌜ 16 ≤ e ⌝ }
-    ensures { λ r. ⌜ (r ≤ k) × (r + 16 ≤ e) × (k < e → k < r + 16) ⌝ }
-{
-    if k <= e - 16 { k } else { e - 16 }
-}
-
-// The span of a slot, from place a to place e.
-fn slot_span(g: &[u16], t: &[u32], places: &[u16], a: usize, e: usize, least: u16) -> Span
-    requires { ⌜ Read (now t) (now places) (now g) e ⌝ }
-    requires { ⌜ a + 16 ≤ e ⌝ }
-    ensures { λ r. ⌜ Spans (now (t .entry)) (now (places .entry)) (now (g .entry)) least a e (r .low) (r .high) ⌝ }
-{
-    let mut s = Span {
-        low: 65535,
-        high: 0,
-    };
-    let mut k = a;
-    while k < e {
-        let p = row_before(k, e);
-        let m = row_span(g, t, places, p, least, s);
-        s = m;
-        k = p + 16;
-    }
-    s
+    Span { low, high }
 }
 
 // Where slot j begins.
@@ -128,57 +59,62 @@ fn place_of(sl: &[u16], j: usize) -> usize
     sl[j] as usize
 }
 
+// A word, and whether it is the one that takes part.
+pub struct Slot {
+    pub word: u16,
+    pub one: bool,
+}
+
+// The word of slot j: where the span is one number, all places that take part have one entry, and its word is read once.
+fn slot_word(g: &[u16], t: &[u32], places: &[u16], sl: &[u16], j: usize, least: u16) -> Slot
+    requires { ⌜ (length (now g) ≡ length (now places)) × (length (now sl) ≡ 5) × (start (now sl) 4 ≡ length (now places)) ⌝ }
+    requires { ⌜ ((j : ℕ) → j < 4 → start (now sl) j ≤ start (now sl) (j + 1)) ⌝ }
+    requires { ⌜ j < 4 ⌝ }
+    ensures { λ r. ⌜ (r .one ≡ true → One-word (now (sl .entry)) (now (t .entry)) (now (places .entry)) (now (g .entry)) least j (r .word)) ⌝ }
+{
+    let s = slot_span(g, places, place_of(sl, j), place_of(sl, j + 1), least);
+    let k = s.low as usize;
+    if s.low == s.high {
+        if k < t.len() {
+            return Slot {
+                word: (t[k] % 65536) as u16,
+                one: true,
+            };
+        }
+    }
+    Slot {
+        word: 0,
+        one: false,
+    }
+}
+
+// Whether both of two are true.
+fn both(a: bool, b: bool) -> bool
+    ensures { λ r. ⌜ (r ≡ true → (a ≡ true) × (b ≡ true)) ⌝ }
+{
+    if a { b } else { false }
+}
+
 // Four words, and whether they are all that take part.
 pub struct Agreed {
     pub words: [u16; 4],
     pub all: bool,
 }
 
-// The words of four spans, where each has one.
-fn one_each(s0: Span, s1: Span, s2: Span, s3: Span) -> Agreed
-    ensures { λ r. ⌜ r .words ≡ four (s0 .low) (s1 .low) (s2 .low) (s3 .low) ⌝ }
-    ensures { λ r. ⌜ (r .all ≡ true → (s0 .low ≡ s0 .high) × (s1 .low ≡ s1 .high) × (s2 .low ≡ s2 .high) × (s3 .low ≡ s3 .high)) ⌝ }
-{
-    let words = [s0.low, s1.low, s2.low, s3.low];
-    if s0.low != s0.high {
-        return Agreed {
-            words: words,
-            all: false,
-        };
-    }
-    if s1.low != s1.high {
-        return Agreed {
-            words: words,
-            all: false,
-        };
-    }
-    if s2.low != s2.high {
-        return Agreed {
-            words: words,
-            all: false,
-        };
-    }
-    Agreed {
-        words: words,
-        all: s3.low == s3.high,
-    }
-}
-
 // The words of the places whose number in g is the least, where each slot has one.
 pub fn agree(g: &[u16], t: &[u32], places: &[u16], sl: &[u16], least: u16) -> Agreed
     requires { ⌜ (length (now g) ≡ length (now places)) × (length (now sl) ≡ 5) × (start (now sl) 4 ≡ length (now places)) ⌝ }
-    requires { ⌜ ((j : ℕ) → j < 4 → start (now sl) j + 16 ≤ start (now sl) (j + 1)) ⌝ }
-    requires { ⌜ ((p : ℕ) → p < length (now places) → getD (now places) p 0 < length (now t)) ⌝ }
+    requires { ⌜ ((j : ℕ) → j < 4 → start (now sl) j ≤ start (now sl) (j + 1)) ⌝ }
     ensures { λ r. ⌜ (r .all ≡ true → Agree (now (sl .entry)) (now (t .entry)) (now (places .entry)) (now (g .entry)) least (r .words)) ⌝ }
 {
-    let b1 = place_of(sl, 1);
-    let b2 = place_of(sl, 2);
-    let b3 = place_of(sl, 3);
-    let s0 = slot_span(g, t, places, place_of(sl, 0), b1, least);
-    let s1 = slot_span(g, t, places, b1, b2, least);
-    let s2 = slot_span(g, t, places, b2, b3, least);
-    let s3 = slot_span(g, t, places, b3, place_of(sl, 4), least);
-    one_each(s0, s1, s2, s3)
+    let s0 = slot_word(g, t, places, sl, 0, least);
+    let s1 = slot_word(g, t, places, sl, 1, least);
+    let s2 = slot_word(g, t, places, sl, 2, least);
+    let s3 = slot_word(g, t, places, sl, 3, least);
+    Agreed {
+        words: [s0.word, s1.word, s2.word, s3.word],
+        all: both(both(s0.one, s1.one), both(s2.one, s3.one)),
+    }
 }
 
 // The word of each place, in place of where its key stands.
@@ -256,7 +192,7 @@ fn any_costs(f: &[u16], a: At, least: u16) -> u16
     let mut any = 0;
     let mut x = 0;
     while x < 16 {
-        any |= one_if(cost_of(f, a, x), least);
+        any |= value_if(cost_of(f, a, x), least, 1, 0);
         x += 1;
     }
     any
@@ -278,7 +214,7 @@ fn counts(f: &[u16], w: &[u16], a: At, x: usize, least: u16, b: [u16; 4]) -> u16
     if comes_before(b[0], b[1], b[2], b[3], v0, v1, v2, v3) {
         0
     } else {
-        one_if(t, least)
+        value_if(t, least, 1, 0)
     }
 }
 

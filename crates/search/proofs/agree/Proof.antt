@@ -18,7 +18,7 @@ slice-aggregate-agree : tie.Need-slice-aggregate-agree
 slice-aggregate-agree c = search needs
 
 agree-requires : tie.Need-agree-requires
-agree-requires c κs = let s = c .before .before .before .before .before in let e = c .before .slots .ensures in rw e ((s .pre .1 .2, w (s .pre .0) .slots-long, sym (s .pre .1 .1 .long)), ((λ j lj. rw add-one (apart (s .pre .0) j lj)), λ p h. omega (arith, s .pre .1 .1 .inside p h, s .pre .1 .0)))
+agree-requires c κs = let s = c .before .before .before .before .before in let e = c .before .slots .ensures in rw e ((s .pre .1 .1, w (s .pre .0) .slots-long, sym (s .pre .1 .0 .long)), λ j lj. rw add-one (omega (arith, apart (s .pre .0) j lj)))
 
 returns : tie.Need-returns
 returns c = rw (c .before .before .slots .ensures) at (c .agree .ensures)

@@ -1,8 +1,8 @@
 -- `ties::any_costs` meets its contract.
 -- Assumes nothing.
-use Rattle.basics.proofs.Kit.{_≡_, _∙_, sym, refl, ℕ, _-_, _≤_, _<_, arith, needs}
+use Rattle.basics.proofs.Kit.{_≡_, _∙_, refl, ℕ, _-_, _≤_, _<_, arith, needs}
 use Rattle.ties.specs.Turn.{cost-at}
-use Rattle.ties.proofs.Turns.{none-more, one-zero, in-lane}
+use Rattle.ties.proofs.Turns.{none-more, in-lane}
 use Rattle.ties.proofs.any_costs.Statement.{statement}
 use Rattle.ties.proofs.any_costs.Tie as tie
 
@@ -22,7 +22,7 @@ loop-again : tie.Need-loop-again Inv-loop μ-loop
 loop-again c = let a = c .before .before .before .before .before .args in
     let t = c .before .before .before .loop in
     let cost : ℕ → ℕ = λ y. cost-at (a .f .now) (a .a .i0) (a .a .i1) (a .a .i2) (a .a .i3) y in
-    (omega arith, none-more (λ y. cost y ≡ a .least → ⊥) (t .any) (c .one-if .result) (t .x) (t .inv .1) (λ z e. one-zero (c .before .cost-of .result) (a .least) (sym (c .one-if .ensures) ∙ z) (c .before .cost-of .ensures ∙ e)))
+    (omega arith, none-more (λ y. cost y ≡ a .least → ⊥) (t .any) (c .value-if .result) (t .x) (t .inv .1) (λ z e. omega (arith, c .value-if .ensures (c .before .cost-of .ensures ∙ e))))
 
 pub any-costs-spec : {M : Type 1} → statement M
 any-costs-spec =

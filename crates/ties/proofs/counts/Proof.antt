@@ -1,10 +1,10 @@
 -- `ties::counts` meets its contract.
 -- Assumes nothing.
-use Rattle.basics.proofs.Kit.{_≡_, sym, ap, ap₂, _∙_, ltb, needs}
+use Rattle.basics.proofs.Kit.{_≡_, sym, ap, ap₂, _∙_, arith, ltb, needs}
 use borrow.Author.Tests.{ltb-true}
 use Rattle.ties.specs.Ties.{number-of}
 use Rattle.ties.specs.Turn.{four, words-at}
-use Rattle.ties.proofs.Turns.{one-by-one, one-zero}
+use Rattle.ties.proofs.Turns.{one-by-one}
 use Rattle.ties.proofs.counts.Statement.{statement}
 use Rattle.ties.proofs.counts.Tie as tie
 
@@ -17,7 +17,7 @@ returns c = let p = c .before .before .before in
     λ _ _. ltb-true _ _ (sym h ∙ c .if1 .taken)
 
 returns-2 : tie.Need-returns-2
-returns-2 c z e = absurd (one-zero (c .before .before .before .cost-of .result) _ (sym (c .one-if .ensures) ∙ z) (c .before .before .before .cost-of .ensures ∙ e))
+returns-2 c z e = omega (arith, c .value-if .ensures (c .before .before .before .cost-of .ensures ∙ e))
 
 pub counts-spec : {M : Type 1} → statement M
 counts-spec =

@@ -1,8 +1,0 @@
--- `ties::one_if` meets its contract.
--- Assumes nothing.
-use borrow.Author.Tests.{eq-eqb, ne-eqb}
-use Rattle.ties.proofs.one_if.Statement.{statement}
-use Rattle.ties.proofs.one_if.Tie as tie
-
-pub one-if-spec : {M : Type 1} → statement M
-one-if-spec = tie.close (tie.spec (λ c. rw (eq-eqb _ _ (c .if1 .taken))) (λ c. rw (ne-eqb _ _ (c .if1 .left))))
