@@ -21,10 +21,6 @@ powers a b l = pow-le-pow-right (zero-lt-suc 1) l
 pub power-some : (e : ℕ) → 0 < 2 ^ e
 power-some e = omega (arith, powers 0 e (omega arith))
 
-pub record Power (r : ℕ) : Type 0 where
-  pub e : ℕ
-  pub is : r ≡ 2 ^ e
-
 -- a column leads from row to row
 pub over : (q size h : ℕ) → size ≡ 2 ^ q → h < size → (v : ℕ) → v < size → xor v h < size
 over q size h e i v b = omega (arith, X.below q v h (omega arith) (omega arith))

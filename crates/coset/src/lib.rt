@@ -45,14 +45,10 @@ fn run(t: &mut [u32], size: usize, from: usize, to: usize, h: usize, z: [u32; 4]
 
 // The highest bit of h.
 pub fn top_of(h: usize) -> usize
-    requires { ⌜ (0 < h) × (h < 2 ^ 63) ⌝ }
+    requires { ⌜ 0 < h ⌝ }
     ensures { λ r. ⌜ Top h r ⌝ }
 {
-    let mut r = 1;
-    while r + r <= h {
-        r += r;
-    }
-    r
+    1usize << (63 - usize::leading_zeros(h))
 }
 
 // One column more, in place: rows s and s ^ h together, for each s in which the highest bit of h is 0. Of each block of two runs the first leads up,

@@ -21,7 +21,7 @@ room : (c : In) → c .before .loop .base + (c .before .before .top-of .result +
 room c = block-fits (st c .pre) (c .before .before .top-of .ensures) (c .before .loop .inv) (c .loop-test .taken)
 
 top-of-requires : tie.Need-top-of-requires Inv-loop μ-loop
-top-of-requires c κs = let d = c .before in let p = d .pre in (p .some, omega (arith, p .inside, p .long, d .good))
+top-of-requires c κs = c .before .pre .some
 
 add-run : tie.Need-add-run Inv-loop μ-loop
 add-run c = let d = c .before in omega (arith, room d, st d .fits .size)

@@ -28,7 +28,7 @@ after : (c : In) → Next (top c .e) (st c .args .h) (st c .args .size) (c .befo
 after c = next (st c .pre) (top c) (c .before .loop .inv (top c) .place) (c .loop-test .taken)
 
 top-of-requires : tie.Need-top-of-requires Inv-loop μ-loop
-top-of-requires c κs = let p = c .before .before .pre in (p .some, omega (arith, p .inside, p .length-a))
+top-of-requires c κs = c .before .before .pre .some
 
 loop-holds : tie.Need-loop-holds Inv-loop μ-loop
 loop-holds c k = let a = c .before .before .before .args in
