@@ -3,11 +3,12 @@
 use Rattle.basics.proofs.Kit.{_≡_, refl, ap, Bool, true, false, List, ℕ, zero, suc, _+_, _*_, _≤_, _<_, arith, eqb}
 use native.Mathlib.Decide.{decLe}
 use borrow.Author.Tests.{eqb-true, eqb-false}
-use Rattle.walk.specs.Walk.{total, Slots}
+use Rattle.walk.specs.Walk.{total}
+use Rattle.walk.proofs.Turns.{Standing, total-at}
 use Rattle.ties.specs.Ties.{number-of, words, Costs, First-tied}
 use Rattle.ties.specs.Turn.{earlier, meet}
 use Rattle.ties.proofs.Symbols.{last, last-greatest}
-use Rattle.ties.proofs.Turns.{keep, take-this, Places, lane-total, lane-words}
+use Rattle.ties.proofs.Turns.{keep, take-this, lane-words}
 
 -- no tuple so far costs r, or b is the words of one that does
 pub data Met (n : ℕ) (f sl st w : List ℕ) (r i : ℕ) (b : List ℕ) : Type 0 where
@@ -18,7 +19,7 @@ pub record Tied (n : ℕ) (f sl st w : List ℕ) (r i : ℕ) (b : List ℕ) : Ty
   pub met : Met n f sl st w r i b
   pub first : (y : ℕ) → y < i → total f sl st y ≡ r → number-of b ≤ number-of (words w sl st y)
 
-module _ (n : ℕ) (f sl st w : List ℕ) (r : ℕ) where
+module _ {n : ℕ} {f sl st w : List ℕ} {r : ℕ} where
   pub tied-start : (b : List ℕ) → b ≡ last → Tied n f sl st w r 0 b
   tied-start b e = record { met = none (λ y l. absurd (omega arith)) e; first = λ y l. absurd (omega arith) }
 
@@ -61,24 +62,24 @@ module _ (n : ℕ) (f sl st w : List ℕ) (r : ℕ) where
             rw (keep r (total f sl st i) (words w sl st i) b (λ _. g)) (behind g)
 
   -- a turn
-  module _ (z : Slots n f sl st) (k i0 i1 i2 i3 : ℕ) (p : Places sl st k i0 i1 i2 i3) (l : k < n) (b : List ℕ) (t : Tied n f sl st w r (k * 16) b) where
-    lanes-met : (x : ℕ) → x ≤ 16 → Tied n f sl st w r (k * 16 + x) (meet f w i0 i1 i2 i3 r b x)
+  module _ {k : ℕ} {a b : List ℕ} (s : Standing sl st k a) (l : k < n) (t : Tied n f sl st w r (k * 16) b) where
+    lanes-met : (x : ℕ) → x ≤ 16 → Tied n f sl st w r (k * 16 + x) (meet f w a r b x)
     unfolding meet
     lanes-met zero u =
         let e : k * 16 + 0 ≡ k * 16 = omega arith in
         rw e t
     lanes-met (suc x) u =
-        let h = tied-more (k * 16 + x) (meet f w i0 i1 i2 i3 r b x) (lanes-met x (omega arith)) (omega arith) in
+        let h = tied-more (k * 16 + x) (meet f w a r b x) (lanes-met x (omega arith)) (omega arith) in
         let e : k * 16 + suc x ≡ k * 16 + x + 1 = omega arith in
-        rw e (rw (lane-total n f sl st z k i0 i1 i2 i3 p x (omega arith), lane-words n f sl st z k i0 i1 i2 i3 p w x (omega arith)) at h)
+        rw e (rw (← total-at sl st k x (omega arith) f a s, lane-words s w x (omega arith)) at h)
 
-    pub tied-turn : (m : List ℕ) → m ≡ meet f w i0 i1 i2 i3 r b 16 → Tied n f sl st w r ((k + 1) * 16) m
+    pub tied-turn : (m : List ℕ) → m ≡ meet f w a r b 16 → Tied n f sl st w r ((k + 1) * 16) m
     tied-turn m e =
         let q : (k + 1) * 16 ≡ k * 16 + 16 = omega arith in
         rw (q, e) (lanes-met 16 (omega arith))
 
-  pub tied-end : (b : List ℕ) → Tied n f sl st w r (n * 16) b → (i : ℕ) × Costs n f sl st r i → First-tied n f sl st w r b
-  tied-end b t c = record { found = go (t .met); first = λ i h. t .first i (h .0) (h .1) }
+  pub tied-end : {b : List ℕ} → Tied n f sl st w r (n * 16) b → (i : ℕ) × Costs n f sl st r i → First-tied n f sl st w r b
+  tied-end {b} t c = record { found = go (t .met); first = λ i h. t .first i (h .0) (h .1) }
     where
       go : Met n f sl st w r (n * 16) b → (i : ℕ) × Costs n f sl st r i × (b ≡ words w sl st i)
       go (none a e) = absurd (a (c .0) (c .1 .0) (c .1 .1))

@@ -1,6 +1,6 @@
 -- The span of the entries that take part, place by place.
 -- Assumes nothing.
-use Rattle.basics.proofs.Kit.{_≡_, refl, ap, _∙_, List, ℕ, _+_, _-_, _%_, _≤_, _<_, arith, length, getD, set}
+use Rattle.basics.proofs.Kit.{_≡_, refl, ap, _∙_, List, ℕ, _+_, _%_, _≤_, _<_, arith, length, getD, set}
 use lib.ListN.{length-set}
 use lib.Seq.{getD-set-same, getD-set-other}
 use native.Mathlib.Numerals.{add-one}

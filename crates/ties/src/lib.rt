@@ -2,12 +2,14 @@
 // Its functions are for the crates above; their promises cite specs/Ties.antt.
 ghost use mathlib.Core.Path.{_≡_};
 ghost use mathlib.Core.Bool.{true};
-ghost use Prim.Native.Nat.{ℕ, _+_, _*_, _%_, _^_, _<_, _≤_};
+ghost use Prim.Native.Nat.{ℕ, _+_, _<_, _≤_};
 ghost use lib.Dec.{ltb};
 ghost use lib.ListN.{length, getD};
-ghost use Rattle.walk.specs.Walk.{start, step, changed-bit, Slots};
+ghost use Rattle.lanes.specs.Lanes.{limit};
+ghost use Rattle.walk.specs.Walk.{start, Slots};
+ghost use Rattle.walk.specs.Turns.{row-sum};
 ghost use Rattle.ties.specs.Ties.{number-of, Costs, First-tied, word-at, Agree};
-ghost use Rattle.ties.specs.Turn.{four, cost-at, words-at, Lane, Rows, earlier, meet, None-costs, Before-all, Spans, One-word, Moved};
+ghost use Rattle.ties.specs.Turn.{four, words-at, Inside, Rows, earlier, meet, None-costs, Before-all, Spans, One-word};
 
 // v where two numbers are the same, else another.
 fn value_if(a: u16, b: u16, v: u16, other: u16) -> u16
@@ -146,14 +148,6 @@ fn comes_before(w0: u16, w1: u16, w2: u16, w3: u16, v0: u16, v1: u16, v2: u16, v
     more < less
 }
 
-// Where the walk stands: the place of each slot's row.
-pub struct At {
-    pub i0: usize,
-    pub i1: usize,
-    pub i2: usize,
-    pub i3: usize,
-}
-
 // What is in lane x of the row at p.
 fn lane_at(f: &[u16], p: usize, x: usize) -> u16
     requires { ⌜ p + x < length (now f) ⌝ }
@@ -163,31 +157,31 @@ fn lane_at(f: &[u16], p: usize, x: usize) -> u16
 }
 
 // What lane x costs.
-fn cost_of(f: &[u16], a: At, x: usize) -> u16
-    requires { ⌜ Lane (length (now f)) (a .i0) (a .i1) (a .i2) (a .i3) x ⌝ }
-    requires { ⌜ cost-at (now f) (a .i0) (a .i1) (a .i2) (a .i3) x < 2 ^ 15 ⌝ }
-    ensures { λ r. ⌜ r ≡ cost-at (now (f .entry)) (a .i0) (a .i1) (a .i2) (a .i3) x ⌝ }
+fn cost_of(f: &[u16], a: [usize; 4], x: usize) -> u16
+    requires { ⌜ Inside (length (now f)) a × (x < 16) ⌝ }
+    requires { ⌜ row-sum (now f) a x < limit ⌝ }
+    ensures { λ r. ⌜ r ≡ row-sum (now (f .entry)) a x ⌝ }
 {
-    lane_at(f, a.i0, x) + lane_at(f, a.i1, x) + lane_at(f, a.i2, x) + lane_at(f, a.i3, x)
+    lane_at(f, a[0], x) + lane_at(f, a[1], x) + lane_at(f, a[2], x) + lane_at(f, a[3], x)
 }
 
 // The words of lane x.
-fn words_of(w: &[u16], a: At, x: usize) -> [u16; 4]
-    requires { ⌜ Lane (length (now w)) (a .i0) (a .i1) (a .i2) (a .i3) x ⌝ }
-    ensures { λ r. ⌜ r ≡ words-at (now (w .entry)) (a .i0) (a .i1) (a .i2) (a .i3) x ⌝ }
+fn words_of(w: &[u16], a: [usize; 4], x: usize) -> [u16; 4]
+    requires { ⌜ Inside (length (now w)) a × (x < 16) ⌝ }
+    ensures { λ r. ⌜ r ≡ words-at (now (w .entry)) a x ⌝ }
 {
     [
-        lane_at(w, a.i0, x),
-        lane_at(w, a.i1, x),
-        lane_at(w, a.i2, x),
-        lane_at(w, a.i3, x),
+        lane_at(w, a[0], x),
+        lane_at(w, a[1], x),
+        lane_at(w, a[2], x),
+        lane_at(w, a[3], x),
     ]
 }
 
 // Not 0 where a lane costs the least.
-fn any_costs(f: &[u16], a: At, least: u16) -> u16
-    requires { ⌜ Rows (now f) (a .i0) (a .i1) (a .i2) (a .i3) ⌝ }
-    ensures { λ r. ⌜ (r ≡ 0 → None-costs (now (f .entry)) (a .i0) (a .i1) (a .i2) (a .i3) least) ⌝ }
+fn any_costs(f: &[u16], a: [usize; 4], least: u16) -> u16
+    requires { ⌜ Rows (now f) a ⌝ }
+    ensures { λ r. ⌜ (r ≡ 0 → None-costs (now (f .entry)) a least 16) ⌝ }
 {
     let mut any = 0;
     let mut x = 0;
@@ -200,16 +194,16 @@ fn any_costs(f: &[u16], a: At, least: u16) -> u16
 
 // Not 0 where lane x costs the least and b does not come before it. Its words are taken one by one, so that the loop over the lanes becomes one of
 // vector instructions.
-fn counts(f: &[u16], w: &[u16], a: At, x: usize, least: u16, b: [u16; 4]) -> u16
-    requires { ⌜ Lane (length (now f)) (a .i0) (a .i1) (a .i2) (a .i3) x ⌝ }
+fn counts(f: &[u16], w: &[u16], a: [usize; 4], x: usize, least: u16, b: [u16; 4]) -> u16
+    requires { ⌜ Inside (length (now f)) a × (x < 16) ⌝ }
     requires { ⌜ length (now w) ≡ length (now f) ⌝ }
-    requires { ⌜ cost-at (now f) (a .i0) (a .i1) (a .i2) (a .i3) x < 2 ^ 15 ⌝ }
-    ensures { λ r. ⌜ (r ≡ 0 → cost-at (now (f .entry)) (a .i0) (a .i1) (a .i2) (a .i3) x ≡ least → number-of b < number-of (words-at (now (w .entry)) (a .i0) (a .i1) (a .i2) (a .i3) x)) ⌝ }
+    requires { ⌜ row-sum (now f) a x < limit ⌝ }
+    ensures { λ r. ⌜ (r ≡ 0 → row-sum (now (f .entry)) a x ≡ least → number-of b < number-of (words-at (now (w .entry)) a x)) ⌝ }
 {
-    let v0 = lane_at(w, a.i0, x);
-    let v1 = lane_at(w, a.i1, x);
-    let v2 = lane_at(w, a.i2, x);
-    let v3 = lane_at(w, a.i3, x);
+    let v0 = lane_at(w, a[0], x);
+    let v1 = lane_at(w, a[1], x);
+    let v2 = lane_at(w, a[2], x);
+    let v3 = lane_at(w, a[3], x);
     let t = cost_of(f, a, x);
     if comes_before(b[0], b[1], b[2], b[3], v0, v1, v2, v3) {
         0
@@ -219,10 +213,10 @@ fn counts(f: &[u16], w: &[u16], a: At, x: usize, least: u16, b: [u16; 4]) -> u16
 }
 
 // Not 0 where a lane costs the least and b does not come before it.
-fn any_counts(f: &[u16], w: &[u16], a: At, least: u16, b: [u16; 4]) -> u16
-    requires { ⌜ Rows (now f) (a .i0) (a .i1) (a .i2) (a .i3) ⌝ }
+fn any_counts(f: &[u16], w: &[u16], a: [usize; 4], least: u16, b: [u16; 4]) -> u16
+    requires { ⌜ Rows (now f) a ⌝ }
     requires { ⌜ length (now w) ≡ length (now f) ⌝ }
-    ensures { λ r. ⌜ (r ≡ 0 → Before-all (now (f .entry)) (now (w .entry)) (a .i0) (a .i1) (a .i2) (a .i3) least b) ⌝ }
+    ensures { λ r. ⌜ (r ≡ 0 → Before-all (now (f .entry)) (now (w .entry)) a least b 16) ⌝ }
 {
     let mut any = 0;
     let mut x = 0;
@@ -247,10 +241,10 @@ fn earlier_of(least: u16, t: u16, v: [u16; 4], b: [u16; 4]) -> [u16; 4]
 }
 
 // What the sixteen lanes leave of b, one after another.
-fn meet_lanes(f: &[u16], w: &[u16], a: At, least: u16, b: [u16; 4]) -> [u16; 4]
-    requires { ⌜ Rows (now f) (a .i0) (a .i1) (a .i2) (a .i3) ⌝ }
+fn meet_lanes(f: &[u16], w: &[u16], a: [usize; 4], least: u16, b: [u16; 4]) -> [u16; 4]
+    requires { ⌜ Rows (now f) a ⌝ }
     requires { ⌜ length (now w) ≡ length (now f) ⌝ }
-    ensures { λ r. ⌜ r ≡ meet (now (f .entry)) (now (w .entry)) (a .i0) (a .i1) (a .i2) (a .i3) least b 16 ⌝ }
+    ensures { λ r. ⌜ r ≡ meet (now (f .entry)) (now (w .entry)) a least b 16 ⌝ }
 {
     let mut r = b;
     let mut x = 0;
@@ -264,10 +258,10 @@ fn meet_lanes(f: &[u16], w: &[u16], a: At, least: u16, b: [u16; 4]) -> [u16; 4]
 }
 
 // One turn. Most have no lane that costs the least; and where many do, most have none that comes before what is found.
-fn meet_turn(f: &[u16], w: &[u16], a: At, least: u16, b: [u16; 4]) -> [u16; 4]
-    requires { ⌜ Rows (now f) (a .i0) (a .i1) (a .i2) (a .i3) ⌝ }
+fn meet_turn(f: &[u16], w: &[u16], a: [usize; 4], least: u16, b: [u16; 4]) -> [u16; 4]
+    requires { ⌜ Rows (now f) a ⌝ }
     requires { ⌜ length (now w) ≡ length (now f) ⌝ }
-    ensures { λ r. ⌜ r ≡ meet (now (f .entry)) (now (w .entry)) (a .i0) (a .i1) (a .i2) (a .i3) least b 16 ⌝ }
+    ensures { λ r. ⌜ r ≡ meet (now (f .entry)) (now (w .entry)) a least b 16 ⌝ }
 {
     if any_costs(f, a, least) == 0 {
         return b;
@@ -278,31 +272,6 @@ fn meet_turn(f: &[u16], w: &[u16], a: At, least: u16, b: [u16; 4]) -> [u16; 4]
     meet_lanes(f, w, a, least, b)
 }
 
-// What slot j's place is xored with at turn k.
-fn step_at(st: &[u16], k: usize, j: usize) -> usize
-    requires { ⌜ (changed-bit k < 12) × (j < 4) × (length (now st) ≡ 48) ⌝ }
-    ensures { λ r. ⌜ r ≡ step (now (st .entry)) (changed-bit k) j ⌝ }
-{
-    let b = usize::trailing_zeros(k) as usize;
-    st[b * 4 + j] as usize
-}
-
-// The places of turn k, from those of the turn before it.
-fn at_turn(st: &[u16], k: usize, a: At) -> At
-    requires { ⌜ (0 < k → changed-bit k < 12) × (length (now st) ≡ 48) ⌝ }
-    ensures { λ r. ⌜ Moved (now (st .entry)) k (a .i0) (a .i1) (a .i2) (a .i3) (r .i0) (r .i1) (r .i2) (r .i3) ⌝ }
-{
-    if k == 0 {
-        return a;
-    }
-    At {
-        i0: a.i0 ^ step_at(st, k, 0),
-        i1: a.i1 ^ step_at(st, k, 1),
-        i2: a.i2 ^ step_at(st, k, 2),
-        i3: a.i3 ^ step_at(st, k, 3),
-    }
-}
-
 // Of the tuples that cost the least, the words that come first: the same walk again.
 pub fn first_tied(f: &[u16], w: &[u16], sl: &[u16], st: &[u16], n: usize, least: u16) -> [u16; 4]
     requires { ⌜ Slots n (now f) (now sl) (now st) ⌝ }
@@ -310,20 +279,11 @@ pub fn first_tied(f: &[u16], w: &[u16], sl: &[u16], st: &[u16], n: usize, least:
     requires { ⌜ ((i : ℕ) × Costs n (now f) (now sl) (now st) least i) ⌝ }
     ensures { λ r. ⌜ First-tied n (now (f .entry)) (now (sl .entry)) (now (st .entry)) (now (w .entry)) least r ⌝ }
 {
-    let i0 = place_of(sl, 0);
-    let i1 = place_of(sl, 1);
-    let i2 = place_of(sl, 2);
-    let i3 = place_of(sl, 3);
-    let mut a = At {
-        i0: i0,
-        i1: i1,
-        i2: i2,
-        i3: i3,
-    };
+    let mut a = walk::starts(sl);
     let mut best = [65535u16; 4];
     let mut k = 0;
     while k < n {
-        let b = at_turn(st, k, a);
+        let b = walk::at_turn(st, k, a);
         a = b;
         let m = meet_turn(f, w, a, least, best);
         best = m;

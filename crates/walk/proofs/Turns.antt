@@ -68,7 +68,11 @@ pub record Walking (soft : Bool) (cap : ℕ) (f sl st : List ℕ) (k : ℕ) (g a
   pub lanes : Each 16 (λ x. lane m x ≡ lane-least (total f sl st) cap k x)
   pub marks : soft ≡ true → Marked cap f sl st k g
 
--- the places of turn k, from those of the turn before it
+-- the places of turn 0, and those of turn k from those of the turn before it
+pub stands-first : {sl st a : List ℕ} → Each 4 (λ j. lane a j ≡ start sl j) → Standing sl st 0 a
+unfolding place
+stands-first e = record { at = e }
+
 pub stands : {sl st : List ℕ} {k : ℕ} {a : List ℕ} → Standing sl st (k - 1) a → (b : List ℕ) → Each 4 (λ j. lane b j ≡ moved st k j (lane a j)) → Standing sl st k b
 stands {sl} {st} {k} s b e = record { at = λ j lj. e j lj ∙ ap (moved st k j) (s .at j lj) ∙ sym (place-moved sl st k j) }
 
@@ -194,9 +198,9 @@ module _ {n : ℕ} {f sl st : List ℕ} (w : Slots n f sl st) where
           }
 
   pub walking-start : {soft : Bool} {cap : ℕ} {g : List ℕ} → Blank soft cap f g → cap < limit → (a : List ℕ) → Each 4 (λ j. lane a j ≡ start sl j) → Walking soft cap f sl st 0 g a (replicate 16 cap)
-  unfolding place leastOf
+  unfolding leastOf
   walking-start {soft} {cap} {g} b small a e = record {
-    standing = record { at = e };
+    standing = stands-first e;
     lanes = λ x lx. getD-replicate 16 x cap 0 lx;
     marks = λ z. record {
       long = b .long z;

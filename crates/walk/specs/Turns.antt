@@ -1,4 +1,4 @@
--- One turn of the walk, lane by lane: what its functions promise each other.
+-- One turn of the walk, lane by lane: what its functions promise each other, and the crates above of where a turn stands.
 -- Assumes nothing: these are definitions.
 use mathlib.Core.Path.{_≡_}
 use mathlib.Core.Bool.{Bool, true, cond}

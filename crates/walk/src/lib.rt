@@ -1,5 +1,5 @@
 // The walk over tuples of four places, sixteen side by side in the vector registers: the least total, and for the soft outputs the least with each
-// place. It knows no code. Its functions are for the crates above; their promises cite specs/Walk.antt and, between themselves, specs/Turns.antt.
+// place. It knows no code. Its functions are for the crates above; their promises cite specs/Walk.antt and specs/Turns.antt.
 ghost use mathlib.Core.Path.{_≡_};
 ghost use mathlib.Core.Bool.{true, cond};
 ghost use Prim.Native.Nat.{ℕ, _+_, _/_, _^_, _<_, _≤_, min};
@@ -107,7 +107,7 @@ fn mark(g: &mut [u16], a: [usize; 4], t: [u16; 16], soft: bool)
 }
 
 // The places of turn 0.
-fn starts(sl: &[u16]) -> [usize; 4]
+pub fn starts(sl: &[u16]) -> [usize; 4]
     requires { ⌜ length (now sl) ≡ 5 ⌝ }
     ensures { λ r. ⌜ Each 4 (λ j. lane r j ≡ start (now (sl .entry)) j) ⌝ }
 {
@@ -136,7 +136,7 @@ fn next(st: &[u16], k: usize, a: [usize; 4]) -> [usize; 4]
 }
 
 // The places of any turn.
-fn at_turn(st: &[u16], k: usize, a: [usize; 4]) -> [usize; 4]
+pub fn at_turn(st: &[u16], k: usize, a: [usize; 4]) -> [usize; 4]
     requires { ⌜ (length (now st) ≡ 48) × (0 < k → changed-bit k < 12) ⌝ }
     ensures { λ r. ⌜ Each 4 (λ j. lane r j ≡ moved (now (st .entry)) k j (lane a j)) ⌝ }
 {

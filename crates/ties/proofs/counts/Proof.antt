@@ -11,8 +11,7 @@ use Rattle.ties.proofs.counts.Tie as tie
 returns : tie.Need-returns
 returns c = let p = c .before .before .before in
     let a = p .before .before .before .before .before .before .args in
-    let i = a .a in
-    let e : four (p .before .before .before .lane-at .result) (p .before .before .lane-at2 .result) (p .before .lane-at3 .result) (p .lane-at4 .result) ≡ words-at (a .w .now) (i .i0) (i .i1) (i .i2) (i .i3) (a .x) = cc in
+    let e : four (p .before .before .before .lane-at .result) (p .before .before .lane-at2 .result) (p .before .lane-at3 .result) (p .lane-at4 .result) ≡ words-at (a .w .now) (a .t3) (a .x) = cc in
     let h = c .before .comes-before .ensures ∙ ap₂ ltb (one-by-one (a .t6)) (ap number-of e) in
     λ _ _. ltb-true _ _ (sym h ∙ c .if1 .taken)
 
@@ -23,9 +22,13 @@ pub counts-spec : {M : Type 1} → statement M
 counts-spec =
     tie.close
     (tie.spec
+    (λ c. search needs)
     (λ c κs. search needs)
+    (λ c. search needs)
     (λ c κs. search needs)
+    (λ c. search needs)
     (λ c κs. search needs)
+    (λ c. search needs)
     (λ c κs. search needs)
     (λ c κs. search needs)
     (λ c. search needs)

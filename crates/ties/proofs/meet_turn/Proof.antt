@@ -6,14 +6,10 @@ use Rattle.ties.proofs.meet_turn.Statement.{statement}
 use Rattle.ties.proofs.meet_turn.Tie as tie
 
 returns : tie.Need-returns
-returns c = let a = c .before .before .before .before .args in
-    let i = a .a in
-    pass-none (a .f .now) (a .w .now) (i .i0) (i .i1) (i .i2) (i .i3) (a .least) (a .b) (c .before .any-costs .ensures (c .if1 .taken))
+returns c = pass-none _ _ _ _ _ (c .before .any-costs .ensures (c .if1 .taken))
 
 returns-2 : tie.Need-returns-2
-returns-2 c = let a = c .before .before .before .before .before .before .args in
-    let i = a .a in
-    pass (a .f .now) (a .w .now) (i .i0) (i .i1) (i .i2) (i .i3) (a .least) (a .b) (c .before .any-counts .ensures (c .if2 .taken))
+returns-2 c = pass _ _ _ _ _ (c .before .any-counts .ensures (c .if2 .taken))
 
 pub meet-turn-spec : {M : Type 1} → statement M
 meet-turn-spec =

@@ -1,6 +1,6 @@
 -- `walk::less_own` meets its contract.
 -- Assumes nothing.
-use Rattle.basics.proofs.Kit.{_≡_, refl, _-_, _≤_, _<_, arith, needs, length, getD}
+use Rattle.basics.proofs.Kit.{_≡_, refl, _-_, _≤_, _<_, arith, length}
 use Rattle.walk.specs.Turns.{Less-own}
 use Rattle.walk.proofs.Leasts.{less-own-more}
 use Rattle.walk.proofs.less_own.Statement.{statement}

@@ -1,6 +1,6 @@
 -- `walk::lower_places` meets its contract.
 -- Assumes nothing.
-use Rattle.basics.proofs.Kit.{_≡_, refl, ap, _∙_, [], ℕ, _-_, _≤_, _<_, min, arith, length, getD, set}
+use Rattle.basics.proofs.Kit.{_≡_, refl, ap, _∙_, [], ℕ, _-_, _<_, min, arith, length, getD, set}
 use Rattle.walk.proofs.Leasts.{others, Scattering, scatter-start, scatter-more}
 use Rattle.walk.proofs.lower_places.Statement.{statement}
 use Rattle.walk.proofs.lower_places.Tie as tie
