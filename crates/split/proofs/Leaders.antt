@@ -2,14 +2,13 @@
 -- by weight and number leads, and no other can.
 -- Assumes nothing.
 use Rattle.basics.proofs.Kit.{_≡_, refl, sym, ap, ap₂, _∙_, Bool, true, false, _&&_, cond, List, [], _∷_, ℕ, zero, suc, _+_, _-_, _*_, _/_, _%_, _^_, _≤_, _<_, arith, length, drop, eqb, ltb}
-use native.Mathlib.Nat.{not-suc-le-zero, le-refl, le-trans, le-antisymm, eq-or-lt-of-le, le-of-suc-le-suc, lt-of-lt-of-le, mod-lt, zero-lt-suc, zero-mul, add-zero, mul-one, mul-comm, mul-assoc, suc-mul, pow-suc, pow-succ', div-eq-of-lt}
-use native.Mathlib.Numerals.{add-one}
-use lib.Pow.{pow-pos, pow-mono, shr-lt}
+use native.Mathlib.Nat.{not-suc-le-zero, le-refl, le-trans, le-antisymm, eq-or-lt-of-le, le-of-suc-le-suc, lt-of-lt-of-le, div-eq-of-lt}
+use lib.Pow.{pow-mono, shr-lt}
 use mathlib.Core.List.{map}
 use mathlib.Core.Logic.{_⊎_, inl, inr}
 use lib.Bits as B
 use lib.Count.{ones}
-use lib.Dec.{T, eqb→eq, lit≤}
+use lib.Dec.{T, lit≤}
 use lib.ListN.{replicate, length-drop, length-map}
 use borrow.Author.Tests.{ltb-true, ltb-false}
 use Rattle.field.specs.Field.{width-good, xor, times, times-from, doubled, alpha}
@@ -17,15 +16,16 @@ use Rattle.field.proofs.Tests.{widths, and-l, and-r}
 use Rattle.field.proofs.Xor as X
 use Rattle.code.specs.Code.{long, message-long, value-from, value-at, syndrome-long, bch-dimension, configuration-long, roots-good, accepted}
 use Rattle.code.specs.Bits.{bits-of}
-use Rattle.code.proofs.Words.{Below, drop-below}
+use Rattle.code.proofs.Words.{drop-below}
 use Rattle.code.proofs.Accepted.{accepted-parts, at-each, syndrome-room}
 use Rattle.split.specs.Split.{number, syndrome, cosets, Binary, Leader, weight, word-number, sum, all-below, Bch-ending}
 use Rattle.code.specs.declared.Shape.{Shape}
 use Rattle.split.specs.Within.{Coset}
-use Rattle.split.specs.Members.{where-odd, picked, rank, lower, least-rank, foremost}
+use Rattle.split.specs.Members.{picked, rank, lower, least-rank, foremost}
 use Rattle.split.specs.Promise.{Bch-dimension, Sum-is-bch, Leader-there, One-leader}
 use Rattle.split.proofs.Layers as L
-use Rattle.split.proofs.Numbers.{bits-binary, half-lt, bits-number, number-lt, number-bits, weight-ones, bits-xor, drop-bits, sum-cancel, drop-sum}
+use Rattle.split.proofs.Numbers.{bits-binary, bits-number, number-lt, number-bits, weight-ones, bits-xor, drop-bits, sum-cancel, drop-sum}
+use Rattle.split.proofs.Sums.{picked-zeros, picked-lt, powers, powers-long, same, same-is, picked-map, picked-back}
 use Rattle.split.proofs.Columns.{syndrome-sum}
 use Rattle.split.proofs.Cosets.{sum-is-bch}
 use Rattle.split.proofs.Dimension.{bch-dimension-right}
@@ -63,83 +63,7 @@ rows m q =
     (cond (eqb q 8) (465 ∷ 627 ∷ 1254 ∷ 2077 ∷ 4154 ∷ 8308 ∷ 16616 ∷ [])
     (1335 ∷ 2670 ∷ 4587 ∷ 9174 ∷ 17051 ∷ [])))
 
--- SUMS of a table's numbers
-powers : (many j : ℕ) → List ℕ
-powers zero j = []
-powers (suc k) j = 2 ^ j ∷ powers k (suc j)
-
-powers-long : (k j : ℕ) → length (powers k j) ≡ k
-unfolding powers
-powers-long zero j = refl
-powers-long (suc k) j = ap suc (powers-long k (suc j))
-
-evens : (j a : ℕ) → a * 2 ^ suc j ≡ 2 * a * 2 ^ j
-evens j a = ap (λ (x : ℕ). a * x) (pow-succ' 2 j) ∙ sym (ap (λ (x : ℕ). x * 2 ^ j) (mul-comm 2 a) ∙ mul-assoc a 2 (2 ^ j))
-
-shifted : (a k b : ℕ) → b < 2 ^ k → xor (a * 2 ^ k) b ≡ a * 2 ^ k + b
-unfolding xor
-shifted = B.xor-shifted
-
-one-power : (j s a b : ℕ) → s ≡ 2 * a + b → b < 2 → xor (cond (eqb b 0) 0 (2 ^ j)) (a * 2 ^ suc j) ≡ s * 2 ^ j
-one-power j s a zero e l = X.zero-l (a * 2 ^ suc j) ∙ evens j a ∙ ap (λ (x : ℕ). x * 2 ^ j) (sym (e ∙ add-zero (2 * a)))
-one-power j s a (suc zero) e l =
-    X.comm (2 ^ j) (a * 2 ^ suc j) ∙ shifted a (suc j) (2 ^ j) (omega (arith, pow-suc 2 j, pow-pos j)) ∙ ap (λ (x : ℕ). x + 2 ^ j) (evens j a)
-    ∙ sym (suc-mul (2 * a) (2 ^ j)) ∙ ap (λ (x : ℕ). x * 2 ^ j) (sym (e ∙ add-one (2 * a)))
-one-power j s a (suc (suc b)) e l = absurd (omega arith)
-
-picked-powers : (k j s : ℕ) → s < 2 ^ k → picked (powers k j) s ≡ s * 2 ^ j
-unfolding powers picked where-odd
-picked-powers zero j s h = let e : s ≡ 0 = omega arith in rw e (sym (zero-mul (2 ^ j)))
-picked-powers (suc k) j s h =
-    ap (xor (cond (eqb (s % 2) 0) 0 (2 ^ j))) (picked-powers k (suc j) (s / 2) (half-lt k s h))
-    ∙ one-power j s (s / 2) (s % 2) (omega arith) (mod-lt s (zero-lt-suc 1))
-
-picked-zeros : (n k : ℕ) → picked (replicate n 0) k ≡ 0
-unfolding picked where-odd
-picked-zeros zero k = refl
-picked-zeros (suc n) k = ap₂ xor (go (eqb (k % 2) 0)) (picked-zeros n (k / 2)) ∙ X.self 0
-  where
-    go : (b : Bool) → _≡_ {A = ℕ} (cond b 0 0) 0
-    go true = refl
-    go false = refl
-
-picked-lt : (n : ℕ) (ts : List ℕ) (k : ℕ) → Below (2 ^ n) ts → picked ts k < 2 ^ n
-unfolding picked where-odd
-picked-lt n [] k p = pow-pos n
-picked-lt n (t ∷ ts) k p = X.below n _ _ (go (eqb (k % 2) 0)) (picked-lt n ts (k / 2) (p .1))
-  where
-    go : (b : Bool) → cond b 0 t < 2 ^ n
-    go true = pow-pos n
-    go false = p .0
-
--- a function that takes sums to sums
-module _ (f : ℕ → ℕ) (add : (a b : ℕ) → f (xor a b) ≡ xor (f a) (f b)) where
-  none : f 0 ≡ 0
-  none = ap f (sym (X.self 0)) ∙ add 0 0 ∙ X.self (f 0)
-
-  picked-map : (ts : List ℕ) (k : ℕ) → f (picked ts k) ≡ picked (map f ts) k
-  unfolding picked where-odd
-  picked-map [] k = none
-  picked-map (t ∷ ts) k = add _ _ ∙ ap₂ xor (go (eqb (k % 2) 0)) (picked-map ts (k / 2))
-    where
-      go : (b : Bool) → f (cond b 0 t) ≡ cond b 0 (f t)
-      go true = none
-      go false = refl
-
 -- THE TESTS: a head is 0 from position q on and has the syndrome of a single bit; a row has syndrome 0 and ends in a single bit
-same : List ℕ → List ℕ → Bool
-same [] [] = true
-same [] (y ∷ ys) = false
-same (x ∷ xs) [] = false
-same (x ∷ xs) (y ∷ ys) = eqb x y && same xs ys
-
-same-is : (xs ys : List ℕ) → T (same xs ys) → xs ≡ ys
-unfolding same
-same-is [] [] t = refl
-same-is [] (y ∷ ys) t = absurd t
-same-is (x ∷ xs) [] t = absurd t
-same-is (x ∷ xs) (y ∷ ys) t = ap₂ _∷_ (eqb→eq x y (and-l (eqb x y) (same xs ys) t)) (same-is xs ys (and-r (eqb x y) (same xs ys) t))
-
 pub syndrome-at : (m r x : ℕ) → ℕ
 syndrome-at m r x = syndrome m r (bits-of (long m) x)
 
@@ -235,9 +159,7 @@ module _ (m r : ℕ) (a : accepted m r ≡ true) where
   head-lt s = picked-lt q hs s (L.below (2 ^ q) hs (and-l (all-below (2 ^ q) hs) _ heads-good))
 
   head-syndrome : (s : ℕ) → s < 2 ^ q → syndrome-at m r (picked hs s) ≡ s
-  head-syndrome s h =
-      picked-map (syndrome-at m r) syndrome-add hs s
-      ∙ ap (λ l. picked l s) (same-is _ _ (and-r (all-below (2 ^ q) hs) _ heads-good)) ∙ picked-powers q 0 s h ∙ mul-one s
+  head-syndrome s h = picked-back (syndrome-at m r) syndrome-add hs q s (and-r (all-below (2 ^ q) hs) _ heads-good) h
 
   row-lt : (k : ℕ) → picked rs k < 2 ^ long m
   row-lt k = picked-lt (long m) rs k (L.below (2 ^ long m) rs (and-l (all-below (2 ^ long m) rs) _ (and-l (all-below (2 ^ long m) rs && _) _ rows-good)))
@@ -249,9 +171,7 @@ module _ (m r : ℕ) (a : accepted m r ≡ true) where
       ∙ picked-zeros (long m - q) k
 
   row-ends : (k : ℕ) → k < 2 ^ (long m - q) → picked rs k / 2 ^ q ≡ k
-  row-ends k h =
-      picked-map (λ x. x / 2 ^ q) ends-add rs k
-      ∙ ap (λ l. picked l k) (same-is _ _ (and-r (all-below (2 ^ long m) rs && _) _ rows-good)) ∙ picked-powers (long m - q) 0 k h ∙ mul-one k
+  row-ends k h = picked-back (λ x. x / 2 ^ q) ends-add rs (long m - q) k (and-r (all-below (2 ^ long m) rs && _) _ rows-good) h
 
   rows-many : length rs ≡ long m - q
   rows-many = sym (length-map rs _) ∙ ap length (same-is _ _ (and-r (all-below (2 ^ long m) rs && _) _ rows-good)) ∙ powers-long (long m - q) 0

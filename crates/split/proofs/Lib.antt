@@ -5,6 +5,7 @@ pub mod Numbers
 pub mod Syndromes
 pub mod Columns
 pub mod Dimension
+pub mod Sums
 pub mod Leaders
 pub mod Steps
 pub mod Whole

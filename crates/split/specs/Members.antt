@@ -1,5 +1,5 @@
--- The members of a coset as numbers and the least of them, for the promises of the leader's parts: no promise of a call cites these, and
--- proofs/Leaders.antt shows that they give the leader. Assumes nothing: these are definitions.
+-- Sums of a table's numbers, which tails and spots name too. Then the members of a coset as numbers and the least of them, for the promises of the
+-- leader's parts: no promise of a call cites these, and proofs/Leaders.antt shows that they give the leader. Assumes nothing: these are definitions.
 use mathlib.Core.Bool.{cond}
 use mathlib.Core.List.{List, [], _∷_}
 use Prim.Native.Nat.{ℕ, zero, suc, _+_, _*_, _/_, _%_, _^_}
@@ -9,7 +9,7 @@ use lib.ListN.{length}
 use Rattle.field.specs.Field.{xor}
 
 -- a number of a table where the lowest bit of k is 1
-unfoldable pub where-odd : (k number : ℕ) → ℕ
+abbrev pub where-odd : (k number : ℕ) → ℕ
 where-odd k h = cond (eqb (k % 2) 0) 0 h
 
 -- the sum of the numbers of a table at the 1 bits of k

@@ -1,6 +1,6 @@
 -- The places of a code once they are filled: each has the entry that it stands for.
 -- Assumes nothing.
-use Rattle.basics.proofs.Kit.{_≡_, refl, sym, ap, ap₂, _∙_, true, List, _++_, ℕ, zero, suc, _+_, _-_, _*_, _%_, _^_, _≤_, _<_, arith, length, getD, take}
+use Rattle.basics.proofs.Kit.{_≡_, refl, sym, ap, _∙_, true, List, _++_, ℕ, zero, suc, _+_, _-_, _*_, _^_, _≤_, _<_, arith, length, getD, take}
 use mathlib.Core.Logic.{_⊎_, inl, inr}
 use native.Mathlib.Nat.{mod-eq-of-lt}
 use lib.ListN.{replicate}
@@ -9,9 +9,11 @@ use lib.Pow.{pow-mono}
 use Rattle.field.specs.Field.{xor}
 use Rattle.field.proofs.Xor as X
 use Rattle.code.specs.Code.{accepted, syndrome-long}
+use Rattle.split.specs.Members.{picked}
+use Rattle.split.proofs.Sums.{picked-zeros}
 use Rattle.tails.proofs.Accepted.{le-or-lt}
-use Rattle.tails.specs.Tails.{place-columns, picked, marked}
-use Rattle.tails.proofs.Picked.{pick-none, picked-append, picked-take, picked-chosen, chosen-lt}
+use Rattle.tails.specs.Tails.{place-columns, marked}
+use Rattle.tails.proofs.Picked.{picked-append, picked-take, picked-chosen, chosen-lt}
 use Rattle.walk.specs.Walk.{start}
 use Rattle.spots.specs.Spots.{room-bits, slots-from, slots, Placed}
 use Rattle.spots.specs.Filling.{ten-columns, all-place-columns, ten-of, entry, Slots, Slots-filled}
@@ -20,11 +22,6 @@ use Rattle.spots.proofs.Data as D
 
 pub picked-lt : (c : ℕ) (es : List ℕ) (k : ℕ) → ((b : ℕ) → getD es b 0 < 2 ^ c) → picked es k < 2 ^ c
 picked-lt c es k h = rw (picked-chosen es k) (chosen-lt c (length es) (λ b. getD es b 0) k (λ b l. h b))
-
-picked-zeros : (n k : ℕ) → picked (replicate n 0) k ≡ 0
-unfolding picked
-picked-zeros zero k = refl
-picked-zeros (suc n) k = ap₂ xor (pick-none (k % 2)) (picked-zeros n _) ∙ X.self 0
 
 -- columns that are 0 change nothing
 picked-ten : (es : List ℕ) (p : ℕ) → p < 2 ^ 10 → picked (take 10 (es ++ replicate 10 0)) p ≡ picked es p

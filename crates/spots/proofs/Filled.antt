@@ -1,6 +1,6 @@
 -- How the places are filled: a slot by doubling, one slot after the other.
 -- Assumes nothing.
-use Rattle.basics.proofs.Kit.{_≡_, refl, sym, ap, ap₂, _∙_, List, [], _∷_, _++_, ℕ, zero, suc, _+_, _-_, _*_, _/_, _%_, _^_, _≤_, _<_, arith, length, getD, take, drop, set}
+use Rattle.basics.proofs.Kit.{_≡_, refl, sym, ap, ap₂, _∙_, List, _++_, ℕ, zero, suc, _+_, _-_, _*_, _^_, _≤_, _<_, arith, length, getD, take, drop, set}
 use mathlib.Core.Logic.{_⊎_, inl, inr}
 use native.Mathlib.Nat.{le-of-suc-le-suc, eq-or-lt-of-le}
 use lib.ListN.{length-set, length-append, length-take, length-drop, List·getD-append, List·getD-eq-default}
@@ -12,9 +12,8 @@ use native.Mathlib.Nat.{pow-suc}
 use lib.Pow.{pow-pos, pow-mono}
 use Rattle.tails.proofs.Accepted.{le-or-lt}
 use Rattle.field.specs.Field.{xor}
-use Rattle.field.proofs.Xor as X
-use Rattle.tails.specs.Tails.{pick, picked}
-use Rattle.tails.proofs.Picked.{picked-zero, picked-add}
+use Rattle.split.specs.Members.{picked}
+use Rattle.tails.proofs.Picked.{picked-add, picked-zero, picked-bit}
 use Rattle.spots.specs.Filling.{entry, Doubles, Doubled, Slot, Begun, Slot-filled, Slots, Slots-filled, ten-of}
 
 -- ---- doubling
@@ -34,15 +33,6 @@ doubled-more {s} {n} {h} {l₀} {l} d lt room = record {
     one q (inr lq) = getD-set-other l (s + n) (s + q) (bitXor (getD l n 0) h) 0 (λ e. omega arith) ∙ d .again q lq
 
 -- ---- a slot: bit b of a place picks column b
-picked-bit : (es : List ℕ) (b : ℕ) → picked es (2 ^ b) ≡ getD es b 0
-unfolding picked
-picked-bit [] b = refl
-picked-bit (e ∷ es) zero = ap (xor e) (picked-zero es) ∙ X.zero-r e
-picked-bit (e ∷ es) (suc b) =
-    let low : 2 ^ suc b % 2 ≡ 0 = omega (arith, pow-suc 2 b) in
-    let high : 2 ^ suc b / 2 ≡ 2 ^ b = omega (arith, pow-suc 2 b) in
-    ap₂ (λ (x y : ℕ). xor (pick x 0 e) (picked es y)) low high ∙ X.zero-l (picked es (2 ^ b)) ∙ picked-bit es b
-
 picked-more : (es : List ℕ) (b q : ℕ) → q < 2 ^ b → picked es (2 ^ b + q) ≡ bitXor (picked es q) (getD es b 0)
 unfolding xor
 picked-more es b q h =

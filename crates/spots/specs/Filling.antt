@@ -5,7 +5,8 @@ use mathlib.Core.List.{List, _++_}
 use Prim.Native.Nat.{ℕ, suc, _+_, _*_, _^_, _≤_, _<_}
 use lib.Bits.{bitXor}
 use lib.ListN.{length, getD, take, drop, replicate}
-use Rattle.tails.specs.Tails.{place-columns, picked}
+use Rattle.split.specs.Members.{picked}
+use Rattle.tails.specs.Tails.{place-columns}
 use Rattle.walk.specs.Walk.{start}
 
 -- the columns of the bits of a slot's places, ten to a slot: 0 where it has fewer

@@ -7,6 +7,7 @@ use mathlib.Core.Path.{fun-ext}
 use native.Mathlib.Nat.{mod-lt, zero-lt-suc, div-one, zero-div, add-suc, suc-add, zero-add, pow-succ'}
 use lib.Dec.{T, eqb→eq, ltb→lt}
 use lib.Pow.{pow-mono}
+use borrow.Author.Tests.{ne-eqb}
 use Rattle.field.specs.Field.{width-good, xor, times, times-from, doubled, alpha}
 use Rattle.field.proofs.Tests.{all, at, and-l, and-r, to-T, same-below, eq-below}
 use Rattle.field.proofs.Xor as X
@@ -14,9 +15,11 @@ use Rattle.field.proofs.Field as F
 use Rattle.code.specs.Code.{long, value-from, value-at, message-long, symbols-good, is-codeword, syndrome-long, bch-dimension, configuration-long, accepted}
 use Rattle.code.proofs.Words.{Below, below, Codeword-parts, codeword-parts, parts-codeword}
 use Rattle.split.specs.Split.{layer}
-use Rattle.tails.specs.Tails.{pick, added, tail-columns, heads, columns, picked, place-columns, marked, steps, step-count, moves, basis, basis-long, combined}
+use Rattle.split.specs.Members.{where-odd, picked}
+use Rattle.split.proofs.Sums.{odd-none}
+use Rattle.tails.specs.Tails.{pick, added, tail-columns, heads, columns, place-columns, marked, steps, step-count, moves, basis, basis-long, combined}
 use Rattle.tails.specs.Promise.{Has-cosets, Codewords-combined}
-use Rattle.tails.proofs.Picked.{pick-none, halves, picked-zero, picked-chosen, chosen, chosen-none, chosen-same, chosen-through, over, over-through, over-sum, over-same, over-lt, over-none, four, four-same, chosen-four, over-four}
+use Rattle.tails.proofs.Picked.{halves, picked-zero, picked-chosen, chosen, chosen-none, chosen-same, chosen-through, over, over-through, over-sum, over-same, over-lt, over-none, four, four-same, chosen-four, over-four}
 use Rattle.tails.proofs.Accepted.{width-fine, tested}
 use Rattle.tails.proofs.Solved.{vectors, left-over}
 
@@ -27,15 +30,19 @@ here zero (suc j) h = 0
 here (suc x) zero h = 0
 here (suc x) (suc j) h = here x j h
 
-chosen-at : (m j c h : ℕ) → c < 2 ^ m → chosen m (λ x. here x j h) c ≡ pick (c / 2 ^ j % 2) 0 h
+chosen-at : (m j c h : ℕ) → c < 2 ^ m → chosen m (λ x. here x j h) c ≡ where-odd (c / 2 ^ j) h
 unfolding chosen here
 chosen-at zero j c h l =
     let e : c ≡ 0 = omega arith in
     sym (rw (e, zero-div (2 ^ j)) refl)
-chosen-at (suc m) zero c h l = ap (xor (pick (c % 2) 0 h)) (chosen-none m (c / 2)) ∙ X.zero-r (pick (c % 2) 0 h) ∙ ap (λ (x : ℕ). pick (x % 2) 0 h) (sym (div-one c))
+chosen-at (suc m) zero c h l = ap (xor (where-odd c h)) (chosen-none m (c / 2)) ∙ X.zero-r (where-odd c h) ∙ ap (λ (x : ℕ). where-odd x h) (sym (div-one c))
 chosen-at (suc m) (suc j) c h l =
-    ap₂ xor (pick-none (c % 2)) (chosen-at m j (c / 2) h (omega (arith, pow-succ' 2 m)))
-    ∙ X.zero-l (pick (c / 2 / 2 ^ j % 2) 0 h) ∙ ap (λ (x : ℕ). pick (x % 2) 0 h) (halves c j)
+    ap₂ xor (odd-none c) (chosen-at m j (c / 2) h (omega (arith, pow-succ' 2 m)))
+    ∙ X.zero-l (where-odd (c / 2 / 2 ^ j) h) ∙ ap (λ (x : ℕ). where-odd x h) (halves c j)
+
+bit-picks : (b h : ℕ) → pick b 0 h ≡ cond (eqb b 0) 0 h
+bit-picks zero h = refl
+bit-picks (suc b) h = rw (ne-eqb (suc b) 0 (λ e. omega arith))
 
 module _ (m : ℕ) where
   layer-over : (j : ℕ) (hs ws : List ℕ) → length hs ≡ length ws → Below (2 ^ m) ws → added hs (layer j ws) ≡ over m (λ i x. here x j (getD hs i 0)) ws
@@ -43,7 +50,7 @@ module _ (m : ℕ) where
   layer-over j [] [] n p = refl
   layer-over j [] (c ∷ cs) n p = absurd (omega arith)
   layer-over j (h ∷ hs) [] n p = absurd (omega arith)
-  layer-over j (h ∷ hs) (c ∷ cs) n p = ap₂ xor (sym (chosen-at m j c h (p .0))) (layer-over j hs cs (omega arith) (p .1))
+  layer-over j (h ∷ hs) (c ∷ cs) n p = ap₂ xor (bit-picks (c / 2 ^ j % 2) h ∙ sym (chosen-at m j c h (p .0))) (layer-over j hs cs (omega arith) (p .1))
 
 -- ---- the value at α^t as such a sum
 unfoldable doubles : (m j a : ℕ) → ℕ
@@ -54,15 +61,15 @@ doubles m (suc j) a = doubles m j (doubled m a)
 unfoldable value : (m t i j : ℕ) → ℕ
 value m t i j = doubles m j (alpha m ((i + 0) * t))
 
-bit-picks : (b a : ℕ) → b < 2 → cond (eqb b 1) a 0 ≡ pick b 0 a
-bit-picks zero a h = refl
-bit-picks (suc zero) a h = refl
-bit-picks (suc (suc b)) a h = absurd (omega arith)
+one-picks : (b a : ℕ) → b < 2 → cond (eqb b 1) a 0 ≡ cond (eqb b 0) 0 a
+one-picks zero a h = refl
+one-picks (suc zero) a h = refl
+one-picks (suc (suc b)) a h = absurd (omega arith)
 
 times-chosen : (k m a c : ℕ) → times-from k m a c ≡ chosen k (λ j. doubles m j a) c
 unfolding times-from chosen doubles
 times-chosen zero m a c = refl
-times-chosen (suc k) m a c = ap₂ xor (bit-picks (c % 2) a (mod-lt c (zero-lt-suc 1))) (times-chosen k m (doubled m a) (c / 2))
+times-chosen (suc k) m a c = ap₂ xor (one-picks (c % 2) a (mod-lt c (zero-lt-suc 1))) (times-chosen k m (doubled m a) (c / 2))
 
 module _ (m : ℕ) (w : width-good m ≡ true) where
   from-over : (t i : ℕ) (ws : List ℕ) → Below (2 ^ m) ws → value-from m t i ws ≡ over m (λ k j. doubles m j (alpha m ((k + i) * t))) ws
@@ -142,7 +149,7 @@ module _ (m r : ℕ) (a : accepted m r ≡ true) where
   pub columns-long : length (columns m r) ≡ long m
   columns-long = eqb→eq _ _ (and-l (eqb (length (columns m r)) (long m)) _ (counted))
 
-  pub basis-length : (j : ℕ) → j < 4 → length (basis m r j) ≡ basis-long m r
+  basis-length : (j : ℕ) → j < 4 → length (basis m r j) ≡ basis-long m r
   basis-length j h = eqb→eq _ _ (at 4 (λ j. eqb (length (basis m r j)) (basis-long m r)) (and-r (eqb (length (columns m r)) (long m)) _ counted) j h)
 
   numbered : (i x : ℕ) → i < long m → x < m → vector-at m r i x < 2 ^ configuration-long m r
@@ -221,7 +228,7 @@ module _ (m r : ℕ) (a : accepted m r ≡ true) where
         zeros = λ t l k. let e : suc (t - 1) ≡ t = omega arith in ap (λ (x : ℕ). value-at m x ws) (sym e) ∙ combined-value ws n s b (t - 1) (omega arith) c;
       })
 
-  pub at-most : configuration-long m r ≤ basis-long m r
+  at-most : configuration-long m r ≤ basis-long m r
   unfolding basis-long step-count
   at-most = omega arith
 

@@ -1,45 +1,36 @@
 -- The valid configurations by number. A codeword's syndromes are one, that of the number of the sum that its tuple is; and each valid configuration is that
 -- of the codeword that is 0 before its tail and has these syndromes.
 -- Assumes nothing.
-use Rattle.basics.proofs.Kit.{_≡_, refl, sym, ap, ap₂, _∙_, Bool, true, _&&_, cond, List, [], _∷_, ℕ, zero, suc, _+_, _-_, _/_, _%_, _^_, _≤_, _<_, arith, length, getD, eqb, leb}
+use Rattle.basics.proofs.Kit.{_≡_, refl, sym, ap, ap₂, _∙_, Bool, true, cond, List, [], _∷_, ℕ, zero, suc, _+_, _-_, _/_, _%_, _^_, _≤_, _<_, arith, length, getD, leb}
 use mathlib.Core.Path.{subst}
+use mathlib.Core.List.{map}
 use mathlib.Core.Logic.{_⊎_, inl, inr}
 use native.Mathlib.Nat.{not-suc-le-zero, le-of-suc-le-suc, zero-add, mul-one, div-eq-of-lt, lt-of-lt-of-le}
-use lib.Dec.{T, eqb→eq}
+use lib.Dec.{T}
 use lib.Pow.{pow-mono}
 use lib.Seq.{ext-getD}
 use borrow.Author.Tests.{le-leb, lt-leb}
 use Rattle.field.specs.Field.{xor, doubled, alpha}
-use Rattle.field.proofs.Tests.{all, at, and-l, and-r, to-T}
+use Rattle.field.proofs.Tests.{all, at, to-T}
 use Rattle.field.proofs.Xor as X
 use Rattle.code.specs.Code.{long, message-long, bch-dimension, is-codeword, syndrome-long, configuration-long, accepted}
 use Rattle.code.proofs.Words.{Below, good, Codeword-parts, codeword-parts}
 use Rattle.split.specs.Split.{all-below, layer, number, column, cosets, syndrome, syndromes, syndromes-from, valid, Configuration}
+use Rattle.split.specs.Members.{picked}
 use Rattle.split.specs.Promise.{Glued-right, Syndrome-inside}
 use Rattle.split.proofs.Layers as L
 use Rattle.split.proofs.Glue.{glued-right}
 use Rattle.split.proofs.Cosets.{syndrome-inside}
+use Rattle.split.proofs.Sums.{picked-lt, powers, picked-powers, same, picked-back}
 use Rattle.split.proofs.Syndromes.{place-at, places}
-use Rattle.tails.specs.Tails.{pick, added, columns, picked, place-columns, marked, steps, step-count, moves, basis, basis-long, combined, columns-back, syndrome-of, configuration-from, configuration}
+use Rattle.tails.specs.Tails.{pick, added, columns, place-columns, marked, steps, step-count, moves, basis, combined, columns-back, syndrome-of, configuration-from, configuration}
 use Rattle.tails.specs.Promise.{Tail-cosets, Has-cosets, Configured-right}
-use Rattle.tails.proofs.Picked.{picked-chosen, chosen, chosen-through, chosen-powers, four, four-same, chosen-four}
+use Rattle.tails.proofs.Picked.{picked-add, four, four-same, four-sum}
 use Rattle.tails.proofs.Accepted.{width-fine, roots-few, tested, le-or-lt}
-use Rattle.tails.proofs.Cosets.{of-bits, picked-lt, syndrome-number, tail-cosets}
-use Rattle.tails.proofs.Codewords.{basis-length, at-most, codeword-sum, sum-codeword}
+use Rattle.tails.proofs.Cosets.{of-bits, syndrome-number, tail-cosets}
+use Rattle.tails.proofs.Codewords.{codeword-sum, sum-codeword}
 use Rattle.tails.proofs.Solved.{vectors}
 use Rattle.tails.proofs.Words.{word, word-long, word-below, word-number}
-
--- ---- entries that undo entries
-abbrev undoes : (fs es : List ℕ) → (c : ℕ) → Bool
-undoes fs es c = eqb (length es) c && all c (λ x. eqb (picked fs (getD es x 0)) (2 ^ x))
-
-undone : (fs es : List ℕ) (c : ℕ) → T (undoes fs es c) → (k : ℕ) → k < 2 ^ c → picked fs (picked es k) ≡ k
-undone fs es c t k h =
-    ap (picked fs) (picked-chosen es k ∙ ap (λ (l : ℕ). chosen l (λ x. getD es x 0) k) (eqb→eq (length es) c (and-l (eqb (length es) c) _ t)))
-    ∙ chosen-through fs c (λ x. getD es x 0) k
-    ∙ chosen-powers c c 0 (λ x. picked fs (getD es x 0)) k (omega arith)
-    (λ x l. eqb→eq _ _ (at c (λ x. eqb (picked fs (getD es x 0)) (2 ^ x)) (and-r (eqb (length es) c) _ t) x l) ∙ ap (λ (y : ℕ). 2 ^ y) (sym (zero-add x))) h
-    ∙ mul-one k
 
 -- ---- a layer that a word of m layers does not have
 layer-none : (m j : ℕ) (hs ws : List ℕ) → Below (2 ^ m) ws → m ≤ j → added hs (layer j ws) ≡ 0
@@ -70,9 +61,10 @@ module _ (m r : ℕ) (a : accepted m r ≡ true) where
   q = syndrome-long m r
 
   to-syndrome : (s : ℕ) → s < 2 ^ q → syndrome-of m r (picked (of-bits m q) s) ≡ s
-  unfolding syndrome-of columns-back of-bits picked column long number alpha doubled xor
-  to-syndrome =
-      undone (columns-back q (long m - 1) m r) (of-bits m q) q (tested (λ m r. undoes (columns-back (syndrome-long m r) (long m - 1) m r) (of-bits m (syndrome-long m r)) (syndrome-long m r)) tt m r a)
+  unfolding syndrome-of columns-back of-bits same powers picked column long number alpha doubled xor
+  to-syndrome s =
+      picked-back (syndrome-of m r) (picked-add (columns-back q (long m - 1) m r)) (of-bits m q) q s
+      (tested (λ m r. same (map (syndrome-of m r) (of-bits m (syndrome-long m r))) (powers (syndrome-long m r) 0)) tt m r a)
 
   bits-small : (s : ℕ) → picked (of-bits m q) s < 2 ^ q
   unfolding of-bits all-below
@@ -181,24 +173,24 @@ module _ (m r : ℕ) (a : accepted m r ≡ true) where
         let f = codeword-sum m r a of-valid of-valid-codeword in
         (f .0, f .1, sym (cosets-syndromes of-valid (f .0) of-valid-long (f .2)) ∙ of-valid-syndromes)
 
-  -- THE NUMBER from the cosets
-  abbrev back : (m r x : ℕ) → ℕ
-  back m r x = four (λ j. picked (vectors m r j) (getD (basis m r j) x 0))
+  -- THE NUMBER from the cosets: it is back at each single bit, so at all
+  abbrev back : (m r k : ℕ) → ℕ
+  back m r k = four (λ j. picked (vectors m r j) (combined m r k j))
 
-  back-is : (x : ℕ) → x < configuration-long m r → back m r x ≡ 2 ^ x
-  unfolding picked place-columns marked steps step-count moves basis configuration-long message-long bch-dimension long vectors xor
-  back-is x h = eqb→eq _ _ (at (configuration-long m r) (λ x. eqb (back m r x) (2 ^ x)) (tested (λ m r. all (configuration-long m r) (λ x. eqb (back m r x) (2 ^ x))) tt m r a) x h)
-
-  number-back : (k : ℕ) → k < 2 ^ configuration-long m r → four (λ j. picked (vectors m r j) (combined m r k j)) ≡ k
+  back-add : (k l : ℕ) → back m r (xor k l) ≡ xor (back m r k) (back m r l)
   unfolding combined
+  back-add k l =
+      four-same _ _ (λ j h. ap (picked (vectors m r j)) (picked-add (basis m r j) k l) ∙ picked-add (vectors m r j) (combined m r k j) (combined m r l j))
+      ∙ four-sum (λ j. picked (vectors m r j) (combined m r k j)) (λ j. picked (vectors m r j) (combined m r l j))
+
+  back-bits : T (same (map (back m r) (powers (configuration-long m r) 0)) (powers (configuration-long m r) 0))
+  unfolding same powers picked combined place-columns marked steps step-count moves basis configuration-long message-long bch-dimension long vectors xor
+  back-bits = tested (λ m r. same (map (back m r) (powers (configuration-long m r) 0)) (powers (configuration-long m r) 0)) tt m r a
+
+  number-back : (k : ℕ) → k < 2 ^ configuration-long m r → back m r k ≡ k
   number-back k h =
-      four-same _ (λ j. chosen (basis-long m r) (λ x. picked (vectors m r j) (getD (basis m r j) x 0)) k)
-      (λ j l.
-      ap (picked (vectors m r j)) (picked-chosen (basis m r j) k ∙ ap (λ (c : ℕ). chosen c (λ x. getD (basis m r j) x 0) k) (basis-length m r a j l))
-      ∙ chosen-through (vectors m r j) (basis-long m r) (λ x. getD (basis m r j) x 0) k)
-      ∙ sym (chosen-four (basis-long m r) (λ j x. picked (vectors m r j) (getD (basis m r j) x 0)) k)
-      ∙ chosen-powers (basis-long m r) (configuration-long m r) 0 (back m r) k (at-most m r a) (λ x l. back-is x l ∙ ap (λ (y : ℕ). 2 ^ y) (sym (zero-add x))) h
-      ∙ mul-one k
+      let c : ℕ = configuration-long m r in
+      ap (back m r) (sym (picked-powers c 0 k h ∙ mul-one k)) ∙ picked-back (back m r) back-add (powers c 0) c k back-bits h
 
   same-sum : (k l : ℕ) → configuration m r k ≡ configuration m r l → (j : ℕ) → j < 4 → combined m r k j ≡ combined m r l j
   unfolding Tail-cosets

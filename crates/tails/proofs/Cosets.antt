@@ -1,37 +1,23 @@
 -- The number of a layer's coset and its syndrome give each other: the sum of the syndromes of the tail's positions that the number picks is the
 -- syndrome, and the sum of the numbers of a syndrome's bits is the number. Both are tested at each position.
 -- Assumes nothing.
-use Rattle.basics.proofs.Kit.{_≡_, refl, sym, ap, ap₂, _∙_, Bool, true, false, _&&_, cond, List, [], _∷_, ℕ, zero, suc, _-_, _/_, _%_, _^_, _<_, arith, length, eqb}
+use Rattle.basics.proofs.Kit.{_≡_, refl, sym, ap, _∙_, true, cond, List, [], _∷_, ℕ, zero, suc, _-_, _^_, _<_, arith, length, eqb}
 use mathlib.Core.List.{map}
-use lib.Dec.{T, eqb→eq}
 use lib.Pow.{pow-pos}
 use Rattle.field.specs.Field.{xor, doubled, alpha}
-use Rattle.field.proofs.Tests.{and-l, and-r}
 use Rattle.field.proofs.Xor as X
 use Rattle.code.specs.Code.{long, syndrome-long, accepted}
 use Rattle.split.specs.Split.{number, syndrome, column, columns-from, all-below, Binary}
+use Rattle.split.specs.Members.{picked}
 use Rattle.split.specs.Promise.{Syndrome-columns}
 use Rattle.split.proofs.Layers as L
+use Rattle.split.proofs.Sums.{same, same-is}
 use Rattle.split.proofs.Columns.{syndrome-columns}
 use Rattle.code.proofs.Words.{Below}
-use Rattle.tails.specs.Tails.{pick, added, tail-columns, heads, columns, picked, columns-back, syndrome-of}
+use Rattle.tails.specs.Tails.{added, tail-columns, heads, columns, columns-back, syndrome-of}
 use Rattle.tails.specs.Promise.{Tail-cosets}
-use Rattle.tails.proofs.Picked.{added-through, pick-lt}
+use Rattle.tails.proofs.Picked.{added-through}
 use Rattle.tails.proofs.Accepted.{width-fine, tested}
-
--- two lists of numbers, compared
-unfoldable pub same : List ℕ → List ℕ → Bool
-same [] [] = true
-same [] (y ∷ ys) = false
-same (x ∷ xs) [] = false
-same (x ∷ xs) (y ∷ ys) = eqb x y && same xs ys
-
-pub same-is : (xs ys : List ℕ) → T (same xs ys) → xs ≡ ys
-unfolding same
-same-is [] [] t = refl
-same-is [] (y ∷ ys) t = absurd t
-same-is (x ∷ xs) [] t = absurd t
-same-is (x ∷ xs) (y ∷ ys) t = ap₂ (λ (a : ℕ) (l : List ℕ). a ∷ l) (eqb→eq x y (and-l (eqb x y) (same xs ys) t)) (same-is xs ys (and-r (eqb x y) (same xs ys) t))
 
 -- the syndromes of the words with a single 1, from position i on
 unfoldable forth : (left i : ℕ) → (m r : ℕ) → List ℕ
@@ -59,12 +45,8 @@ added-lt : (p : ℕ) (hs bs : List ℕ) → Below (2 ^ p) hs → added hs bs < 2
 unfolding added
 added-lt p [] bs h = pow-pos p
 added-lt p (x ∷ hs) [] h = pow-pos p
-added-lt p (x ∷ hs) (b ∷ bs) h = X.below p (pick b 0 x) (added hs bs) (pick-lt p b x (h .0)) (added-lt p hs bs (h .1))
-
-pub picked-lt : (p : ℕ) (es : List ℕ) (k : ℕ) → Below (2 ^ p) es → picked es k < 2 ^ p
-unfolding picked
-picked-lt p [] k h = pow-pos p
-picked-lt p (e ∷ es) k h = X.below p (pick (k % 2) 0 e) (picked es (k / 2)) (pick-lt p (k % 2) e (h .0)) (picked-lt p es (k / 2) (h .1))
+added-lt p (x ∷ hs) (zero ∷ bs) h = X.below p 0 (added hs bs) (pow-pos p) (added-lt p hs bs (h .1))
+added-lt p (x ∷ hs) (suc b ∷ bs) h = X.below p x (added hs bs) (h .0) (added-lt p hs bs (h .1))
 
 module _ (m r : ℕ) (a : accepted m r ≡ true) where
   pub columns-below : Below (2 ^ syndrome-long m r) (columns m r)

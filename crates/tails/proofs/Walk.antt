@@ -1,17 +1,19 @@
 -- The walk visits the sums of the basis: at turn k the steps that the Gray code of k picks are in, and the lane picks the first four vectors.
 -- Assumes nothing.
-use Rattle.basics.proofs.Kit.{_≡_, refl, sym, ap, ap₂, _∙_, true, List, [], _∷_, ℕ, zero, suc, _+_, _*_, _/_, _%_, _^_, _≤_, _<_, arith, length, take, eqb, leb}
+use Rattle.basics.proofs.Kit.{_≡_, refl, sym, ap, ap₂, _∙_, true, List, [], _∷_, ℕ, zero, suc, _+_, _*_, _/_, _%_, _^_, _≤_, _<_, arith, length, getD, take, eqb, leb}
 use mathlib.Core.List.{map}
-use native.Mathlib.Nat.{mod-lt, zero-lt-suc, not-suc-le-zero, le-of-suc-le-suc, pow-succ', zero-add, add-zero, add-suc, suc-add}
+use native.Mathlib.Nat.{mod-lt, zero-lt-suc, not-suc-le-zero, le-of-suc-le-suc, zero-add, add-zero, add-suc, suc-add}
 use lib.Dec.{eqb→eq, leb→le}
 use lib.Pow.{pow-add}
 use Rattle.field.specs.Field.{xor}
 use Rattle.field.proofs.Tests.{all, at}
 use Rattle.field.proofs.Xor as X
 use Rattle.code.specs.Code.{long, message-long, bch-dimension, configuration-long, accepted}
-use Rattle.tails.specs.Tails.{pick, picked, place-columns, marked, steps, step-count, turns, step, changed-bit, off, visited, moves, basis, basis-long, combined}
+use Rattle.split.specs.Members.{picked}
+use Rattle.split.proofs.Sums.{picked-map}
+use Rattle.tails.specs.Tails.{place-columns, marked, steps, step-count, turns, step, changed-bit, off, visited, moves, basis, basis-long, combined}
 use Rattle.tails.specs.Promise.{Codewords-combined, Visited-all, Codewords-visited}
-use Rattle.tails.proofs.Picked.{picked-add, picked-zero, picked-through, picked-append, picked-take}
+use Rattle.tails.proofs.Picked.{picked-add, picked-zero, picked-bit, picked-append, picked-take}
 use Rattle.tails.proofs.Accepted.{tested}
 use Rattle.tails.proofs.Codewords.{codewords-combined}
 use Rattle.tails.proofs.Gray.{gray, gray-zero, gray-lt, ungray, ungray-lt, gray-ungray, gray-next, lowest-lt}
@@ -22,16 +24,11 @@ taken zero b st j = []
 taken (suc k) b st j = step st b j ∷ taken k (suc b) st j
 
 -- one of them
-taken-one : (c b p : ℕ) (st : List ℕ) (j : ℕ) → p < c → picked (taken c b st j) (2 ^ p) ≡ step st (p + b) j
-unfolding taken picked
+taken-one : (c b p : ℕ) (st : List ℕ) (j : ℕ) → p < c → getD (taken c b st j) p 0 ≡ step st (p + b) j
+unfolding taken
 taken-one zero b p st j h = absurd (not-suc-le-zero h)
-taken-one (suc c) b zero st j h = ap (xor (step st b j)) (picked-zero (taken c (suc b) st j)) ∙ X.zero-r (step st b j) ∙ ap (λ (x : ℕ). step st x j) (sym (zero-add b))
-taken-one (suc c) b (suc p) st j h =
-    let low : 2 ^ suc p % 2 ≡ 0 = omega (arith, pow-succ' 2 p) in
-    let high : 2 ^ suc p / 2 ≡ 2 ^ p = omega (arith, pow-succ' 2 p) in
-    ap₂ (λ (x y : ℕ). xor (pick x 0 (step st b j)) (picked (taken c (suc b) st j) y)) low high
-    ∙ X.zero-l (picked (taken c (suc b) st j) (2 ^ p)) ∙ taken-one c (suc b) p st j (le-of-suc-le-suc h)
-    ∙ ap (λ (x : ℕ). step st x j) (add-suc p b ∙ sym (suc-add p b))
+taken-one (suc c) b zero st j h = ap (λ (x : ℕ). step st x j) (sym (zero-add b))
+taken-one (suc c) b (suc p) st j h = taken-one c (suc b) p st j (le-of-suc-le-suc h) ∙ ap (λ (x : ℕ). step st x j) (add-suc p b ∙ sym (suc-add p b))
 
 off-next : (st : List ℕ) (k j : ℕ) → off st (suc k) j ≡ xor (off st k j) (step st (changed-bit (suc k)) j)
 unfolding off xor
@@ -44,7 +41,7 @@ taken-off c st j zero l h = sym (ap (picked (taken c 0 st j)) gray-zero ∙ pick
 taken-off c st j (suc k) l h =
     let b : ℕ = changed-bit (suc k) in
     off-next st k j
-    ∙ ap₂ xor (taken-off c st j k l (omega arith)) (sym (taken-one c 0 b st j (lowest-lt c 64 (suc k) (zero-lt-suc k) h) ∙ ap (λ (x : ℕ). step st x j) (add-zero b)))
+    ∙ ap₂ xor (taken-off c st j k l (omega arith)) (sym (picked-bit (taken c 0 st j) b ∙ taken-one c 0 b st j (lowest-lt c 64 (suc k) (zero-lt-suc k) h) ∙ ap (λ (x : ℕ). step st x j) (add-zero b)))
     ∙ sym (ap (picked (taken c 0 st j)) (gray-next c 64 k h l) ∙ picked-add (taken c 0 st j) (gray k) (2 ^ b))
 
 moves-taken : (c b m r j : ℕ) → moves c b m r j ≡ map (picked (place-columns m r j)) (taken c b (steps m r) j)
@@ -83,7 +80,7 @@ module _ (m r : ℕ) (a : accepted m r ≡ true) where
       picked-append (take 4 (place-columns m r j)) (moves c 0 m r j) b
       ∙ ap₂ xor (picked-take 4 (place-columns m r j) b)
       (ap₂ (λ (es : List ℕ) (k : ℕ). picked es (b / 2 ^ k)) (moves-taken c 0 m r j) (four-lanes j h)
-      ∙ sym (picked-through (place-columns m r j) (taken c 0 (steps m r) j) (b / 16)))
+      ∙ sym (picked-map (picked (place-columns m r j)) (picked-add (place-columns m r j)) (taken c 0 (steps m r) j) (b / 16)))
 
   visited-is : (i : ℕ) → i < 16 * turns m r → (j : ℕ) → j < 4 → visited m r i j ≡ combined m r (sum-of i) j
   unfolding visited turns sum-of marked

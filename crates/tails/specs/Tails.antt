@@ -12,6 +12,7 @@ use lib.ListN.{getD, take}
 use Rattle.field.specs.Field.{xor}
 use Rattle.code.specs.Code.{long, syndrome-long, configuration-long}
 use Rattle.split.specs.Split.{column}
+use Rattle.split.specs.Members.{picked}
 
 -- a for a 0, b for a 1 (for any number but 0)
 abbrev pub pick : ℕ → ℕ → ℕ → ℕ
@@ -42,11 +43,6 @@ heads m q =
 -- the coset of each word with a single 1, by the position of the 1: the sum of these where a layer has a 1 is the coset of the layer
 unfoldable pub columns : (m r : ℕ) → List ℕ
 columns m r = heads m (syndrome-long m r) ++ tail-columns (syndrome-long m r)
-
--- the sum of the entries that the 1 bits of k pick
-unfoldable pub picked : (entries : List ℕ) → (k : ℕ) → ℕ
-picked [] k = 0
-picked (e ∷ es) k = xor (pick (k % 2) 0 e) (picked es (k / 2))
 
 -- THE WALK. A place of a layer stands for a coset of it: the cosets of the place's bits, four for the lanes and then those of the rows
 abbrev pub slot : ℕ → (a b c d : List ℕ) → List ℕ
