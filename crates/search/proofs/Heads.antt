@@ -1,7 +1,7 @@
--- The columns of a code that may be chosen: as many as positions, below the number of cosets and not 0, the last ones the powers of two; and room for
+-- The columns of a code that may be chosen: below the number of cosets and not 0, the last ones the powers of two; and room for
 -- the tables that are kept and for the places of the walk.
 -- Assumes nothing.
-use Rattle.basics.proofs.Kit.{_≡_, Bool, true, cond, ℕ, suc, _+_, _-_, _*_, _^_, _≤_, _<_, arith, length, getD, eqb, ltb, leb}
+use Rattle.basics.proofs.Kit.{_≡_, Bool, true, cond, ℕ, suc, _+_, _-_, _*_, _^_, _≤_, _<_, getD, eqb, ltb, leb}
 use mathlib.Core.Path.{subst}
 use lib.Dec.{T, eqb→eq, leb→le, ltb→lt}
 use borrow.Author.Tests.{le-leb}
@@ -13,10 +13,6 @@ use Rattle.spots.specs.Spots.{slot-bits, room-from, slots-from, slots}
 use Rattle.tails.proofs.Accepted.{tested}
 
 module _ (m r : ℕ) (a : accepted m r ≡ true) where
-  pub columns-long : length (columns m r) ≡ long m
-  unfolding columns heads tail-columns long
-  columns-long = eqb→eq (length (columns m r)) (long m) (tested (λ m r. eqb (length (columns m r)) (long m)) tt m r a)
-
   pub column-in : (i : ℕ) → i < long m → getD (columns m r) i 0 < 2 ^ syndrome-long m r
   unfolding columns heads tail-columns long
   column-in i h =

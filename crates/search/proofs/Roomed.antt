@@ -11,6 +11,7 @@ use Rattle.walk.specs.Walk.{start}
 use Rattle.spots.specs.Promise.{Walks}
 use Rattle.spots.proofs.Walks.{walks}
 use Rattle.search.specs.Within.{slots-of, Roomy}
+use Rattle.tails.proofs.Codewords.{columns-long}
 use Rattle.search.proofs.Heads as H
 use Rattle.search.proofs.Prepared.{long-le}
 
@@ -44,4 +45,4 @@ module _ {s : Shape} (z : Coded s) where
   headed x e = ap (λ (k : ℕ). take k x) (z .n-is) ∙ e
 
   pub headed-long : (x : List ℕ) → take (long (s .m)) x ≡ columns (s .m) (s .r) → s .n ≡ length (take (s .n) x)
-  headed-long x e = sym (ap length (headed x e) ∙ H.columns-long (s .m) (s .r) (z .accepted-is) ∙ sym (z .n-is))
+  headed-long x e = sym (ap length (headed x e) ∙ columns-long (s .m) (s .r) (z .accepted-is) ∙ sym (z .n-is))

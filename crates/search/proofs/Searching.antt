@@ -33,7 +33,7 @@ use Rattle.search.specs.Within.{cap, bound, Input, Tabled, Laid, Ties, S
 use Rattle.tails.proofs.Walk.{codewords-visited}
 use Rattle.spots.proofs.Walks.{walks, spot-visited, visited-inside, visited-high}
 use Rattle.coset.proofs.Search as C
-use Rattle.search.proofs.Heads.{columns-long}
+use Rattle.tails.proofs.Codewords.{columns-long}
 
 module _ {asked : Bool} {s : Shape} {row : List ℤ} {hs zs os t : List ℕ} {kept : List ℤ} (z : Input s row) (b : Tabled asked s row hs zs os t kept) where
   abbrev coset : ℕ → ℕ → ℕ

@@ -12,6 +12,7 @@ use Rattle.metric.proofs.Bounds.{row-at, costs-le}
 use Rattle.coset.specs.Coset.{Layers, Keys, Kept, Room}
 use Rattle.bridge.specs.Bridge.{reliability, Costed}
 use Rattle.search.specs.Within.{Costs-within, Input, Buffers, Tabled}
+use Rattle.tails.proofs.Codewords.{columns-long}
 use Rattle.search.proofs.Heads as H
 use Rattle.search.proofs.Prepared.{long-le}
 
@@ -41,7 +42,7 @@ module _ {s : Shape} {row : List ℤ} (z : Input s row) where
     -- after the costs are written
     module _ {hs zs' os' : List ℕ} (h : hs ≡ columns (s .m) (s .r)) (k : Costed (s .m) (s .n) row zs' os') (lz : length zs' ≡ length zs) (lo : length os' ≡ length os) where
       many : length hs ≡ long (s .m)
-      many = ap length h ∙ H.columns-long (s .m) (s .r) (z .coded .accepted-is)
+      many = ap length h ∙ columns-long (s .m) (s .r) (z .coded .accepted-is)
 
       same-n : length hs ≡ s .n
       same-n = many ∙ sym (z .coded .n-is)

@@ -6,10 +6,10 @@ use lib.Seq.{getD-set-same, getD-set-other}
 use native.Mathlib.Numerals.{add-one}
 use native.Mathlib.Decide.{decLe}
 use lib.Bits.{bitAnd, bitOr, and-le-l, and-le-r, or-add-and}
+use Rattle.lanes.proofs.Rows.{four}
 use Rattle.walk.specs.Walk.{start}
 use Rattle.ties.specs.Ties.{word-at}
 use Rattle.ties.specs.Turn.{Spans, One-word}
-use Rattle.ties.proofs.Turns.{each4}
 
 -- one place more
 pub spans-more : (places g : List ℕ) (r a e low high x y : ℕ) → Spans places g r a e low high → (getD g e 0 ≡ r → x ≡ getD places e 0) → (getD g e 0 ≡ r → y ≡ getD places e 0) → Spans places g r a (e + 1) (bitAnd low x) (bitOr high y)
@@ -32,7 +32,7 @@ one-word sl t places g r j {a} {e} {low} ea ee h q p l u m =
 
 -- every slot ends within
 pub slot-ends : (sl : List ℕ) → ((j : ℕ) → j < 4 → start sl j ≤ start sl (j + 1)) → (j : ℕ) → j < 4 → start sl (j + 1) ≤ start sl 4
-slot-ends sl h = each4 (λ j. start sl (j + 1) ≤ start sl 4) (omega (arith, h 1 (omega arith), h 2 (omega arith), h 3 (omega arith))) (omega (arith, h 2 (omega arith), h 3 (omega arith))) (omega (arith, h 3 (omega arith))) (omega arith)
+slot-ends sl h = four (λ j. start sl (j + 1) ≤ start sl 4) (omega (arith, h 1 (omega arith), h 2 (omega arith), h 3 (omega arith))) (omega (arith, h 2 (omega arith), h 3 (omega arith))) (omega (arith, h 3 (omega arith))) (omega arith)
 
 -- words written over the first k places
 pub record Written (t before now : List ℕ) (k : ℕ) : Type 0 where

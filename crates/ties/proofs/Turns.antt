@@ -1,6 +1,7 @@
 -- A turn of the second walk, lane by lane, and what the turns so far leave.
 -- Assumes nothing.
 use Rattle.basics.proofs.Kit.{_≡_, refl, sym, Bool, true, false, _&&_, not, cond, List, ℕ, zero, suc, _+_, _*_, _/_, _%_, _≤_, _<_, arith, eqb, ltb}
+use mathlib.Core.Bool.{false≢true}
 use native.Mathlib.Numerals.{add-one}
 use native.Mathlib.Decide.{decLe}
 use borrow.Author.Tests.{eqb-true, eq-eqb, lt-ltb, le-ltb}
@@ -12,13 +13,13 @@ use Rattle.walk.proofs.Turns.{Standing, rows-in, sums-small}
 use Rattle.ties.specs.Ties.{number-of, words}
 use Rattle.ties.specs.Turn.{four, words-at, Rows, earlier, meet, None-costs, Before-all}
 
--- a rule at each number below 4, one by one
-pub each4 : (P : ℕ → Type 0) → P 0 → P 1 → P 2 → P 3 → Each 4 P
-each4 P a b c d zero l = a
-each4 P a b c d (suc zero) l = b
-each4 P a b c d (suc (suc zero)) l = c
-each4 P a b c d (suc (suc (suc zero))) l = d
-each4 P a b c d (suc (suc (suc (suc j)))) l = absurd (omega arith)
+-- what is chosen where two numbers are the same
+pub value-same : (o : ℕ) {a b v r : ℕ} → r ≡ cond (eqb a b) v o → a ≡ b → r ≡ v
+value-same o {a} {b} e h = rw (eq-eqb a b h) at e
+
+pub both-true : (a b : Bool) → a && b ≡ true → (a ≡ true) × (b ≡ true)
+both-true true b e = (refl, e)
+both-true false b e = absurd (false≢true e)
 
 -- a test of the lanes below x, and of one more
 pub none-more : {P : ℕ → Type 0} {any one x : ℕ} → (any ≡ 0 → Each x P) → (one ≡ 0 → P x) → bitOr any one ≡ 0 → Each (x + 1) P

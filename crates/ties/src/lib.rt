@@ -1,9 +1,9 @@
 // Of the tuples that cost the least, the one whose word comes first: where the words of all places that take part agree, these; else a second walk.
 // Its functions are for the crates above; their promises cite specs/Ties.antt.
 ghost use mathlib.Core.Path.{_≡_};
-ghost use mathlib.Core.Bool.{true};
+ghost use mathlib.Core.Bool.{true, cond, _&&_};
 ghost use Prim.Native.Nat.{ℕ, _+_, _<_, _≤_};
-ghost use lib.Dec.{ltb};
+ghost use lib.Dec.{eqb, ltb};
 ghost use lib.ListN.{length, getD};
 ghost use Rattle.lanes.specs.Lanes.{limit};
 ghost use Rattle.walk.specs.Walk.{start, Slots};
@@ -13,7 +13,7 @@ ghost use Rattle.ties.specs.Turn.{four, words-at, Inside, Rows, earlier,
 
 // v where two numbers are the same, else another.
 fn value_if(a: u16, b: u16, v: u16, other: u16) -> u16
-    ensures { λ r. ⌜ (a ≡ b → r ≡ v) ⌝ }
+    ensures { λ r. ⌜ r ≡ cond (eqb a b) v other ⌝ }
 {
     if a == b { v } else { other }
 }
@@ -92,7 +92,7 @@ fn slot_word(g: &[u16], t: &[u32], places: &[u16], sl: &[u16], j: usize, least: 
 
 // Whether both of two are true.
 fn both(a: bool, b: bool) -> bool
-    ensures { λ r. ⌜ (r ≡ true → (a ≡ true) × (b ≡ true)) ⌝ }
+    ensures { λ r. ⌜ r ≡ a && b ⌝ }
 {
     if a { b } else { false }
 }

@@ -2,7 +2,7 @@
 -- Assumes nothing.
 use Rattle.basics.proofs.Kit.{_≡_, _∙_, _-_, _≤_, arith, needs}
 use Rattle.ties.specs.Turn.{None-costs}
-use Rattle.ties.proofs.Turns.{none-more}
+use Rattle.ties.proofs.Turns.{none-more, value-same}
 use Rattle.ties.proofs.any_costs.Statement.{statement}
 use Rattle.ties.proofs.any_costs.Tie as tie
 
@@ -18,7 +18,7 @@ cost-of-requires c κs = let s = c .before .before .before in
 
 loop-again : tie.Need-loop-again Inv-loop μ-loop
 loop-again c =
-    (omega arith, none-more (c .before .before .before .loop .inv .1) (λ z e. omega (arith, c .value-if .ensures (c .before .cost-of .ensures ∙ e))))
+    (omega arith, none-more (c .before .before .before .loop .inv .1) (λ z e. omega (arith, value-same 0 (c .value-if .ensures) (c .before .cost-of .ensures ∙ e))))
 
 pub any-costs-spec : {M : Type 1} → statement M
 any-costs-spec =

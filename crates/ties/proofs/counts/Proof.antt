@@ -4,7 +4,7 @@ use Rattle.basics.proofs.Kit.{_≡_, sym, ap, ap₂, _∙_, arith, ltb, needs}
 use borrow.Author.Tests.{ltb-true}
 use Rattle.ties.specs.Ties.{number-of}
 use Rattle.ties.specs.Turn.{four, words-at}
-use Rattle.ties.proofs.Turns.{one-by-one}
+use Rattle.ties.proofs.Turns.{value-same, one-by-one}
 use Rattle.ties.proofs.counts.Statement.{statement}
 use Rattle.ties.proofs.counts.Tie as tie
 
@@ -16,7 +16,7 @@ returns c = let p = c .before .before .before in
     λ _ _. ltb-true _ _ (sym h ∙ c .if1 .taken)
 
 returns-2 : tie.Need-returns-2
-returns-2 c z e = omega (arith, c .value-if .ensures (c .before .before .before .cost-of .ensures ∙ e))
+returns-2 c z e = omega (arith, value-same 0 (c .value-if .ensures) (c .before .before .before .cost-of .ensures ∙ e))
 
 pub counts-spec : {M : Type 1} → statement M
 counts-spec =

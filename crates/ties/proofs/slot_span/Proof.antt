@@ -3,6 +3,7 @@
 use Rattle.basics.proofs.Kit.{_-_, arith, needs}
 use Rattle.ties.specs.Turn.{Spans}
 use Rattle.ties.proofs.Spans.{spans-more}
+use Rattle.ties.proofs.Turns.{value-same}
 use Rattle.ties.proofs.slot_span.Statement.{statement}
 use Rattle.ties.proofs.slot_span.Tie as tie
 
@@ -15,7 +16,7 @@ abbrev μ-loop : tie.MeasureT-loop
 loop-again : tie.Need-loop-again Inv-loop μ-loop
 loop-again c = let a = c .before .before .before .before .before .before .before .before .args in
     let l = c .before .before .before .before .before .loop in
-    spans-more (a .places .now) (a .g .now) (a .least) (a .a) (l .p) (l .low) (l .high) (c .before .value-if .result) (c .value-if2 .result) (l .inv) (c .before .value-if .ensures) (c .value-if2 .ensures)
+    spans-more (a .places .now) (a .g .now) (a .least) (a .a) (l .p) (l .low) (l .high) (c .before .value-if .result) (c .value-if2 .result) (l .inv) (value-same 65535 (c .before .value-if .ensures)) (value-same 0 (c .value-if2 .ensures))
 
 pub slot-span-spec : {M : Type 1} → statement M
 slot-span-spec =
