@@ -1,6 +1,6 @@
 -- Tables of costs kept as signed numbers, and restored.
 -- Assumes nothing.
-use Rattle.basics.proofs.Kit.{_≡_, refl, sym, ap, _∙_, Bool, true, false, List, ℕ, suc, _+_, _-_, _*_, _/_, _^_, _≤_, _<_, arith, length, getD, set, ℤ, pos, negsuc, natAbs}
+use Rattle.basics.proofs.Kit.{_≡_, refl, sym, ap, _∙_, Bool, false, List, ℕ, suc, _+_, _-_, _*_, _/_, _^_, _≤_, _<_, arith, length, getD, set, ℤ, pos, negsuc, natAbs}
 use native.Mathlib.Nat.{suc-mul}
 use native.Mathlib.Decide.{ℕ-discrete}
 use lib.Dec.{T}
@@ -36,15 +36,15 @@ copied-more {t} {at} {n} {kept₀} {kept} f l s = record {
     go k lk (yes e) = rw e (getD-set-same kept (at + n) x (pos 0) l ∙ toZ-pos w32 (cost-small (getD t n 0) s))
     go k lk (no m) = getD-set-other kept (at + n) (at + k) x (pos 0) (λ e. m (omega arith)) ∙ f .here k (omega arith)
 
-pub keeps-none : {asked : Bool} {t : List ℕ} {kept : List ℤ} (i : ℕ) → (asked ≡ true → i ≡ 0) → Keeps asked i t kept kept
-keeps-none i e = record { long = refl; here = λ k y p l. absurd (omega (arith, e y)); rest = λ k l. refl }
+pub keeps-none : {i : ℕ} {t : List ℕ} {kept : List ℤ} → i ≡ 0 → Keeps i t kept kept
+keeps-none e = record { long = refl; here = λ k p l. absurd (omega arith); rest = λ k l. refl }
 
 -- the last place of table i
 pub table-end : (i n : ℕ) → 0 < i → (i - 1) * n + n ≡ i * n
 table-end i n p = let e : i ≡ suc (i - 1) = omega arith in omega (arith, suc-mul (i - 1) n, ap (λ (k : ℕ). k * n) e)
 
-pub keeps : {asked : Bool} {i : ℕ} {t : List ℕ} {kept kept' : List ℤ} → 0 < i → Copied t ((i - 1) * length t) (length t) kept kept' → Keeps asked i t kept kept'
-keeps {asked} {i} {t} p f = record { long = f .long; here = λ k y q l. f .here k l; rest = λ k l. f .rest k (omega (arith, table-end i (length t) p)) }
+pub keeps : {i : ℕ} {t : List ℕ} {kept kept' : List ℤ} → 0 < i → Copied t ((i - 1) * length t) (length t) kept kept' → Keeps i t kept kept'
+keeps {i} {t} p f = record { long = f .long; here = λ k q l. f .here k l; rest = λ k l. f .rest k (omega (arith, table-end i (length t) p)) }
 
 -- a cost comes back as it was
 back : (x : ℤ) → (c : Cost x) → toZ w32 (ofZ w32 x) ≡ pos (c .value)

@@ -8,7 +8,7 @@ use Rattle.field.specs.Field.{xor}
 use Rattle.field.proofs.Xor as X
 use Rattle.lanes.specs.Lanes.{entry, lane, row, put}
 use Rattle.lanes.proofs.Rows.{row-at, length-put, put-other, put-at}
-use Rattle.rows.specs.Rows.{sum, less, limit}
+use Rattle.rows.specs.Rows.{sum, less}
 use Rattle.rows.proofs.Rows.{sum-at, less-at}
 use Rattle.trellis.specs.Trellis.{step}
 use Rattle.coset.specs.Coset.{Free, Freed}
@@ -38,26 +38,26 @@ pub record Running (h size from to : ℕ) (z o t₀ : List ℕ) (s : ℕ) (t : L
   pub long : length t ≡ length t₀
   pub ran : RanRows h size from s z o t₀ t
 
-module _ {h size from to : ℕ} {t₀ z o : List ℕ} (a : Run h size from to t₀ z o) {s : ℕ} {t : List ℕ} (f : Running h size from to z o t₀ s t) (l : s < to) where
+module _ {l h size from to : ℕ} {t₀ z o : List ℕ} (a : Run l h size from to t₀ z o) {s : ℕ} {t : List ℕ} (f : Running h size from to z o t₀ s t) (below : s < to) where
   wide : (v : ℕ) → v < size → xor v h < size
   wide = over (a .q) size h (a .size-is) (a .inside)
 
   up : s < xor s h
-  up = a .up s (f .at-least) l
+  up = a .up s (f .at-least) below
 
   in-s : s < size
   in-s = omega (arith, a .to-in)
 
-  room-at : (v : ℕ) → v < size → s ≤ leader h v → (j : ℕ) → j < 4 → (lane (row t v) j + lane z j < limit) × (lane (row t v) j + lane o j < limit)
+  room-at : (v : ℕ) → v < size → s ≤ leader h v → (j : ℕ) → j < 4 → (lane (row t v) j + lane z j < l) × (lane (row t v) j + lane o j < l)
   room-at v b x j lj = rw (row-at t v j lj, f .ran j lj .after v b x) (a .room v j b (omega (arith, f .at-least)) lj)
 
-  room-s : (j : ℕ) → j < 4 → (lane (row t s) j + lane z j < limit) × (lane (row t s) j + lane o j < limit)
+  room-s : (j : ℕ) → j < 4 → (lane (row t s) j + lane z j < l) × (lane (row t s) j + lane o j < l)
   room-s = room-at s in-s (omega (arith, up))
 
-  room-u : (j : ℕ) → j < 4 → (lane (row t (xor s h)) j + lane z j < limit) × (lane (row t (xor s h)) j + lane o j < limit)
+  room-u : (j : ℕ) → j < 4 → (lane (row t (xor s h)) j + lane z j < l) × (lane (row t (xor s h)) j + lane o j < l)
   room-u = room-at (xor s h) (wide s in-s) (omega (arith, up, same-leader h s))
 
-  pub pair-asks : Pair t s (xor s h) z o
+  pub pair-asks : Pair l t s (xor s h) z o
   pair-asks = record {
     s-in = omega (arith, f .long, a .long, in-s);
     u-in = omega (arith, f .long, a .long, wide s in-s);
@@ -103,7 +103,7 @@ pub record Blocks (h size step : ℕ) (z o t₀ : List ℕ) (base : ℕ) (t : Li
 pub blocks-start : {h size step : ℕ} {z o t₀ : List ℕ} → Blocks h size step z o t₀ 0 t₀
 blocks-start = record { c = 0; base-is = omega arith; base-in = omega arith; long = refl; ran = λ j lj. ran-none }
 
-module _ {q h size step : ℕ} {t₀ z o : List ℕ} (a : Free q size h t₀ z o) (p : Top h step) {base : ℕ} {t : List ℕ} (f : Blocks h size step z o t₀ base t) (l : base < size) where
+module _ {l q h size step : ℕ} {t₀ z o : List ℕ} (a : Free l q size h t₀ z o) (p : Top h step) {base : ℕ} {t : List ℕ} (f : Blocks h size step z o t₀ base t) (below : base < size) where
   twice : step + step ≡ 2 ^ suc (p .e)
   twice = omega (arith, p .power, two-pow-succ (p .e))
 
@@ -123,7 +123,7 @@ module _ {q h size step : ℕ} {t₀ z o : List ℕ} (a : Free q size h t₀ z o
           let c-in : f .c < 2 ^ k = lt-of-mul-lt-mul-right (2 ^ suc (p .e)) (omega (arith, begin)) in
           omega (arith, begin, twice, m, mul-le-mul-right (2 ^ suc (p .e)) c-in, suc-mul (f .c) (2 ^ suc (p .e)))
 
-  pub run-asks : Run h size base (base + step) t z o
+  pub run-asks : Run l h size base (base + step) t z o
   run-asks = record {
     q = q;
     size-is = a .size-is;

@@ -1,17 +1,19 @@
 -- The tables of the search, from the tails to position 0: what each loop keeps.
 -- Assumes nothing.
-use Rattle.basics.proofs.Kit.{_≡_, refl, sym, ap, _∙_, Bool, true, List, ℕ, suc, _+_, _-_, _*_, _/_, _^_, _≤_, _<_, arith, length, getD, ℤ, pos}
+use Rattle.basics.proofs.Kit.{_≡_, refl, sym, ap, _∙_, List, ℕ, suc, _+_, _-_, _*_, _/_, _^_, _≤_, _<_, arith, length, getD, ℤ, pos}
 use native.Mathlib.Nat.{two-pow-succ, suc-mul, one-mul, mul-le-mul-right}
 use native.Mathlib.Decide.{decLe, ℕ-discrete}
 use Rattle.field.specs.Field.{xor}
-use Rattle.lanes.specs.Lanes.{entry, lane, lanes, row, put}
-use Rattle.lanes.proofs.Rows.{lanes-at, row-at, length-put, put-other, put-at}
+use Rattle.lanes.specs.Lanes as L
+use Rattle.lanes.specs.Lanes.{entry, lane, row, put}
+use Rattle.lanes.proofs.Rows.{row-at, length-put, put-other, put-at}
+use Rattle.rows.specs.Rows.{limit, Small}
 use Rattle.trellis.specs.Trellis.{step}
 use Rattle.coset.specs.Coset.{least, Layers, Costs, Keys, Kept, Free, Freed}
-use Rattle.coset.specs.Runs.{Fits, Double, Doubled, keyed, Keyable, Tails, Numbered, Behind, Keeps}
+use Rattle.coset.specs.Runs.{Double, Doubled, keyed, Keyable, Tails, Numbered, Behind, Keeps}
 use Rattle.coset.proofs.Pairs.{powers, over}
 use Rattle.coset.proofs.Doubling.{keyed-at}
-use Rattle.coset.proofs.Least.{tail-at, tail-zero, tail-one, key-more, first-lt, key-cost, least-le}
+use Rattle.coset.proofs.Least.{tail-at, tail-zero, tail-one, least-step, key-more, first-lt, key-cost, least-le}
 
 -- THE TAILS: the rows below half are those from position i on
 pub record Tailing (q size : ℕ) (hs zs os : List ℕ) (half i : ℕ) (g : List ℕ) : Type 0 where
@@ -35,20 +37,14 @@ module _ {q size : ℕ} {hs zs os : List ℕ} (a : Layers q size hs zs os) where
   top-lt {i} l = let p : 1 ≤ n = omega arith in omega (arith, mul-le-mul-right (a .top) p, one-mul (a .top), a .room)
 
   -- the costs of a column fit 16 bits
-  pub zeros-fit : {i : ℕ} → i < n → Fits (row zs i)
+  pub zeros-fit : {i : ℕ} → i < n → Small (2 ^ 16) (row zs i)
   zeros-fit {i} l j lj = omega (arith, row-at zs i j lj, a .cost-zs i j l lj, top-lt l)
 
-  pub ones-fit : {i : ℕ} → i < n → Fits (row os i)
+  pub ones-fit : {i : ℕ} → i < n → Small (2 ^ 16) (row os i)
   ones-fit {i} l j lj = omega (arith, row-at os i j lj, a .cost-os i j l lj, top-lt l)
 
-  zero-at : (i j : ℕ) → j < 4 → lane (lanes (lane (row zs i))) j ≡ entry zs i j
-  zero-at i j lj = lanes-at (lane (row zs i)) j lj ∙ row-at zs i j lj
-
-  one-at : (i j : ℕ) → j < 4 → lane (lanes (lane (row os i))) j ≡ entry os i j
-  one-at i j lj = lanes-at (lane (row os i)) j lj ∙ row-at os i j lj
-
   -- the last position
-  pub tail-start : (g : List ℕ) {g' : List ℕ} → length g ≡ size * 4 → g' ≡ put (put g 0 (lanes (lane (row zs (n - 1))))) 1 (lanes (lane (row os (n - 1)))) →
+  pub tail-start : (g : List ℕ) {g' : List ℕ} → length g ≡ size * 4 → g' ≡ put (put g 0 (row zs (n - 1))) 1 (row os (n - 1)) →
       Tailing q size hs zs os 2 (n - 1) g'
   tail-start g e x = rw x record {
     long = length-put g0 1 o ∙ length-put g 0 z ∙ e;
@@ -59,10 +55,10 @@ module _ {q size : ℕ} {hs zs os : List ℕ} (a : Layers q size hs zs os) where
   }
     where
       z : List ℕ
-      z = lanes (lane (row zs (n - 1)))
+      z = row zs (n - 1)
 
       o : List ℕ
-      o = lanes (lane (row os (n - 1)))
+      o = row os (n - 1)
 
       g0 : List ℕ
       g0 = put g 0 z
@@ -77,14 +73,14 @@ module _ {q size : ℕ} {hs zs os : List ℕ} (a : Layers q size hs zs os) where
             arith,
             put-other g0 1 o (0 * 4 + j) (λ c d. omega arith),
             put-at g 0 z (omega (arith, rows-in g e)) j lj,
-            zero-at (n - 1) j lj,
+            row-at zs (n - 1) j lj,
             tail-zero a lj (a .some) t 0 (omega arith),
             t .near 0 (omega arith),
           ))
       go s j lj (no d) ls =
           let t = tail-at a lj 0 (omega arith) in
           let c : s ≡ 1 = omega arith in
-          rw c (omega (arith, put-at g0 1 o (omega (arith, fits)) j lj, one-at (n - 1) j lj, tail-one a lj (a .some) t 0 (omega arith), t .near 0 (omega arith)))
+          rw c (omega (arith, put-at g0 1 o (omega (arith, fits)) j lj, row-at os (n - 1) j lj, tail-one a lj (a .some) t 0 (omega arith), t .near 0 (omega arith)))
 
   module _ {half i : ℕ} {g : List ℕ} (f : Tailing q size hs zs os half i g) (l : n - q < i) where
     abbrev k : ℕ
@@ -122,17 +118,17 @@ module _ {q size : ℕ} {hs zs os : List ℕ} (a : Layers q size hs zs os) where
           a .room,
         )
 
-    pub double-asks : Double half g (lanes (lane (row zs (i - 1)))) (lanes (lane (row os (i - 1))))
+    pub double-asks : Double half g (row zs (i - 1)) (row os (i - 1))
     double-asks = record {
       inside = omega (arith, tail-fits, f .long);
       even = let e : k ≡ suc (k - 1) = omega (arith, f .inside) in omega (arith, f .half-is, ap (λ (x : ℕ). 2 ^ x) e, two-pow-succ (k - 1));
       room = λ s j ls lj. (
-        omega (arith, near s j ls lj, zero-at (i - 1) j lj, a .cost-zs (i - 1) j li lj, top-lt li),
-        omega (arith, near s j ls lj, one-at (i - 1) j lj, a .cost-os (i - 1) j li lj, top-lt li),
+        omega (arith, near s j ls lj, row-at zs (i - 1) j lj, a .cost-zs (i - 1) j li lj, top-lt li),
+        omega (arith, near s j ls lj, row-at os (i - 1) j lj, a .cost-os (i - 1) j li lj, top-lt li),
       );
     }
 
-    pub tail-next : {g' : List ℕ} → Doubled half half (lanes (lane (row zs (i - 1)))) (lanes (lane (row os (i - 1)))) g g' → Tailing q size hs zs os (half + half) (i - 1) g'
+    pub tail-next : {g' : List ℕ} → Doubled half half (row zs (i - 1)) (row os (i - 1)) g g' → Tailing q size hs zs os (half + half) (i - 1) g'
     tail-next {g'} d = record {
       long = d .long ∙ f .long;
       inside = omega (arith, f .inside);
@@ -147,7 +143,7 @@ module _ {q size : ℕ} {hs zs os : List ℕ} (a : Layers q size hs zs os) where
             omega (
               arith,
               d .zeros s j lo lj,
-              zero-at (i - 1) j lj,
+              row-at zs (i - 1) j lj,
               f .costs s j lo lj,
               tail-zero a lj lk (tail-at a lj k (omega (arith, lk))) s (omega (arith, f .half-is)),
               ap (λ (x : ℕ). least hs zs os x j s) here,
@@ -163,7 +159,7 @@ module _ {q size : ℕ} {hs zs os : List ℕ} (a : Layers q size hs zs os) where
               arith,
               ap (λ (x : ℕ). entry g' x j) e,
               d .ones u j lo lj,
-              one-at (i - 1) j lj,
+              row-at os (i - 1) j lj,
               f .costs u j lo lj,
               tail-one a lj lk (tail-at a lj k (omega (arith, lk))) u (omega (arith, f .half-is)),
               ap (least hs zs os (n - suc k) j) e',
@@ -204,56 +200,83 @@ module _ {q size : ℕ} {hs zs os : List ℕ} (a : Layers q size hs zs os) where
     keys = λ s j ls lj. omega (arith, r .keys s j ls lj, f .costs s j ls lj, tail-at a lj q (omega arith) .own s (omega (arith, a .size-is)));
   }
 
-  -- A HEAD MORE
-  module _ {i bit : ℕ} {t : List ℕ} (b : Behind q size hs zs os i bit t) where
-    abbrev d : ℕ
-    d = n - suc i
+  -- A HEAD MORE: the column leads from row to row, and with another cost there is room
+  at : {i : ℕ} → i + q < n → i < n
+  at l = omega arith
 
-    pub at : i < n
-    at = omega (arith, b .inside)
-
+  module _ (i : ℕ) (inside : i + q < n) where
     across : (s : ℕ) → s < size → xor s (getD hs i 0) < size
-    across = over q size (getD hs i 0) (a .size-is) (a .inside i at)
+    across = over q size (getD hs i 0) (a .size-is) (a .inside i (at inside))
 
-    bit-small : bit + bit ≤ 2 ^ 15
-    bit-small = omega (arith, b .bit-is, two-pow-succ d, powers (suc d) 15 (omega (arith, a .few, at)))
-
-    pub zeros-key : Keyable (row zs i) 0
-    zeros-key j lj = omega (arith, row-at zs i j lj, a .cost-zs i j at lj, top-lt at)
-
-    pub ones-key : Keyable (row os i) bit
-    ones-key j lj = omega (arith, row-at os i j lj, a .cost-os i j at lj, top-lt at, bit-small)
-
-    zero-key-at : (j : ℕ) → j < 4 → lane (keyed (row zs i) 0) j ≡ entry zs i j * 65536
-    zero-key-at j lj = omega (arith, keyed-at (row zs i) 0 j lj, row-at zs i j lj)
-
-    one-key-at : (j : ℕ) → j < 4 → lane (keyed (row os i) bit) j ≡ entry os i j * 65536 + 2 ^ d
-    one-key-at j lj = omega (arith, keyed-at (row os i) bit j lj, row-at os i j lj, b .bit-is)
-
-    -- with another cost there is room
     cost-room : (s j : ℕ) → s < size → j < 4 → least hs zs os (suc i) j s + a .top < 2 ^ 15
     cost-room s j ls lj =
-        let e : n - d ≡ suc i = omega (arith, at) in
-        let p : suc d ≤ n = omega (arith, at) in
+        let d : ℕ = n - suc i in
+        let e : n - d ≡ suc i = omega arith in
+        let p : suc d ≤ n = omega arith in
         omega (
           arith,
-          least-le a lj d s (omega (arith, b .inside)) (omega arith) ls,
+          least-le a lj d s (omega arith) (omega arith) ls,
           ap (λ (x : ℕ). least hs zs os x j s) e,
           suc-mul d (a .top),
           mul-le-mul-right (a .top) p,
           a .room,
         )
 
-    pub free-asks : Free q size (getD hs i 0) t (keyed (row zs i) 0) (keyed (row os i) bit)
+  -- in costs alone
+  module _ {i : ℕ} (inside : i + q < n) {g : List ℕ} (b : Costs size hs zs os (suc i) g) where
+    pub costs-asks : Free L.limit q size (getD hs i 0) g (row zs i) (row os i)
+    costs-asks = record {
+      size-is = a .size-is;
+      inside = a .inside i (at inside);
+      some = a .heads i (at inside);
+      long = b .long;
+      room-z = λ s j ls lj. omega (arith, b .costs s j ls lj, row-at zs i j lj, a .cost-zs i j (at inside) lj, cost-room i inside s j ls lj);
+      room-o = λ s j ls lj. omega (arith, b .costs s j ls lj, row-at os i j lj, a .cost-os i j (at inside) lj, cost-room i inside s j ls lj);
+    }
+
+    pub costs-more : {g' : List ℕ} → Freed size (getD hs i 0) g (row zs i) (row os i) g' → Costs size hs zs os i g'
+    unfolding step
+    costs-more f = record {
+      long = f .long ∙ b .long;
+      costs = λ s j ls lj.
+          omega (
+            arith,
+            f .made s j ls lj,
+            least-step hs zs os j i s (at inside),
+            row-at zs i j lj,
+            row-at os i j lj,
+            b .costs s j ls lj,
+            b .costs (xor s (getD hs i 0)) j (across i inside s ls) lj,
+          );
+    }
+
+  -- in keys
+  module _ {i bit : ℕ} {t : List ℕ} (b : Behind q size hs zs os i bit t) where
+    bit-small : bit + bit ≤ 2 ^ 15
+    bit-small = omega (arith, b .bit-is, two-pow-succ (n - suc i), powers (suc (n - suc i)) 15 (omega (arith, a .few, b .inside)))
+
+    pub zeros-key : Keyable (row zs i) 0
+    zeros-key j lj = omega (arith, row-at zs i j lj, a .cost-zs i j (at (b .inside)) lj, top-lt (at (b .inside)))
+
+    pub ones-key : Keyable (row os i) bit
+    ones-key j lj = omega (arith, row-at os i j lj, a .cost-os i j (at (b .inside)) lj, top-lt (at (b .inside)), bit-small)
+
+    zero-key-at : (j : ℕ) → j < 4 → lane (keyed (row zs i) 0) j ≡ entry zs i j * 65536
+    zero-key-at j lj = omega (arith, keyed-at (row zs i) 0 j lj, row-at zs i j lj)
+
+    one-key-at : (j : ℕ) → j < 4 → lane (keyed (row os i) bit) j ≡ entry os i j * 65536 + 2 ^ (n - suc i)
+    one-key-at j lj = omega (arith, keyed-at (row os i) bit j lj, row-at os i j lj, b .bit-is)
+
+    pub free-asks : Free limit q size (getD hs i 0) t (keyed (row zs i) 0) (keyed (row os i) bit)
     free-asks = record {
       size-is = a .size-is;
-      inside = a .inside i at;
-      some = a .heads i at;
+      inside = a .inside i (at (b .inside));
+      some = a .heads i (at (b .inside));
       long = b .keys .long;
       room-z = λ s j ls lj.
-          omega (arith, b .keys .keys s j ls lj, zero-key-at j lj, a .cost-zs i j at lj, cost-room s j ls lj, first-lt hs zs os j (suc i) s, b .bit-is, bit-small);
+          omega (arith, b .keys .keys s j ls lj, zero-key-at j lj, a .cost-zs i j (at (b .inside)) lj, cost-room i (b .inside) s j ls lj, first-lt hs zs os j (suc i) s, b .bit-is, bit-small);
       room-o = λ s j ls lj.
-          omega (arith, b .keys .keys s j ls lj, one-key-at j lj, a .cost-os i j at lj, cost-room s j ls lj, first-lt hs zs os j (suc i) s, b .bit-is, bit-small);
+          omega (arith, b .keys .keys s j ls lj, one-key-at j lj, a .cost-os i j (at (b .inside)) lj, cost-room i (b .inside) s j ls lj, first-lt hs zs os j (suc i) s, b .bit-is, bit-small);
     }
 
     pub free-keys : {t' : List ℕ} → Freed size (getD hs i 0) t (keyed (row zs i) 0) (keyed (row os i) bit) t' → Keys size hs zs os i t'
@@ -264,34 +287,34 @@ module _ {q size : ℕ} {hs zs os : List ℕ} (a : Layers q size hs zs os) where
           omega (
             arith,
             f .made s j ls lj,
-            key-more hs zs os j i s at (a .few),
+            key-more hs zs os j i s (at (b .inside)) (a .few),
             zero-key-at j lj,
             one-key-at j lj,
             b .keys .keys s j ls lj,
-            b .keys .keys (xor s (getD hs i 0)) j (across s ls) lj,
+            b .keys .keys (xor s (getD hs i 0)) j (across i (b .inside) s ls) lj,
           );
     }
 
 -- THE LOOP OVER THE HEADS: the keys from position i on, and the tables kept from there on
-pub record Making (asked : Bool) (q size : ℕ) (hs zs os : List ℕ) (kept₀ : List ℤ) (t : List ℕ) (kept : List ℤ) (i bit : ℕ) : Type 0 where
+pub record Making (q size : ℕ) (hs zs os : List ℕ) (kept₀ : List ℤ) (t : List ℕ) (kept : List ℤ) (i bit : ℕ) : Type 0 where
   pub inside : i + q ≤ length hs
   pub bit-is : bit ≡ 2 ^ (length hs - i)
   pub keys : Keys size hs zs os i t
   pub long : length kept ≡ length kept₀
-  pub tables : asked ≡ true → (k s j : ℕ) → i ≤ k → 0 < k → k < length hs - q → s < size → j < 4 →
+  pub tables : (k s j : ℕ) → i ≤ k → 0 < k → k < length hs - q → s < size → j < 4 →
       getD kept ((k - 1) * (size * 4) + (s * 4 + j)) (pos 0) ≡ pos (least hs zs os k j s)
 
 module _ {q size : ℕ} {hs zs os : List ℕ} (a : Layers q size hs zs os) where
-  pub make-start : {asked : Bool} {t : List ℕ} {kept : List ℤ} → Keys size hs zs os (length hs - q) t → Making asked q size hs zs os kept t kept (length hs - q) size
+  pub make-start : {t : List ℕ} {kept : List ℤ} → Keys size hs zs os (length hs - q) t → Making q size hs zs os kept t kept (length hs - q) size
   make-start f = record {
     inside = omega (arith, a .fits);
     bit-is = let e : length hs - (length hs - q) ≡ q = omega (arith, a .fits) in rw e (a .size-is);
     keys = f;
     long = refl;
-    tables = λ y k s j l o u. absurd (omega arith);
+    tables = λ k s j l o u. absurd (omega arith);
   }
 
-  module _ {asked : Bool} {kept₀ kept : List ℤ} {t : List ℕ} {i bit : ℕ} (f : Making asked q size hs zs os kept₀ t kept i bit) (p : 0 < i) where
+  module _ {kept₀ kept : List ℤ} {t : List ℕ} {i bit : ℕ} (f : Making q size hs zs os kept₀ t kept i bit) (p : 0 < i) where
     whole : suc (i - 1) ≡ i
     whole = omega arith
 
@@ -309,28 +332,28 @@ module _ {q size : ℕ} {hs zs os : List ℕ} (a : Layers q size hs zs os) where
           let l : i - 1 ≤ length hs - q - 1 = omega (arith, f .inside) in
           rw (b .long) (omega (arith, mul-le-mul-right (size * 4) l, f .long))
 
-      pub make-next : {kept' : List ℤ} → Keeps asked (i - 1) t' kept kept' → Making asked q size hs zs os kept₀ t' kept' (i - 1) (bit + bit)
+      pub make-next : {kept' : List ℤ} → Keeps (i - 1) t' kept kept' → Making q size hs zs os kept₀ t' kept' (i - 1) (bit + bit)
       make-next {kept'} r = record {
         inside = omega (arith, f .inside);
         bit-is = let e : length hs - (i - 1) ≡ suc (length hs - i) = omega (arith, f .inside, a .some) in rw e (omega (arith, f .bit-is, two-pow-succ (length hs - i)));
         keys = b;
         long = r .long ∙ f .long;
-        tables = λ y k s j l o u ls lj. go y k s j l o u ls lj (ℕ-discrete k (i - 1));
+        tables = λ k s j l o u ls lj. go k s j l o u ls lj (ℕ-discrete k (i - 1));
       }
         where
-          go : asked ≡ true → (k s j : ℕ) → i - 1 ≤ k → 0 < k → k < length hs - q → s < size → j < 4 → Dec (k ≡ i - 1) →
+          go : (k s j : ℕ) → i - 1 ≤ k → 0 < k → k < length hs - q → s < size → j < 4 → Dec (k ≡ i - 1) →
               getD kept' ((k - 1) * (size * 4) + (s * 4 + j)) (pos 0) ≡ pos (least hs zs os k j s)
-          go y k s j l o u ls lj (yes e) =
+          go k s j l o u ls lj (yes e) =
               rw e (ap (λ (x : ℕ). getD kept' ((i - 1 - 1) * x + (s * 4 + j)) (pos 0)) (sym (b .long))
-              ∙ r .here (s * 4 + j) y (omega arith) (omega (arith, b .long))
+              ∙ r .here (s * 4 + j) (omega arith) (omega (arith, b .long))
               ∙ ap (λ (x : ℕ). pos (x / 65536)) (b .keys s j ls lj)
               ∙ ap pos (key-cost hs zs os j (i - 1) s (a .few)))
-          go y k s j l o u ls lj (no x) =
+          go k s j l o u ls lj (no x) =
               let m : i - 1 ≤ k - 1 = omega arith in
-              r .rest ((k - 1) * (size * 4) + (s * 4 + j)) (rw (b .long) (omega (arith, mul-le-mul-right (size * 4) m))) ∙ f .tables y k s j (omega arith) o u ls lj
+              r .rest ((k - 1) * (size * 4) + (s * 4 + j)) (rw (b .long) (omega (arith, mul-le-mul-right (size * 4) m))) ∙ f .tables k s j (omega arith) o u ls lj
 
-  pub make-keys : {asked : Bool} {kept₀ kept : List ℤ} {t : List ℕ} {i bit : ℕ} → Making asked q size hs zs os kept₀ t kept i bit → i ≡ 0 → Keys size hs zs os 0 t
+  pub make-keys : {kept₀ kept : List ℤ} {t : List ℕ} {i bit : ℕ} → Making q size hs zs os kept₀ t kept i bit → i ≡ 0 → Keys size hs zs os 0 t
   make-keys f e = rw e at (f .keys)
 
-  pub make-kept : {asked : Bool} {kept₀ kept : List ℤ} {t : List ℕ} {i bit : ℕ} → Making asked q size hs zs os kept₀ t kept i bit → i ≡ 0 → asked ≡ true → Kept q size hs zs os kept
-  make-kept f e y i s j p = f .tables y i s j (omega arith) p
+  pub make-kept : {kept₀ kept : List ℤ} {t : List ℕ} {i bit : ℕ} → Making q size hs zs os kept₀ t kept i bit → i ≡ 0 → Kept q size hs zs os kept
+  make-kept f e i s j p = f .tables i s j (omega arith) p

@@ -2,7 +2,6 @@
 -- least costs of all that comes from a position on. A coset is numbered by its tail: the last q columns are the powers of two, so that every
 -- coset has one word that is 0 before them. It knows columns, costs and xor, and no code. Assumes nothing: these are definitions.
 use mathlib.Core.Path.{_≡_}
-use mathlib.Core.Bool.{Bool, true}
 use mathlib.Core.List.{List}
 use Prim.Native.Nat.{ℕ, suc, _+_, _-_, _*_, _^_, _≤_, _<_}
 use lib.IntN.{ℤ, pos}
@@ -11,7 +10,6 @@ use Rattle.order.specs.Number.{number}
 use Rattle.trellis.specs.Trellis.{step, either, back, free, final, trace}
 use Rattle.trellis.specs.Rows.{column, front, layer}
 use Rattle.lanes.specs.Lanes.{entry, lane}
-use Rattle.rows.specs.Rows.{limit}
 
 -- stands for 'no way': above every cost
 abbrev pub none : ℕ
@@ -58,21 +56,21 @@ abbrev pub Kept : (q size : ℕ) → (hs zs os : List ℕ) → (kept : List ℤ)
 Kept q size hs zs os kept =
     (i s j : ℕ) → 0 < i → i < length hs - q → s < size → j < 4 → getD kept ((i - 1) * (size * 4) + (s * 4 + j)) (pos 0) ≡ pos (least hs zs os i j s)
 
--- what one column asks of a table of keys, and what it leaves: each row by its own and that of s xor h
-pub record Free (q size h : ℕ) (t z o : List ℕ) : Type 0 where
+-- what one column asks of a table of numbers below l, keys or costs, and what it leaves: each row by its own and that of s xor h
+pub record Free (l q size h : ℕ) (t z o : List ℕ) : Type 0 where
   pub size-is : size ≡ 2 ^ q
   pub inside : h < size
   pub some : 0 < h
   pub long : length t ≡ size * 4
-  pub room-z : (s j : ℕ) → s < size → j < 4 → entry t s j + lane z j < limit
-  pub room-o : (s j : ℕ) → s < size → j < 4 → entry t s j + lane o j < limit
+  pub room-z : (s j : ℕ) → s < size → j < 4 → entry t s j + lane z j < l
+  pub room-o : (s j : ℕ) → s < size → j < 4 → entry t s j + lane o j < l
 
 pub record Freed (size h : ℕ) (t z o : List ℕ) (to : List ℕ) : Type 0 where
   pub long : length to ≡ length t
   pub made : (s j : ℕ) → s < size → j < 4 → entry to s j ≡ step either (column h z o j) (front t j) s
 
--- what `make` asks besides the layers: room for the keys, for a table of costs and, where they are asked for, for the tables kept
-pub record Room (asked : Bool) (q size : ℕ) (hs t g : List ℕ) (kept : List ℤ) : Type 0 where
+-- what `make` asks besides the layers: room for the keys, for a table of costs and for the tables kept
+pub record Room (q size : ℕ) (hs t g : List ℕ) (kept : List ℤ) : Type 0 where
   pub length-t : length t ≡ size * 4
   pub length-g : length g ≡ size * 4
-  pub length-kept : asked ≡ true → (length hs - q - 1) * (size * 4) ≤ length kept
+  pub length-kept : (length hs - q - 1) * (size * 4) ≤ length kept

@@ -1,7 +1,6 @@
 -- How the coset search goes: a column in place by pairs of rows, the tails by doubling, rows of keys and tables kept; what the calls ask, and what
 -- they leave. Assumes nothing: these are definitions.
 use mathlib.Core.Path.{_≡_}
-use mathlib.Core.Bool.{Bool, true}
 use mathlib.Core.List.{List}
 use Prim.Native.Nat.{ℕ, suc, _+_, _-_, _*_, _/_, _%_, _^_, _≤_, _<_, min}
 use lib.IntN.{ℤ, pos}
@@ -26,20 +25,20 @@ pub record Ran (h z o size from to : ℕ) (T T' : ℕ → ℕ) : Type 0 where
 abbrev pub RanRows : (h size from to : ℕ) → (z o t t' : List ℕ) → Type 0
 RanRows h size from to z o t t' = (j : ℕ) → j < 4 → Ran h (lane z j) (lane o j) size from to (front t j) (front t' j)
 
--- what a pair of rows s and u asks, and what it leaves
-pub record Pair (t : List ℕ) (s u : ℕ) (z o : List ℕ) : Type 0 where
+-- what a pair of rows s and u asks, where sums stay below l, and what it leaves
+pub record Pair (l : ℕ) (t : List ℕ) (s u : ℕ) (z o : List ℕ) : Type 0 where
   pub s-in : s * 4 + 4 ≤ length t
   pub u-in : u * 4 + 4 ≤ length t
-  pub s-z : Sums (row t s) z
-  pub s-o : Sums (row t s) o
-  pub u-z : Sums (row t u) z
-  pub u-o : Sums (row t u) o
+  pub s-z : Sums l (row t s) z
+  pub s-o : Sums l (row t s) o
+  pub u-z : Sums l (row t u) z
+  pub u-o : Sums l (row t u) o
 
 abbrev pub paired : (t : List ℕ) → (s u : ℕ) → (z o : List ℕ) → List ℕ
 paired t s u z o = put (put t s (less (sum (row t s) z) (sum (row t u) o))) u (less (sum (row t u) z) (sum (row t s) o))
 
 -- what a run of pairs asks: the column leads up from each of its rows
-pub record Run (h size from to : ℕ) (t z o : List ℕ) : Type 0 where
+pub record Run (l h size from to : ℕ) (t z o : List ℕ) : Type 0 where
   pub q : ℕ
   pub size-is : size ≡ 2 ^ q
   pub inside : h < size
@@ -47,7 +46,7 @@ pub record Run (h size from to : ℕ) (t z o : List ℕ) : Type 0 where
   pub order : from ≤ to
   pub to-in : to ≤ size
   pub up : (s : ℕ) → from ≤ s → s < to → s < xor s h
-  pub room : (s j : ℕ) → s < size → from ≤ leader h s → j < 4 → (entry t s j + lane z j < limit) × (entry t s j + lane o j < limit)
+  pub room : (s j : ℕ) → s < size → from ≤ leader h s → j < 4 → (entry t s j + lane z j < l) × (entry t s j + lane o j < l)
 
 -- the highest bit of h
 pub record Top (h r : ℕ) : Type 0 where
@@ -56,11 +55,7 @@ pub record Top (h r : ℕ) : Type 0 where
   pub low : r ≤ h
   pub high : h < 2 ^ suc e
 
--- THE TAILS BY DOUBLING, in 16 bits: a row that fits
-abbrev pub Fits : List ℕ → Type 0
-Fits r = (j : ℕ) → j < 4 → lane r j < 2 ^ 16
-
--- every row of the first half gives one of the second
+-- THE TAILS BY DOUBLING: every row of the first half gives one of the second
 pub record Double (half : ℕ) (g z o : List ℕ) : Type 0 where
   pub inside : (half + half) * 4 ≤ length g
   pub even : half % 2 ≡ 0
@@ -103,10 +98,10 @@ pub record Copied (t : List ℕ) (at n : ℕ) (kept kept' : List ℤ) : Type 0 w
   pub here : (k : ℕ) → k < n → getD kept' (at + k) (pos 0) ≡ pos (getD t k 0 / 65536)
   pub rest : (k : ℕ) → at + n ≤ k → getD kept' k (pos 0) ≡ getD kept k (pos 0)
 
--- the table of position i is kept, where tables are asked for and i is not 0, and those behind it still are
-pub record Keeps (asked : Bool) (i : ℕ) (t : List ℕ) (kept kept' : List ℤ) : Type 0 where
+-- the table of position i is kept, where i is not 0, and those behind it still are
+pub record Keeps (i : ℕ) (t : List ℕ) (kept kept' : List ℤ) : Type 0 where
   pub long : length kept' ≡ length kept
-  pub here : (k : ℕ) → asked ≡ true → 0 < i → k < length t → getD kept' ((i - 1) * length t + k) (pos 0) ≡ pos (getD t k 0 / 65536)
+  pub here : (k : ℕ) → 0 < i → k < length t → getD kept' ((i - 1) * length t + k) (pos 0) ≡ pos (getD t k 0 / 65536)
   pub rest : (k : ℕ) → i * length t ≤ k → getD kept' k (pos 0) ≡ getD kept k (pos 0)
 
 -- A TABLE KEPT comes back: what `restore` asks of the numbers, and what it leaves of the first n

@@ -1,20 +1,19 @@
-// The coset search of four layers at once: for each layer and coset the least cost of its words with the first word that has it, as one key, and
-// the tables of least costs that the soft pass meets. It knows columns, costs and xor, and no code. Its functions are for the crates above; their
-// promises cite specs/Coset.antt.
+// The coset search of four layers at once: for each layer and coset the least cost of its words. The decoder has it as a key, with the first word that
+// has this cost, and besides the tables of least costs that the soft pass meets; the marker asks for no word and has the costs alone, in 16 bits. It
+// knows columns, costs and xor, and no code. Its functions are for the crates above; their promises cite specs/Coset.antt.
 ghost use mathlib.Core.Path.{_≡_};
-ghost use mathlib.Core.Bool.{true};
 ghost use Prim.Native.Nat.{_+_, _-_, _*_, _^_, _<_, _≤_};
 ghost use lib.ListN.{length};
 ghost use Rattle.lanes.specs.Lanes as L;
-ghost use Rattle.lanes.specs.Lanes.{lane, lanes, twofold};
-ghost use Rattle.rows.specs.Rows.{sum, less, Sums};
+ghost use Rattle.lanes.specs.Lanes.{twofold};
+ghost use Rattle.rows.specs.Rows.{sum, less, limit, Sums};
 ghost use Rattle.coset.specs.Coset.{Layers, Costs, Keys, Kept, Free, Freed, Room};
-ghost use Rattle.coset.specs.Runs.{Pair, paired, Run, RanRows, Top, Fits, Double, Doubled, keyed, Keyable, Tails, Numbered, Behind, Copied, Keeps, Cost, Restore, Restored};
+ghost use Rattle.coset.specs.Runs.{Pair, paired, Run, RanRows, Top, Double, Doubled, keyed, Keyable, Tails, Numbered, Behind, Copied, Keeps, Cost, Restore, Restored};
 
 // Row a with a 0, or row b with a 1, lane by lane the less.
 fn lower(a: [u32; 4], b: [u32; 4], z: [u32; 4], o: [u32; 4]) -> [u32; 4]
-    requires { ⌜ Sums a z ⌝ }
-    requires { ⌜ Sums b o ⌝ }
+    requires { ⌜ Sums limit a z ⌝ }
+    requires { ⌜ Sums limit b o ⌝ }
     ensures { λ r. ⌜ r ≡ less (sum a z) (sum b o) ⌝ }
 {
     rows::lesser(rows::plus(a, z), rows::plus(b, o))
@@ -22,7 +21,7 @@ fn lower(a: [u32; 4], b: [u32; 4], z: [u32; 4], o: [u32; 4]) -> [u32; 4]
 
 // Two rows that differ by a column, each from both.
 fn pair(t: &mut [u32], s: usize, u: usize, z: [u32; 4], o: [u32; 4])
-    requires { ⌜ Pair (now t) s u z o ⌝ }
+    requires { ⌜ Pair limit (now t) s u z o ⌝ }
     ensures { λ _. ⌜ now (t .exit) ≡ paired (now (t .entry)) s u z o ⌝ }
 {
     let a = rows::load(t, s);
@@ -33,7 +32,7 @@ fn pair(t: &mut [u32], s: usize, u: usize, z: [u32; 4], o: [u32; 4])
 
 // The pairs whose first row is in from, .., to - 1: there the column leads up.
 fn run(t: &mut [u32], size: usize, from: usize, to: usize, h: usize, z: [u32; 4], o: [u32; 4])
-    requires { ⌜ Run h size from to (now t) z o ⌝ }
+    requires { ⌜ Run limit h size from to (now t) z o ⌝ }
     ensures { λ _. ⌜ RanRows h size from to z o (now (t .entry)) (now (t .exit)) ⌝ }
 {
     let mut s = from;
@@ -54,7 +53,7 @@ pub fn top_of(h: usize) -> usize
 // One column more, in place: rows s and s ^ h together, for each s in which the highest bit of h is 0. Of each block of two runs the first leads up,
 // to the second.
 fn free(t: &mut [u32], q: u32, size: usize, h: usize, z: [u32; 4], o: [u32; 4])
-    requires { ⌜ Free q size h (now t) z o ⌝ }
+    requires { ⌜ Free limit q size h (now t) z o ⌝ }
     ensures { λ _. ⌜ Freed size h (now (t .entry)) z o (now (t .exit)) ⌝ }
 {
     let step = top_of(h);
@@ -65,12 +64,40 @@ fn free(t: &mut [u32], q: u32, size: usize, h: usize, z: [u32; 4], o: [u32; 4])
     }
 }
 
-// The same row in 16 bits.
-fn narrow(r: [u32; 4]) -> [u16; 4]
-    requires { ⌜ Fits r ⌝ }
-    ensures { λ x. ⌜ x ≡ lanes (lane r) ⌝ }
+// THE SAME FOR COSTS ALONE: two rows that differ by a column, each from both.
+fn pair_costs(g: &mut [u16], s: usize, u: usize, z: [u16; 4], o: [u16; 4])
+    requires { ⌜ Pair L.limit (now g) s u z o ⌝ }
+    ensures { λ _. ⌜ now (g .exit) ≡ paired (now (g .entry)) s u z o ⌝ }
 {
-    [r[0] as u16, r[1] as u16, r[2] as u16, r[3] as u16]
+    let a = lanes::load(g, s);
+    let b = lanes::load(g, u);
+    rows::store_least(g, s, rows::add(a, z), rows::add(b, o));
+    rows::store_least(g, u, rows::add(b, z), rows::add(a, o));
+}
+
+// The pairs whose first row is in from, .., to - 1.
+fn run_costs(g: &mut [u16], size: usize, from: usize, to: usize, h: usize, z: [u16; 4], o: [u16; 4])
+    requires { ⌜ Run L.limit h size from to (now g) z o ⌝ }
+    ensures { λ _. ⌜ RanRows h size from to z o (now (g .entry)) (now (g .exit)) ⌝ }
+{
+    let mut s = from;
+    while s < to {
+        pair_costs(g, s, s ^ h, z, o);
+        s += 1;
+    }
+}
+
+// One column more, in place.
+fn free_costs(g: &mut [u16], q: u32, size: usize, h: usize, z: [u16; 4], o: [u16; 4])
+    requires { ⌜ Free L.limit q size h (now g) z o ⌝ }
+    ensures { λ _. ⌜ Freed size h (now (g .entry)) z o (now (g .exit)) ⌝ }
+{
+    let step = top_of(h);
+    let mut base = 0;
+    while base < size {
+        run_costs(g, size, base, base + step, h, z, o);
+        base += step + step;
+    }
 }
 
 // Two rows with a bit more, of cost c.
@@ -102,14 +129,14 @@ pub fn tail(g: &mut [u16], q: u32, size: usize, hs: &[u16], zs: &[u32], os: &[u3
     ensures { λ _. ⌜ Costs size (now (hs .entry)) (now (zs .entry)) (now (os .entry)) (length (now (hs .entry)) - q) (now (g .exit)) ⌝ }
 {
     let mut i = hs.len() - 1;
-    lanes::store(g, 0, narrow(rows::load(zs, i)));
-    lanes::store(g, 1, narrow(rows::load(os, i)));
+    lanes::store(g, 0, rows::narrow(zs, i));
+    lanes::store(g, 1, rows::narrow(os, i));
     let stop = hs.len() - (q as usize);
     let mut half = 2;
     while stop < i {
         i -= 1;
-        let z = narrow(rows::load(zs, i));
-        let o = narrow(rows::load(os, i));
+        let z = rows::narrow(zs, i);
+        let o = rows::narrow(os, i);
         double(g, half, z, o);
         half += half;
     }
@@ -152,15 +179,13 @@ fn copy(t: &[u32], kept: &mut [i32], at: usize)
     }
 }
 
-// The costs from position i on, kept at their place, where tables are asked for. Those of position 0 are not.
-fn keep(t: &[u32], kept: &mut [i32], i: usize, asked: bool)
-    requires { ⌜ (asked ≡ true → i * length (now t) ≤ length (now kept)) ⌝ }
-    ensures { λ _. ⌜ Keeps asked i (now (t .entry)) (now (kept .entry)) (now (kept .exit)) ⌝ }
+// The costs from position i on, kept at their place. Those of position 0 are not.
+fn keep(t: &[u32], kept: &mut [i32], i: usize)
+    requires { ⌜ i * length (now t) ≤ length (now kept) ⌝ }
+    ensures { λ _. ⌜ Keeps i (now (t .entry)) (now (kept .entry)) (now (kept .exit)) ⌝ }
 {
-    if asked {
-        if 0 < i {
-            copy(t, kept, (i - 1) * t.len());
-        }
+    if 0 < i {
+        copy(t, kept, (i - 1) * t.len());
     }
 }
 
@@ -212,7 +237,7 @@ fn free_at(
     free(t, q, size, h, z, o);
 }
 
-// The keys of all cosets and, where they are asked for, the tables kept on the way. g is room.
+// For the decoder: the keys of all cosets, and the tables kept on the way. g is room.
 pub fn make(
     t: &mut [u32],
     g: &mut [u16],
@@ -222,12 +247,11 @@ pub fn make(
     hs: &[u16],
     zs: &[u32],
     os: &[u32],
-    asked: bool,
 )
     requires { ⌜ Layers q size (now hs) (now zs) (now os) ⌝ }
-    requires { ⌜ Room asked q size (now hs) (now t) (now g) (now kept) ⌝ }
+    requires { ⌜ Room q size (now hs) (now t) (now g) (now kept) ⌝ }
     ensures { λ _. ⌜ Keys size (now (hs .entry)) (now (zs .entry)) (now (os .entry)) 0 (now (t .exit)) ⌝ }
-    ensures { λ _. ⌜ (asked ≡ true → Kept q size (now (hs .entry)) (now (zs .entry)) (now (os .entry)) (now (kept .exit))) ⌝ }
+    ensures { λ _. ⌜ Kept q size (now (hs .entry)) (now (zs .entry)) (now (os .entry)) (now (kept .exit)) ⌝ }
     ensures { λ _. ⌜ length (now (kept .exit)) ≡ length (now (kept .entry)) ⌝ }
 {
     tail(g, q, size, hs, zs, os);
@@ -237,7 +261,28 @@ pub fn make(
     while 0 < i {
         i -= 1;
         free_at(t, q, size, hs, zs, os, i, bit);
-        keep(t, kept, i, asked);
+        keep(t, kept, i);
         bit += bit;
+    }
+}
+
+// For the marker: the least costs of all cosets.
+pub fn make_costs(g: &mut [u16], q: u32, size: usize, hs: &[u16], zs: &[u32], os: &[u32])
+    requires { ⌜ Layers q size (now hs) (now zs) (now os) ⌝ }
+    requires { ⌜ length (now g) ≡ size * 4 ⌝ }
+    ensures { λ _. ⌜ Costs size (now (hs .entry)) (now (zs .entry)) (now (os .entry)) 0 (now (g .exit)) ⌝ }
+{
+    tail(g, q, size, hs, zs, os);
+    let mut i = hs.len() - (q as usize);
+    while 0 < i {
+        i -= 1;
+        free_costs(
+            g,
+            q,
+            size,
+            hs[i] as usize,
+            rows::narrow(zs, i),
+            rows::narrow(os, i),
+        );
     }
 }

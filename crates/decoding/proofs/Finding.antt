@@ -2,11 +2,11 @@
 -- Assumes nothing.
 use Rattle.basics.proofs.Kit.{_≡_, refl, sym, ap, _∙_, Bool, true, false, cond, List, ℕ, suc, _+_, _-_, _*_, _/_, _%_, _^_, _≤_, _<_, arith, length, getD, take, eqb, ℤ}
 use borrow.Author.Tests.{eqb-true}
-use lib.Seq.{length-take-le, getD-take}
+use native.Mathlib.Nat.{mul-le-mul-right}
 use Rattle.code.specs.declared.Shape.{Shape}
 use Rattle.lanes.specs.Lanes.{entry, lane}
 use Rattle.trellis.specs.Rows.{weave}
-use Rattle.walk.specs.Walk.{sum4, start, spot, total, least-total, least-at, Marginals, Scattered}
+use Rattle.walk.specs.Walk.{sum4, start, spot, total, least-total, least-at, key-cost, Marginals, Scattered}
 use Rattle.trellis.proofs.Least.{le-least, least-cap}
 use Rattle.lanes.proofs.Rows.{four}
 use Rattle.coset.specs.Coset.{none}
@@ -17,13 +17,19 @@ use Rattle.tails.specs.Tails.{visited}
 use Rattle.code.specs.Code.{long}
 use Rattle.code.proofs.Accepted.{width-small}
 use Rattle.search.proofs.Heads as H
-use Rattle.search.specs.Within.{cap, bound, Input, Tabled, Laid, Walked, leading, slots-of, steps-of, turns-of}
+use Rattle.search.specs.Within.{cap, bound, Input, Tabled, Costing, Cheap, Laid, Walked, leading, slots-of, steps-of, turns-of}
 use Rattle.search.proofs.Searching as A
 use Rattle.search.proofs.Foremost as O
-use Rattle.decoding.specs.Within.{Best-word, Found, Softs, Others-room, Soften-room}
+use Rattle.decoding.specs.Within.{Best-word, Found, Softs, Soften-room}
 
-module _ {s : Shape} {row : List ℤ} {hs zs os t : List ℕ} {kept : List ℤ} (z : Input s row) (b : Tabled true s row hs zs os t kept) where
-  pub found : {places f g word words : List ℕ} {x : ℕ} → Walked s t places f (take (length places) g) x words → word ≡ weave (λ j. leading (s .n) (lane words j)) →
+module _ {s : Shape} {row : List ℤ} {hs zs os t : List ℕ} {kept : List ℤ} (z : Input s row) (b : Tabled s row hs zs os t kept) where
+  costing : Costing s hs zs os (key-cost t)
+  costing = A.key-costing z (b .layered) (b .keys)
+
+  pub cheap-ok : Cheap (key-cost t) (length t)
+  cheap-ok = A.cheap z (b .layered) costing (b .keys .long)
+
+  pub found : {places f g word words : List ℕ} {x : ℕ} → Walked s t places (take (length places) f) (take (length places) g) x words → word ≡ weave (λ j. leading (s .n) (lane words j)) →
       Found s row hs zs os t places f g kept word x
   found w e =
       let o = O.best-ok z b (w .laid) (w .least) (w .words) e in
@@ -35,16 +41,15 @@ module _ {s : Shape} {row : List ℤ} {hs zs os t : List ℕ} {kept : List ℤ} 
       }
 
   -- THE SOFT OUTPUTS
-  module _ {places f : List ℕ} (l : Laid s t places f) (g : List ℕ) (mg : Marginals (turns-of s) cap f (slots-of s) (steps-of s) (take (length places) g)) (fits : length places ≤ length g) where
+  module _ {places f : List ℕ} (l : Laid s (key-cost t) places f) (g : List ℕ) (mg : Marginals (turns-of s) cap f (slots-of s) (steps-of s) g) (lg : length g ≡ length places) where
     cost-le : (p : ℕ) → p < length places → getD f p 0 ≤ 1905
-    cost-le p h = omega (arith, l .gathered .costs p h, A.small-keys z b (getD places p 0) (omega (arith, l .placed .inside p h, b .keys .long)))
+    cost-le p h = omega (arith, l .gathered .costs p h, cheap-ok (getD places p 0) (omega (arith, l .placed .inside p h, b .keys .long)))
 
     -- no place costs more than the least total with it
-    own-le : (p : ℕ) → p < length places → getD f p 0 ≤ getD g p 0
+    pub own-le : (p : ℕ) → p < length places → getD f p 0 ≤ getD g p 0
     own-le p h =
-        let o = A.in-slot z b l p h in
-        let e : getD (take (length places) g) p 0 ≡ getD g p 0 = getD-take (length places) g p 0 h in
-        let m : getD (take (length places) g) p 0 ≡ least-at cap f (slots-of s) (steps-of s) (turns-of s) (o .0) p = mg (o .0) p (o .1) (o .2) (o .3) in
+        let o = A.in-slot z (b .layered) costing l p h in
+        let m : getD g p 0 ≡ least-at cap f (slots-of s) (steps-of s) (turns-of s) (o .0) p = mg (o .0) p (o .1) (o .2) (o .3) in
         omega (
           arith,
           le-least (λ i. cond (eqb (spot (slots-of s) (steps-of s) i (o .0)) p) (total f (slots-of s) (steps-of s) i) cap) cap (turns-of s * 16) (getD f p 0) (omega (arith, cost-le p h)) (λ i li. held (o .0) (o .1) i (eqb (spot (slots-of s) (steps-of s) i (o .0)) p) refl),
@@ -60,47 +65,36 @@ module _ {s : Shape} {row : List ℤ} {hs zs os t : List ℕ} {kept : List ℤ} 
             omega (arith, ap (λ (x : ℕ). getD f x 0) q)
         held j lj i false y = omega (arith, cost-le p h)
 
-    pub others-room : Others-room t places f g
-    others-room = record {
-      length-f = l .gathered .long;
-      count-g = fits;
-      inside = λ p h. omega (arith, l .placed .inside p h, b .keys .long);
-      own = own-le;
-    }
-
-    module _ {a : List ℕ} (sc : Scattered cap f (take (length places) g) places a) (la : length a ≡ length t) where
+    module _ {a : List ℕ} (sc : Scattered cap f g places a) (long-a : length a ≡ s .size * 4) where
       abbrev y : Setting (s .m) (s .r) hs (turns-of s * 16) (visited (s .m) (s .r)) row zs os
-      y = A.y z b
+      y = A.y z (b .layered)
 
-      long-a : length a ≡ s .size * 4
-      long-a = la ∙ b .keys .long
-
-      pub pass-ok : {g' zero one : List ℕ} {soft : List ℤ} → Soften-room s places g kept zero one soft → length g' ≡ s .size * 4 →
+      pub pass-ok : {f₀ g₀ g' zero one : List ℕ} {soft : List ℤ} → Soften-room s places f₀ g₀ kept zero one soft → length g' ≡ s .size * 4 →
           Pass (s .q) (s .size) cap a g' hs zs os kept zero one
-      pass-ok {g'} r e = record {
-        layers = b .layers;
-        tables = b .tables refl;
-        head = omega (arith, A.n-is z b, z .coded .q-is, H.head-there (s .m) (s .r) (z .coded .accepted-is));
+      pass-ok r e = record {
+        layers = b .layered .layers;
+        tables = b .tables;
+        head = omega (arith, A.n-is z (b .layered), z .coded .q-is, H.head-there (s .m) (s .r) (z .coded .accepted-is));
         length-a = long-a;
         length-g = e;
-        length-kept = rw (A.n-is z b, z .coded .size-is, z .coded .q-is, r .length-scratch) (H.kept-in (s .m) (s .r) (z .coded .accepted-is));
-        start = λ x j lx lj. omega (arith, sc .others (x * 4 + j) (omega (arith, long-a)), least-cap (λ p. cond (eqb (getD places p 0) (x * 4 + j)) (getD (take (length places) g) p 0 - getD f p 0) cap) cap (length places));
-        cap-small = omega arith;
-        length-zero = r .length-zero ∙ ap (λ (n : ℕ). n * 4) (z .coded .n-is ∙ sym (A.n-is z b));
-        length-one = r .length-one ∙ ap (λ (n : ℕ). n * 4) (z .coded .n-is ∙ sym (A.n-is z b));
+        length-kept = rw (A.n-is z (b .layered), z .coded .size-is, z .coded .q-is, r .length-scratch) (H.kept-in (s .m) (s .r) (z .coded .accepted-is));
+        start = λ x j lx lj. omega (arith, sc .others (x * 4 + j) (omega (arith, long-a)), least-cap (λ p. cond (eqb (getD places p 0) (x * 4 + j)) (getD g p 0 - getD f p 0) cap) cap (length places));
+        cap-small = rw (b .layered .top-is) (omega (arith, mul-le-mul-right 127 (A.few z (b .layered))));
+        length-zero = r .length-zero ∙ ap (λ (n : ℕ). n * 4) (z .coded .n-is ∙ sym (A.n-is z (b .layered)));
+        length-one = r .length-one ∙ ap (λ (n : ℕ). n * 4) (z .coded .n-is ∙ sym (A.n-is z (b .layered)));
       }
 
       pub softs-ok : (za oa : List ℕ) → Passed (s .size) cap a hs zs os 0 (length hs) za → Passed (s .size) cap a hs zs os 1 (length hs) oa → Softs s row za oa
       softs-ok za oa p0 p1 i j li lj =
           let l4 : j < 4 = omega (arith, width-small (s .m) (z .coded .width-is)) in
           let hi : i < long (s .m) = omega (arith, z .coded .n-is) in
-          let hn : i < length hs = omega (arith, A.n-is z b, z .coded .n-is) in
-          let o = A.others-ok z b l mg (length-take-le (length places) g fits) sc long-a j l4 in
+          let hn : i < length hs = omega (arith, A.n-is z (b .layered), z .coded .n-is) in
+          let o = A.others-ok z (b .layered) costing l mg lg sc long-a j l4 in
           let e0 = p0 i j hn l4 in
           let e1 = p1 i j hn l4 in
           rw (e0, e1) (
-            S.least-with y none cap bound (A.light z b) (omega arith) (omega arith) i j 0 hi lj (omega arith) (s .size) (λ x. entry a x j) o (λ k lk. A.coset-in z b k j l4),
-            S.least-with y none cap bound (A.light z b) (omega arith) (omega arith) i j 1 hi lj (omega arith) (s .size) (λ x. entry a x j) o (λ k lk. A.coset-in z b k j l4),
-            S.soft-small y none cap bound (A.light z b) (omega arith) (omega arith) i j 0 hi lj (omega arith) (s .size) (λ x. entry a x j) o (λ k lk. A.coset-in z b k j l4),
-            S.soft-small y none cap bound (A.light z b) (omega arith) (omega arith) i j 1 hi lj (omega arith) (s .size) (λ x. entry a x j) o (λ k lk. A.coset-in z b k j l4),
+            S.least-with y none cap bound (A.light z (b .layered)) (omega arith) (omega arith) i j 0 hi lj (omega arith) (s .size) (λ x. entry a x j) o (λ k lk. A.coset-in z (b .layered) k j l4),
+            S.least-with y none cap bound (A.light z (b .layered)) (omega arith) (omega arith) i j 1 hi lj (omega arith) (s .size) (λ x. entry a x j) o (λ k lk. A.coset-in z (b .layered) k j l4),
+            S.soft-small y none cap bound (A.light z (b .layered)) (omega arith) (omega arith) i j 0 hi lj (omega arith) (s .size) (λ x. entry a x j) o (λ k lk. A.coset-in z (b .layered) k j l4),
+            S.soft-small y none cap bound (A.light z (b .layered)) (omega arith) (omega arith) i j 1 hi lj (omega arith) (s .size) (λ x. entry a x j) o (λ k lk. A.coset-in z (b .layered) k j l4),
           )

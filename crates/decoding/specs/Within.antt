@@ -12,7 +12,8 @@ use Rattle.order.specs.Order.{not-after}
 use Rattle.metric.specs.Cost.{cost, Least, Least-with}
 use Rattle.metric.specs.Scratch.{scratch-long}
 use Rattle.lanes.specs.Lanes.{entry, lane}
-use Rattle.walk.specs.Walk.{start, Marginals}
+use Rattle.walk.specs.Walk.{start, key-cost, Marginals}
+use Rattle.walk.specs.Turns.{Scatter}
 use Rattle.search.specs.Within.{cap, bound, slots-of, steps-of, turns-of, Input, Tabled, Laid}
 
 -- the least costs with a 0 and with a 1 at each bit
@@ -51,11 +52,12 @@ pub record Soft-written (m at : ℕ) (z o : List ℕ) (before soft : List ℤ) :
   pub done : (j : ℕ) → j < m → getD soft (at + j) (pos 0) ≡ pos (2 * lane o j) -ℤ pos (2 * lane z j)
   pub kept : (i : ℕ) → i < at → getD soft i (pos 0) ≡ getD before i (pos 0)
 
--- room for the tables, the places of the walk and their costs, and for marginals and tables by turns
+-- room for the tables and the places of the walk, and for their costs, marginals and tables by turns
 pub record Rooms (s : Shape) (t places f g : List ℕ) : Type 0 where
   pub length-t : length t ≡ s .size * 4
   pub length-places : length places ≡ start (slots-of s) 4
-  pub length-f : length f ≡ length places
+  pub states-f : s .size * 4 ≤ length f
+  pub places-f : length places ≤ length f
   pub states-g : s .size * 4 ≤ length g
   pub places-g : length places ≤ length g
 
@@ -84,12 +86,10 @@ pub record Tables-room (s : Shape) (zs os t g : List ℕ) (scratch : List ℤ) :
   pub states-g : s .size * 4 ≤ length g
   pub length-scratch : length scratch ≡ scratch-long
 
--- the places of a walk with their costs and marginals, which stand for entries of a table
-pub record Others-room (t places f g : List ℕ) : Type 0 where
-  pub length-f : length f ≡ length places
+-- the places of a walk with their costs and marginals, which stand for so many entries of a table
+pub record Others-room (states : ℕ) (places f g : List ℕ) : Type 0 where
   pub count-g : length places ≤ length g
-  pub inside : (p : ℕ) → p < length places → getD places p 0 < length t
-  pub own : (p : ℕ) → p < length places → getD f p 0 ≤ getD g p 0
+  pub scatter : Scatter states f (take (length places) g) places
 
 -- the first codeword of least cost
 pub record Best-word (s : Shape) (row : List ℤ) (word : List ℕ) (least : ℕ) : Type 0 where
@@ -100,13 +100,15 @@ pub record Best-word (s : Shape) (row : List ℤ) (word : List ℕ) (least : ℕ
 
 -- what the search leaves: the tables, the places of the walk with their costs and marginals, and the word
 pub record Found (s : Shape) (row : List ℤ) (hs zs os t places f g : List ℕ) (scratch : List ℤ) (word : List ℕ) (least : ℕ) : Type 0 where
-  pub tabled : Tabled true s row hs zs os t scratch
-  pub laid : Laid s t places f
+  pub tabled : Tabled s row hs zs os t scratch
+  pub laid : Laid s (key-cost t) places (take (length places) f)
   pub best : Best-word s row word least
-  pub marginals : Marginals (turns-of s) cap f (slots-of s) (steps-of s) (take (length places) g)
+  pub marginals : Marginals (turns-of s) cap (take (length places) f) (slots-of s) (steps-of s) (take (length places) g)
 
 -- room for the soft outputs
-pub record Soften-room (s : Shape) (places g : List ℕ) (scratch : List ℤ) (zero one : List ℕ) (soft : List ℤ) : Type 0 where
+pub record Soften-room (s : Shape) (places f g : List ℕ) (scratch : List ℤ) (zero one : List ℕ) (soft : List ℤ) : Type 0 where
+  pub states-f : s .size * 4 ≤ length f
+  pub places-f : length places ≤ length f
   pub states-g : s .size * 4 ≤ length g
   pub places-g : length places ≤ length g
   pub length-scratch : length scratch ≡ scratch-long

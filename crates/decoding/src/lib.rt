@@ -4,28 +4,17 @@ use code::Shape;
 use search::Best;
 ghost use mathlib.Core.Path.{_≡_};
 ghost use mathlib.Core.Bool.{true};
-ghost use Prim.Native.Nat.{ℕ, _+_, _*_, _^_, _<_, _≤_};
-ghost use lib.ListN.{length, getD, take};
+ghost use Prim.Native.Nat.{_+_, _*_, _^_, _<_, _≤_};
+ghost use lib.ListN.{length, take};
 ghost use lib.IntN.{pos, _-ℤ_};
 ghost use Rattle.code.specs.Code.{is-codeword};
 ghost use Rattle.code.specs.Within.{Coded};
 ghost use Rattle.metric.specs.Metric.{Decoded};
 ghost use Rattle.tails.specs.Tails.{columns};
-ghost use Rattle.walk.specs.Walk.{Marginals, Scattered};
+ghost use Rattle.walk.specs.Walk.{key-cost, Marginals, Scattered};
 ghost use Rattle.pass.specs.Pass.{Pass, Passed};
-ghost use Rattle.search.specs.Within.{cap, bound, Input, Roomy, Tabled, Small-keys, Walked, Laid, slots-of, steps-of, turns-of};
+ghost use Rattle.search.specs.Within.{cap, bound, Input, Roomy, Tabled, Cheap, Walked, Laid, slots-of, steps-of, turns-of};
 ghost use Rattle.decoding.specs.Within.{Soft-within, Soft-written, Softs-within, Softened, Softs, Tables-room, Rooms, Others-room, Found, Soften-room, Outputs, Accepted};
-
-// Every number of a table the same.
-fn reset(t: &mut [u32], x: u32)
-    ensures { λ _. ⌜ (length (now (t .exit)) ≡ length (now (t .entry))) × ((p : ℕ) → p < length (now (t .entry)) → getD (now (t .exit)) p 0 ≡ x) ⌝ }
-{
-    let mut p = 0;
-    while p < t.len() {
-        t[p] = x;
-        p += 1;
-    }
-}
 
 // a less b.
 fn minus(a: u32, b: u32) -> i32
@@ -36,15 +25,15 @@ fn minus(a: u32, b: u32) -> i32
 }
 
 // A soft output: twice the least cost with a 1 less twice that with a 0.
-fn soft_from(zero: u32, one: u32) -> i16
+fn soft_from(zero: u16, one: u16) -> i16
     requires { ⌜ (zero < bound) × (one < bound) ⌝ }
     ensures { λ r. ⌜ r ≡ pos (2 * one) -ℤ pos (2 * zero) ⌝ }
 {
-    minus(2 * one, 2 * zero) as i16
+    minus(2 * (one as u32), 2 * (zero as u32)) as i16
 }
 
 // One position's soft outputs.
-fn soft_row(m: u32, z: [u32; 4], o: [u32; 4], at: usize, soft: &mut [i16])
+fn soft_row(m: u32, z: [u16; 4], o: [u16; 4], at: usize, soft: &mut [i16])
     requires { ⌜ Soft-within m at z o (now soft) ⌝ }
     ensures { λ _. ⌜ Soft-written m at z o (now (soft .entry)) (now (soft .exit)) ⌝ }
 {
@@ -57,7 +46,7 @@ fn soft_row(m: u32, z: [u32; 4], o: [u32; 4], at: usize, soft: &mut [i16])
 }
 
 // All soft outputs.
-fn soft_rows(m: u32, n: usize, zero: &[u32], one: &[u32], soft: &mut [i16])
+fn soft_rows(m: u32, n: usize, zero: &[u16], one: &[u16], soft: &mut [i16])
     requires { ⌜ Softs-within m n (now zero) (now one) (now soft) ⌝ }
     ensures { λ _. ⌜ Softened m (now (zero .entry)) (now (one .entry)) n (now (soft .entry)) (now (soft .exit)) ⌝ }
 {
@@ -65,7 +54,7 @@ fn soft_rows(m: u32, n: usize, zero: &[u32], one: &[u32], soft: &mut [i16])
     let mut i = 0;
     let mut at = 0;
     while i < n {
-        soft_row(m, rows::load(zero, i), rows::load(one, i), at, soft);
+        soft_row(m, lanes::load(zero, i), lanes::load(one, i), at, soft);
         at += w;
         i += 1;
     }
@@ -85,53 +74,52 @@ fn tabulate(
     requires { ⌜ Input shape (now row) ⌝ }
     requires { ⌜ now hs ≡ columns (shape .m) (shape .r) ⌝ }
     requires { ⌜ Tables-room shape (now zs) (now os) (now t) (now g) (now scratch) ⌝ }
-    ensures { λ _. ⌜ Tabled true shape (now (row .entry)) (now (hs .entry)) (now (zs .exit)) (now (os .exit)) (now (t .exit)) (now (scratch .exit)) ⌝ }
+    ensures { λ _. ⌜ Tabled shape (now (row .entry)) (now (hs .entry)) (now (zs .exit)) (now (os .exit)) (now (t .exit)) (now (scratch .exit)) ⌝ }
 {
     let states = shape.size * 4;
-    search::of_row(shape, row, hs, zs, os, t, &mut g[..states], scratch, true);
+    search::of_row(shape, row, hs, zs, os, t, &mut g[..states], scratch);
 }
 
-// The walk over the tables. The marginals take their turn in the first part of g.
+// The walk over the tables. The costs of the places take their turn in the first part of f, and the marginals in that of g.
 fn walk_over(shape: Shape, t: &[u32], places: &mut [u16], f: &mut [u16], g: &mut [u16]) -> Best
     requires { ⌜ Coded shape ⌝ }
-    requires { ⌜ Small-keys (now t) ⌝ }
+    requires { ⌜ Cheap (key-cost (now t)) (length (now t)) ⌝ }
     requires { ⌜ Rooms shape (now t) (now places) (now f) (now g) ⌝ }
-    ensures { λ r. ⌜ Walked shape (now (t .entry)) (now (places .exit)) (now (f .exit)) (take (length (now (places .entry))) (now (g .exit))) (r .total) (r .words) ⌝ }
+    ensures { λ r. ⌜ Walked shape (now (t .entry)) (now (places .exit)) (take (length (now (places .entry))) (now (f .exit))) (take (length (now (places .entry))) (now (g .exit))) (r .total) (r .words) ⌝ }
 {
     let count = places.len();
-    search::best_of(shape, t, places, f, &mut g[..count])
+    search::best_of(shape, t, places, &mut f[..count], &mut g[..count])
 }
 
-// What the other layers cost at the least, for each layer and coset, in place of the tables. The marginals are used up.
-fn others(t: &mut [u32], places: &[u16], f: &[u16], g: &mut [u16])
-    requires { ⌜ Others-room (now t) (now places) (now f) (now g) ⌝ }
-    ensures { λ _. ⌜ Scattered cap (now (f .entry)) (take (length (now (places .entry))) (now (g .entry))) (now (places .entry)) (now (t .exit)) ⌝ }
+// What the other layers cost at the least, for each layer and coset, in place of the costs of the places. The marginals are used up.
+fn others(states: usize, places: &[u16], f: &mut [u16], g: &mut [u16])
+    requires { ⌜ Others-room states (now places) (now f) (now g) ⌝ }
+    ensures { λ _. ⌜ Scattered cap (take (length (now (places .entry))) (now (f .entry))) (take (length (now (places .entry))) (now (g .entry))) (now (places .entry)) (take states (now (f .exit))) ⌝ }
 {
     let count = places.len();
-    reset(t, search::CAP as u32);
-    walk::scatter(f, &mut g[..count], places, t, search::CAP as u32);
+    walk::scatter(f, &mut g[..count], places, states, search::CAP);
 }
 
-// The soft pass. The tables behind the columns take their turn in the first part of g.
+// The soft pass, over the first part of f. The tables behind the columns take their turn in the first part of g.
 fn soft_costs(
     shape: Shape,
     hs: &[u16],
     zs: &[u32],
     os: &[u32],
-    t: &mut [u32],
+    f: &mut [u16],
     g: &mut [u16],
     scratch: &[i32],
-    zero: &mut [u32],
-    one: &mut [u32],
+    zero: &mut [u16],
+    one: &mut [u16],
 )
-    requires { ⌜ shape .size * 4 ≤ length (now g) ⌝ }
-    requires { ⌜ Pass (shape .q) (shape .size) cap (now t) (take (shape .size * 4) (now g)) (now hs) (now zs) (now os) (now scratch) (now zero) (now one) ⌝ }
-    ensures { λ _. ⌜ Passed (shape .size) cap (now (t .entry)) (now (hs .entry)) (now (zs .entry)) (now (os .entry)) 0 (length (now (hs .entry))) (now (zero .exit)) ⌝ }
-    ensures { λ _. ⌜ Passed (shape .size) cap (now (t .entry)) (now (hs .entry)) (now (zs .entry)) (now (os .entry)) 1 (length (now (hs .entry))) (now (one .exit)) ⌝ }
+    requires { ⌜ (shape .size * 4 ≤ length (now f)) × (shape .size * 4 ≤ length (now g)) ⌝ }
+    requires { ⌜ Pass (shape .q) (shape .size) cap (take (shape .size * 4) (now f)) (take (shape .size * 4) (now g)) (now hs) (now zs) (now os) (now scratch) (now zero) (now one) ⌝ }
+    ensures { λ _. ⌜ Passed (shape .size) cap (take (shape .size * 4) (now (f .entry))) (now (hs .entry)) (now (zs .entry)) (now (os .entry)) 0 (length (now (hs .entry))) (now (zero .exit)) ⌝ }
+    ensures { λ _. ⌜ Passed (shape .size) cap (take (shape .size * 4) (now (f .entry))) (now (hs .entry)) (now (zs .entry)) (now (os .entry)) 1 (length (now (hs .entry))) (now (one .exit)) ⌝ }
 {
     let states = shape.size * 4;
     pass::pass(
-        t,
+        &mut f[..states],
         &mut g[..states],
         scratch,
         shape.q,
@@ -139,7 +127,7 @@ fn soft_costs(
         hs,
         zs,
         os,
-        search::CAP as u32,
+        search::CAP,
         zero,
         one,
     );
@@ -172,36 +160,37 @@ fn find_word(
     best.total
 }
 
-// The soft outputs, from what the search left. The tables are used up.
+// The soft outputs, from what the search left. Costs and marginals are used up.
 fn soften(
     shape: Shape,
     row: &[i16],
     hs: &[u16],
     zs: &[u32],
     os: &[u32],
-    t: &mut [u32],
+    t: &[u32],
     places: &[u16],
-    f: &[u16],
+    f: &mut [u16],
     g: &mut [u16],
     scratch: &[i32],
-    zero: &mut [u32],
-    one: &mut [u32],
+    zero: &mut [u16],
+    one: &mut [u16],
     soft: &mut [i16],
 )
     requires { ⌜ Input shape (now row) ⌝ }
-    requires { ⌜ Tabled true shape (now row) (now hs) (now zs) (now os) (now t) (now scratch) ⌝ }
-    requires { ⌜ Laid shape (now t) (now places) (now f) ⌝ }
-    requires { ⌜ Marginals (turns-of shape) cap (now f) (slots-of shape) (steps-of shape) (take (length (now places)) (now g)) ⌝ }
-    requires { ⌜ Soften-room shape (now places) (now g) (now scratch) (now zero) (now one) (now soft) ⌝ }
+    requires { ⌜ Tabled shape (now row) (now hs) (now zs) (now os) (now t) (now scratch) ⌝ }
+    requires { ⌜ Laid shape (key-cost (now t)) (now places) (take (length (now places)) (now f)) ⌝ }
+    requires { ⌜ Marginals (turns-of shape) cap (take (length (now places)) (now f)) (slots-of shape) (steps-of shape) (take (length (now places)) (now g)) ⌝ }
+    requires { ⌜ Soften-room shape (now places) (now f) (now g) (now scratch) (now zero) (now one) (now soft) ⌝ }
     ensures { λ _. ⌜ Softs shape (now (row .entry)) (now (zero .exit)) (now (one .exit)) ⌝ }
     ensures { λ _. ⌜ Softened (shape .m) (now (zero .exit)) (now (one .exit)) (shape .n) (now (soft .entry)) (now (soft .exit)) ⌝ }
 {
-    others(t, places, f, g);
-    soft_costs(shape, hs, zs, os, t, g, scratch, zero, one);
+    others(shape.size * 4, places, f, g);
+    soft_costs(shape, hs, zs, os, f, g, scratch, zero, one);
     soft_rows(shape.m, shape.n, zero, one, soft);
 }
 
-// A decoding, with every buffer lent. Marginals, tails and the tables behind the columns take turns in g.
+// A decoding, with every buffer lent. Marginals, tails and the tables behind the columns take turns in g; the costs of the places and what the others cost
+// in f.
 fn decode_with(
     shape: Shape,
     row: &[i16],
@@ -212,8 +201,8 @@ fn decode_with(
     places: &mut [u16],
     f: &mut [u16],
     g: &mut [u16],
-    zero: &mut [u32],
-    one: &mut [u32],
+    zero: &mut [u16],
+    one: &mut [u16],
     word: &mut [u8],
     soft: &mut [i16],
     scratch: &mut [i32],
@@ -265,10 +254,10 @@ fn decode_in(
     let zs: &mut [u32] = &mut zs_room;
     let mut os_room = [0u32; 60];
     let os: &mut [u32] = &mut os_room;
-    let mut zero_room = [0u32; 60];
-    let zero: &mut [u32] = &mut zero_room;
-    let mut one_room = [0u32; 60];
-    let one: &mut [u32] = &mut one_room;
+    let mut zero_room = [0u16; 60];
+    let zero: &mut [u16] = &mut zero_room;
+    let mut one_room = [0u16; 60];
+    let one: &mut [u16] = &mut one_room;
     let n = shape.n;
     let wide = n * 4;
     let states = shape.size * 4;
@@ -281,7 +270,7 @@ fn decode_in(
         &mut os[..wide],
         &mut t[..states],
         &mut places[..count],
-        &mut f[..count],
+        f,
         g,
         &mut zero[..wide],
         &mut one[..wide],

@@ -1,11 +1,11 @@
 -- Rows of four, one or two side by side: their lanes, and what stands in a list of rows after some are written anew.
 -- Assumes nothing.
-use Rattle.basics.proofs.Kit.{_≡_, refl, _∙_, List, ℕ, zero, suc, _+_, _-_, _*_, _≤_, _<_, min, arith, length, getD, set}
+use Rattle.basics.proofs.Kit.{_≡_, refl, _∙_, List, ℕ, zero, suc, _+_, _-_, _*_, _≤_, _<_, arith, length, getD, set}
 use mathlib.Core.Path.{subst}
 use native.Mathlib.Decide.{decLe}
 use lib.ListN.{length-set}
 use lib.Seq.{getD-set-same, getD-set-other}
-use Rattle.lanes.specs.Lanes.{entry, lane, lanes, row, beside, rows, twofold, eight, sum, less, put, put-two, Small, Sums}
+use Rattle.lanes.specs.Lanes.{entry, lane, lanes, row, beside, rows, twofold, eight, sum, put, put-two}
 
 -- a rule at each lane
 pub four {ℓ} : (P : ℕ → Type ℓ) → P 0 → P 1 → P 2 → P 3 → (j : ℕ) → j < 4 → P j
@@ -42,7 +42,7 @@ beside-second a b = four (λ j. lane (beside a b) (4 + j) ≡ b j) refl refl ref
 eight-at : (f : ℕ → ℕ) (j : ℕ) → j < 8 → lane (eight f) j ≡ f j
 eight-at f = both (λ j. lane (eight f) j ≡ f j) (beside-first f (λ j. f (4 + j))) (beside-second f (λ j. f (4 + j)))
 
--- the lanes of two rows, of a row beside itself, of a sum and of a less
+-- the lanes of two rows, of a row beside itself and of a sum
 pub rows-first : (t : List ℕ) (s u j : ℕ) → j < 4 → lane (rows t s u) j ≡ entry t s j
 unfolding rows
 rows-first t s u = beside-first (entry t s) (entry t u)
@@ -62,14 +62,6 @@ twofold-second r = beside-second (lane r) (lane r)
 pub sum-at : (a b : List ℕ) (j : ℕ) → j < 8 → lane (sum a b) j ≡ lane a j + lane b j
 unfolding sum
 sum-at a b = eight-at (λ j. lane a j + lane b j)
-
-pub less-at : (a b : List ℕ) (j : ℕ) → j < 8 → lane (less a b) j ≡ min (lane a j) (lane b j)
-unfolding less
-less-at a b = eight-at (λ j. min (lane a j) (lane b j))
-
--- a sum that may be taken is small
-pub small-sum : (a b : List ℕ) → Sums a b → Small (sum a b)
-small-sum a b h j l = omega (arith, sum-at a b j l, h j l)
 
 module _ (t : List ℕ) (s : ℕ) (r : List ℕ) where
   abbrev s1 : List ℕ

@@ -1,7 +1,7 @@
 -- Four tables in one list, row by row, so that one step treats four layers at once: entry s of table j stands at s * 4 + j. Rows of four numbers, two
 -- of them side by side, and what is done lane by lane. Assumes nothing: these are definitions.
 use mathlib.Core.List.{List, [], _∷_}
-use Prim.Native.Nat.{ℕ, _+_, _*_, _^_, _<_, min}
+use Prim.Native.Nat.{ℕ, _+_, _*_, _^_, _<_}
 use lib.ListN.{getD, set}
 
 abbrev pub entry : List ℕ → ℕ → ℕ → ℕ
@@ -40,15 +40,12 @@ two t s = rows t s (s + 1)
 unfoldable pub twofold : List ℕ → List ℕ
 twofold r = beside (lane r) (lane r)
 
--- lane by lane, the sum and the less
+-- lane by lane, the sum
 abbrev pub eight : (ℕ → ℕ) → List ℕ
 eight f = beside f (λ j. f (4 + j))
 
 unfoldable pub sum : List ℕ → List ℕ → List ℕ
 sum a b = eight (λ j. lane a j + lane b j)
-
-unfoldable pub less : List ℕ → List ℕ → List ℕ
-less a b = eight (λ j. min (lane a j) (lane b j))
 
 -- rows s and s + 1 written anew
 unfoldable pub put-two : List ℕ → ℕ → List ℕ → List ℕ
@@ -57,9 +54,6 @@ put-two t s r = put (put t s r) (s + 1) (lanes (λ j. lane r (4 + j)))
 -- every cost and every sum of costs stays below
 abbrev pub limit : ℕ
 limit = 2 ^ 15
-
-abbrev pub Small : List ℕ → Type 0
-Small r = (j : ℕ) → j < 8 → lane r j < limit
 
 -- no sum of two rows reaches the limit
 abbrev pub Sums : List ℕ → List ℕ → Type 0

@@ -1,9 +1,9 @@
 // Rows of four numbers in a slice, one to a layer, and two rows side by side: eight numbers, which the vector instructions treat at once.
-// Its functions are for the trellis and the soft pass; their promises cite specs/Lanes.antt.
+// Its functions are for the coset search, the soft pass and the walk; their promises cite specs/Lanes.antt.
 ghost use mathlib.Core.Path.{_≡_};
 ghost use Prim.Native.Nat.{_+_, _*_, _<_, _≤_, min};
 ghost use lib.ListN.{length};
-ghost use Rattle.lanes.specs.Lanes.{row, rows, twofold, sum, less, put, put-two, limit, Small, Sums};
+ghost use Rattle.lanes.specs.Lanes.{row, rows, twofold, sum, put, put-two, limit, Sums};
 
 // The less of two costs that are compared as signed numbers, for which the vector instructions have a minimum.
 pub fn min_of(a: u16, b: u16) -> u16
@@ -100,31 +100,4 @@ pub fn plus(a: [u16; 8], b: [u16; 8]) -> [u16; 8]
         a[6] + b[6],
         a[7] + b[7],
     ]
-}
-
-// Lane by lane, the less.
-pub fn lesser(a: [u16; 8], b: [u16; 8]) -> [u16; 8]
-    requires { ⌜ Small a ⌝ }
-    requires { ⌜ Small b ⌝ }
-    ensures { λ r. ⌜ r ≡ less a b ⌝ }
-{
-    [
-        min_of(a[0], b[0]),
-        min_of(a[1], b[1]),
-        min_of(a[2], b[2]),
-        min_of(a[3], b[3]),
-        min_of(a[4], b[4]),
-        min_of(a[5], b[5]),
-        min_of(a[6], b[6]),
-        min_of(a[7], b[7]),
-    ]
-}
-
-// The less, lane by lane, of r and a sum.
-pub fn lowered(r: [u16; 8], a: [u16; 8], b: [u16; 8]) -> [u16; 8]
-    requires { ⌜ Small r ⌝ }
-    requires { ⌜ Sums a b ⌝ }
-    ensures { λ x. ⌜ x ≡ less r (sum a b) ⌝ }
-{
-    lesser(r, plus(a, b))
 }

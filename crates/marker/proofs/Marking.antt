@@ -1,6 +1,6 @@
 -- A mark is right: what a codeword costs more than the least is what it lacks.
 -- Assumes nothing.
-use Rattle.basics.proofs.Kit.{_≡_, sym, ap, _∙_, Bool, true, List, ℕ, _-_, _*_, _^_, _≤_, _<_, arith, length, ℤ, pos, natAbs, _-ℤ_}
+use Rattle.basics.proofs.Kit.{_≡_, sym, ap, _∙_, true, List, ℕ, _-_, _*_, _^_, _≤_, _<_, arith, length, getD, ℤ, pos, natAbs, _-ℤ_}
 use mir.Syntax.{w32}
 use mir.Val.{SFits}
 use Rattle.code.specs.declared.Shape.{Shape}
@@ -18,14 +18,15 @@ use Rattle.metric.proofs.Marks.{marked-none-lacking, marked-lacking}
 use Rattle.metric.proofs.Costs.{codeword-bits, top-parts, top-own, greatest}
 use Rattle.metric.proofs.Bounds.{weight-le, cost-le, word-size}
 use Rattle.metric.proofs.Counting.{small-fits}
-use Rattle.search.specs.Within.{word-cost, Own, Tabled, Least-laid}
+use Rattle.coset.specs.Coset.{Costs}
+use Rattle.search.specs.Within.{word-cost, Own, Layered, Costing, Cheap, Least-laid}
 use Rattle.search.proofs.Sums.{own-cost}
-use Rattle.search.proofs.Searching.{n-is, few, least-is}
+use Rattle.search.proofs.Searching.{n-is, few, cheap, least-is}
 use Rattle.marker.specs.Within.{Short, Judged, Lacking}
 use Rattle.marker.proofs.Refusals.{Mark-taken}
 
 -- ---- what a codeword costs more than the least
-module _ {asked : Bool} {s : Shape} {row : List ℤ} {word hs zs os t : List ℕ} {kept : List ℤ} (j : Judged s row word) (b : Tabled asked s row hs zs os t kept) where
+module _ {s : Shape} {row : List ℤ} {word hs zs os : List ℕ} (j : Judged s row word) (b : Layered s row hs zs os) where
   p : Codeword-parts (s .m) (s .r) word
   p = codeword-parts (s .m) (s .r) word (j .codeword)
 
@@ -41,18 +42,25 @@ module _ {asked : Bool} {s : Shape} {row : List ℤ} {word hs zs os t : List ℕ
     room = omega (arith, long-is, few (j .input) b);
   }
 
-  module _ {places f : List ℕ} {least own : ℕ} (e : Least-laid s t places f least) (h : own ≡ word-cost zs os 0 word) where
-    is-least : Least (s .m) (is-codeword (s .m) (s .r)) row least
-    is-least = rw (e .least) (least-is (j .input) b (e .laid))
+  module _ {t : List ℕ} (c : Costs (s .size) hs zs os 0 t) where
+    costing : Costing s hs zs os (λ x. getD t x 0)
+    costing = record { entries = c .costs }
 
-    own-is : own ≡ cost (s .m) row word
-    own-is = h ∙ own-cost (s .m) (j .input .coded .width-is) row hs zs os (b .costs) (j .input .length-row) word (p .count)
+    pub cheap-ok : Cheap (λ x. getD t x 0) (length t)
+    cheap-ok = cheap (j .input) b costing (c .long)
 
-    pub excess-fits : least ≤ own
-    excess-fits = omega (arith, own-is, is-least .all word (j .codeword))
+    module _ {places f : List ℕ} {least own : ℕ} (e : Least-laid s (λ x. getD t x 0) places f least) (h : own ≡ word-cost zs os 0 word) where
+      is-least : Least (s .m) (is-codeword (s .m) (s .r)) row least
+      is-least = rw (e .least) (least-is (j .input) b costing (e .laid))
 
-    pub excess-ok : Short (s .m) (s .r) row word (own - least)
-    excess-ok = record { least = least; is-least = is-least; own = omega (arith, own-is, excess-fits) }
+      own-is : own ≡ cost (s .m) row word
+      own-is = h ∙ own-cost (s .m) (j .input .coded .width-is) row hs zs os (b .costs) (j .input .length-row) word (p .count)
+
+      pub excess-fits : least ≤ own
+      excess-fits = omega (arith, own-is, is-least .all word (j .codeword))
+
+      pub excess-ok : Short (s .m) (s .r) row word (own - least)
+      excess-ok = record { least = least; is-least = is-least; own = omega (arith, own-is, excess-fits) }
 
 module _ {s : Shape} {row : List ℤ} {word : List ℕ} (j : Judged s row word) {x : ℕ} (h : Short (s .m) (s .r) row word x) where
   -- small enough to be doubled

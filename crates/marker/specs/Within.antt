@@ -2,7 +2,7 @@
 use mathlib.Core.Path.{_≡_}
 use mathlib.Core.Bool.{true}
 use mathlib.Core.List.{List}
-use Prim.Native.Nat.{ℕ, _+_}
+use Prim.Native.Nat.{ℕ, _+_, _*_}
 use lib.ListN.{length}
 use lib.IntN.{ℤ, _-ℤ_}
 use Rattle.code.specs.declared.Shape.{Shape}
@@ -24,8 +24,11 @@ pub record Judged (s : Shape) (row : List ℤ) (word : List ℕ) : Type 0 where
   pub input : Input s row
   pub codeword : is-codeword (s .m) (s .r) word ≡ true
 
--- room for the places of the walk and their costs
-pub record Places (s : Shape) (places f : List ℕ) : Type 0 where
+-- room for the costs of a row, for those of the cosets, and for the places of the walk and their costs
+pub record Lent (s : Shape) (zs os t places f : List ℕ) : Type 0 where
+  pub length-zs : length zs ≡ s .n * 4
+  pub length-os : length os ≡ s .n * 4
+  pub length-t : length t ≡ s .size * 4
   pub length-places : length places ≡ start (slots-of s) 4
   pub length-f : length f ≡ length places
 

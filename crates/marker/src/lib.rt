@@ -4,17 +4,15 @@
 use code::Chosen;
 use code::Shape;
 ghost use mathlib.Core.Path.{_≡_};
-ghost use mathlib.Core.Bool.{false};
-ghost use mathlib.Core.List.{[]};
 ghost use lib.ListN.{length};
 ghost use Rattle.code.specs.Code.{number-refusal, width, roots, is-codeword, parameter-refusal};
 ghost use Rattle.code.specs.Within.{Coded};
 ghost use Rattle.metric.specs.Metric.{Greatest};
 ghost use Rattle.metric.specs.Scratch.{scratch-long};
 ghost use Rattle.tails.specs.Tails.{columns};
-ghost use Rattle.search.specs.Within.{Buffers, Roomy};
+ghost use Rattle.search.specs.Within.{Roomy};
 ghost use Rattle.marker.specs.Calls.{mark-refusal, Mark-says};
-ghost use Rattle.marker.specs.Within.{Short, Judged, Places, Verdict, Verdict-from};
+ghost use Rattle.marker.specs.Within.{Short, Judged, Lent, Verdict, Verdict-from};
 
 // 0 with the verdict (0 none, 1 short, 2 best) and the shortfall, or the number of a refusal with 0 and 0.
 #[repr(C)]
@@ -43,44 +41,40 @@ fn mark_refusal(shape: Shape, row: &[i16], word: &[u8], scratch: usize) -> u32
     refusal::unless(row.len() == shape.bits, 2, word_long)
 }
 
-// What a codeword costs more than the least, with every buffer lent. It needs no marginals, and no tables behind the columns.
+// What a codeword costs more than the least, with every buffer lent. It needs no words, no marginals, and no tables behind the columns.
 fn excess_with(
     shape: Shape,
     row: &[i16],
     hs: &[u16],
     zs: &mut [u32],
     os: &mut [u32],
-    t: &mut [u32],
+    t: &mut [u16],
     places: &mut [u16],
     f: &mut [u16],
-    g: &mut [u16],
     word: &[u8],
 ) -> u32
     requires { ⌜ Judged shape (now row) (now word) ⌝ }
     requires { ⌜ now hs ≡ columns (shape .m) (shape .r) ⌝ }
-    requires { ⌜ Buffers false shape (now zs) (now os) (now t) (now g) [] ⌝ }
-    requires { ⌜ Places shape (now places) (now f) ⌝ }
+    requires { ⌜ Lent shape (now zs) (now os) (now t) (now places) (now f) ⌝ }
     ensures { λ x. ⌜ Short (shape .m) (shape .r) (now (row .entry)) (now (word .entry)) x ⌝ }
 {
-    let mut none = [0i32; 1];
-    search::of_row(shape, row, hs, zs, os, t, g, &mut none, false);
+    search::costs_of_row(shape, row, hs, zs, os, t);
     let least = search::least_of(shape, t, places, f);
     let own = search::word_cost(metric::BOUND, zs, os, word);
     own - (least as u32)
 }
 
-// With the rooms for tables and places lent, which may be longer than the code needs.
+// With the rooms for a table and places lent, which may be longer than the code needs.
 fn excess_in(
     shape: Shape,
     row: &[i16],
-    t: &mut [u32],
+    t: &mut [u16],
     places: &mut [u16],
     f: &mut [u16],
-    g: &mut [u16],
     word: &[u8],
 ) -> u32
     requires { ⌜ Judged shape (now row) (now word) ⌝ }
-    requires { ⌜ Roomy shape (now t) (now places) (now f) (now g) ⌝ }
+    requires { ⌜ Roomy shape (now t) (now places) (now f) (now f) ⌝ }
     ensures { λ x. ⌜ Short (shape .m) (shape .r) (now (row .entry)) (now (word .entry)) x ⌝ }
 {
     let columns = spots::columns(shape.m, shape.r);
@@ -102,7 +96,6 @@ fn excess_in(
         &mut t[..states],
         &mut places[..count],
         &mut f[..count],
-        &mut g[..states],
         word,
     )
 }
@@ -115,25 +108,22 @@ fn excess(shape: Shape, row: &[i16], word: &[u8]) -> u32
     let count = search::places_of(shape);
     if count <= 64 {
         if shape.size <= 16 {
-            let mut t = [search::CAP as u32; 64];
+            let mut t = [search::CAP; 64];
             let mut places = [search::CAP; 64];
             let mut f = [search::CAP; 64];
-            let mut g = [search::CAP; 64];
-            return excess_in(shape, row, &mut t, &mut places, &mut f, &mut g, word);
+            return excess_in(shape, row, &mut t, &mut places, &mut f, word);
         }
     }
     if count <= 400 {
-        let mut t = [search::CAP as u32; 256];
+        let mut t = [search::CAP; 256];
         let mut places = [search::CAP; 400];
         let mut f = [search::CAP; 400];
-        let mut g = [search::CAP; 400];
-        return excess_in(shape, row, &mut t, &mut places, &mut f, &mut g, word);
+        return excess_in(shape, row, &mut t, &mut places, &mut f, word);
     }
-    let mut t = [search::CAP as u32; 4096];
+    let mut t = [search::CAP; 4096];
     let mut places = [search::CAP; 4096];
     let mut f = [search::CAP; 4096];
-    let mut g = [search::CAP; 4096];
-    excess_in(shape, row, &mut t, &mut places, &mut f, &mut g, word)
+    excess_in(shape, row, &mut t, &mut places, &mut f, word)
 }
 
 // The verdict on a codeword, from what its metric lacks of the greatest.

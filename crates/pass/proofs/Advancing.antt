@@ -12,13 +12,15 @@ use Rattle.lanes.specs.Lanes.{entry, lane, row, put}
 use Rattle.lanes.proofs.Rows.{four, row-at, length-put, put-other, put-at}
 use Rattle.rows.specs.Rows.{sum, less}
 use Rattle.rows.proofs.Rows.{sum-at, less-at}
-use Rattle.trellis.specs.Trellis.{step}
-use Rattle.trellis.specs.Rows.{front}
+use Rattle.trellis.specs.Trellis.{step, only}
+use Rattle.trellis.specs.Rows.{column, front}
+use Rattle.coset.specs.Coset.{Freed}
 use Rattle.coset.specs.Runs.{leader, Ran, Top}
 use Rattle.coset.proofs.Runs.{same-leader, ran-none, ran-then, ran-skip, ran-pair, block-up, block-down}
 use Rattle.coset.proofs.Pairs.{powers, over}
-use Rattle.pass.specs.Pass.{Advance, Advanced}
+use Rattle.pass.specs.Pass.{Advance}
 use Rattle.pass.specs.Steps.{AdvanceRows, AdvancedRows}
+use Rattle.pass.proofs.Rows.{Lowest}
 use Rattle.pass.proofs.Lowest.{Low, low-none, low-same, low-two, low-all}
 
 -- ONE LAYER, tables as functions: A before the column and B behind it. The pairs whose first row is below n are done, x and y are the least with a 0
@@ -205,14 +207,10 @@ module _ {q size h cap : ℕ} {a₀ t z o : List ℕ} (w : Advance q size h cap 
     u-in = omega (arith, f .long, w .length-a, in-u);
     s-behind = omega (arith, w .length-t);
     u-behind = omega (arith, w .length-t, in-u);
-    s-z = λ j lj. omega (arith, at-s j lj, w .room-z s s j l l lj);
-    s-o = λ j lj. omega (arith, at-s j lj, w .room-o s s j l l lj);
-    u-z = λ j lj. omega (arith, at-u j lj, w .room-z u s j in-u l lj);
-    u-o = λ j lj. omega (arith, at-u j lj, w .room-o u s j in-u l lj);
-    s-z-met = λ j lj. omega (arith, sum-at (row a s) z j lj, at-s j lj, row-at t s j lj, w .room-z s s j l l lj);
-    u-z-met = λ j lj. omega (arith, sum-at (row a u) z j lj, at-u j lj, row-at t u j lj, w .room-z u u j in-u in-u lj);
-    u-o-met = λ j lj. omega (arith, sum-at (row a u) o j lj, at-u j lj, row-at t s j lj, w .room-o u s j in-u l lj);
-    s-o-met = λ j lj. omega (arith, sum-at (row a s) o j lj, at-s j lj, row-at t u j lj, w .room-o s u j l in-u lj);
+    s-z = λ j lj. omega (arith, sum-at (row a s) z j lj, at-s j lj, row-at t s j lj, w .room-z s s j l l lj);
+    u-z = λ j lj. omega (arith, sum-at (row a u) z j lj, at-u j lj, row-at t u j lj, w .room-z u u j in-u in-u lj);
+    u-o = λ j lj. omega (arith, sum-at (row a u) o j lj, at-u j lj, row-at t s j lj, w .room-o u s j in-u l lj);
+    s-o = λ j lj. omega (arith, sum-at (row a s) o j lj, at-s j lj, row-at t u j lj, w .room-o s u j l in-u lj);
     small-zero = λ j lj. omega (arith, f .going j lj .with-0 .at-most, w .cap-small);
     small-one = λ j lj. omega (arith, f .going j lj .with-1 .at-most, w .cap-small);
   }
@@ -261,12 +259,15 @@ module _ {q size h cap : ℕ} {a₀ t z o : List ℕ} (w : Advance q size h cap 
           ∙ met-at (row a u) o (row t s) (row a s) o (row t u) one j lj
           ∙ rw (at-s j lj, at-u j lj, row-at t s j lj, row-at t u j lj)
 
-pub advance-end : {h size cap e : ℕ} {a₀ t z o : List ℕ} {s : ℕ} {a zero one : List ℕ} → Advancing h size cap e a₀ t z o s a zero one → size ≤ s →
-    Advanced size h cap a₀ t z o a zero one
-unfolding step
-advance-end {h} {size} {cap} {e} {a₀} {t} {z} {o} {s} f l = record {
-  long = f .long;
-  made = λ v j lv lj. f .going j lj .ran .done v lv (omega arith) (omega arith);
-  with-0 = λ j lj. low-all (λ v d. d .0) (λ v b. (b, omega arith)) (λ v. ap (λ (k : ℕ). entry a₀ k j + lane z j + entry t v j) (sym (X.zero-r v))) (f .going j lj .with-0);
-  with-1 = λ j lj. low-all (λ v d. d .0) (λ v b. (b, omega arith)) (λ v. refl) (f .going j lj .with-1);
-}
+module _ {h size cap e : ℕ} {a₀ t z o : List ℕ} {s : ℕ} {a zero one : List ℕ} (f : Advancing h size cap e a₀ t z o s a zero one) (l : size ≤ s) where
+  pub advance-end : Freed size h a₀ z o a
+  unfolding step
+  advance-end = record { long = f .long; made = λ v j lv lj. f .going j lj .ran .done v lv (omega arith) (omega arith) }
+
+  pub end-0 : Lowest cap size (λ v j. step (only 0) (column h z o j) (front a₀ j) v + entry t v j) zero
+  unfolding step
+  end-0 = record { at = λ j lj. low-all (λ v d. d .0) (λ v b. (b, omega arith)) (λ v. ap (λ (k : ℕ). entry a₀ k j + lane z j + entry t v j) (sym (X.zero-r v))) (f .going j lj .with-0) }
+
+  pub end-1 : Lowest cap size (λ v j. step (only 1) (column h z o j) (front a₀ j) v + entry t v j) one
+  unfolding step
+  end-1 = record { at = λ j lj. low-all (λ v d. d .0) (λ v b. (b, omega arith)) (λ v. refl) (f .going j lj .with-1) }

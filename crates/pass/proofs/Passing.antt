@@ -3,24 +3,25 @@
 -- Assumes nothing.
 use Rattle.basics.proofs.Kit.{_≡_, refl, sym, ap, ap₂, _∙_, List, ℕ, zero, suc, _+_, _-_, _*_, _/_, _^_, _≤_, _<_, arith, length, getD, ℤ}
 use mathlib.Core.Path.{subst}
-use native.Mathlib.Nat.{two-pow-succ, suc-mul, mul-le-mul-right}
+use native.Mathlib.Nat.{two-pow-succ, suc-mul, add-mul, mul-le-mul-right}
 use native.Mathlib.Numerals.{add-one}
 use Rattle.field.specs.Field.{xor}
 use Rattle.field.proofs.Xor as X
-use Rattle.lanes.specs.Lanes.{entry, lane, row, put}
-use Rattle.lanes.proofs.Rows.{row-at, length-put}
+use Rattle.lanes.specs.Lanes.{entry, lanes, row, put}
+use Rattle.lanes.proofs.Rows.{lanes-at, row-at}
+use Rattle.rows.specs.Rows.{Small}
 use Rattle.trellis.specs.Trellis.{Columns, step, only, back, fore, final, leastOf, holding, meet}
 use Rattle.trellis.specs.Rows.{column, front, layer}
 use Rattle.trellis.proofs.Least.{least-same}
-use Rattle.coset.specs.Coset.{none, least, Layers, Costs}
+use Rattle.coset.specs.Coset.{none, least, Layers, Costs, Freed}
 use Rattle.coset.proofs.Pairs.{powers, over}
 use Rattle.coset.proofs.Columns.{high-bit}
 use Rattle.coset.proofs.Least.{Tail, tail-at, tail-zero, tail-one, least-le}
-use Rattle.pass.specs.Pass.{Advance, Advanced, met, Folded, Pass, Passed}
-use Rattle.pass.specs.Steps.{Fold, Add, Added}
+use Rattle.pass.specs.Pass.{Advance, lowest, met, Pass}
+use Rattle.pass.specs.Steps.{Fold, Add, Made, laid, added}
 use Rattle.pass.proofs.Adjoint.{held}
 use Rattle.pass.proofs.Lowest.{least-cut}
-use Rattle.pass.proofs.Folding.{wrote}
+use Rattle.pass.proofs.Rows.{made-none, made-more}
 
 -- the table before column i in layer j, and the number of column i for the bit v
 abbrev before : (a hs zs os : List ℕ) → (i j s : ℕ) → ℕ
@@ -29,40 +30,30 @@ before a hs zs os i j s = fore (layer hs zs os j) (front a j) i s
 abbrev number : (size cap : ℕ) → (a hs zs os : List ℕ) → (v i j : ℕ) → ℕ
 number size cap a hs zs os v i j = meet cap size (front a j) (back (holding i v) (layer hs zs os j) (final none) 0 (length hs))
 
--- the numbers of the first i columns are written
-pub record Written (size cap : ℕ) (a hs zs os : List ℕ) (i : ℕ) (zero one : List ℕ) : Type 0 where
-  pub long-zero : length zero ≡ length hs * 4
-  pub long-one : length one ≡ length hs * 4
-  pub done-0 : Passed size cap a hs zs os 0 i zero
-  pub done-1 : Passed size cap a hs zs os 1 i one
-
-pub write-more : {size cap : ℕ} {a hs zs os : List ℕ} {i : ℕ} {zero one : List ℕ} → Written size cap a hs zs os i zero one → i < length hs → (x y : List ℕ) {zero' one' : List ℕ} →
-    zero' ≡ put zero i x → one' ≡ put one i y → ((j : ℕ) → j < 4 → lane x j ≡ number size cap a hs zs os 0 i j) → ((j : ℕ) → j < 4 → lane y j ≡ number size cap a hs zs os 1 i j) →
-    Written size cap a hs zs os (i + 1) zero' one'
-write-more {size} {cap} {a} {hs} {zs} {os} {i} {zero} {one} w l x y ez eo fx fy = rw (ez, eo) record {
-  long-zero = length-put zero i x ∙ w .long-zero;
-  long-one = length-put one i y ∙ w .long-one;
-  done-0 = wrote zero i x (omega (arith, w .long-zero)) (number size cap a hs zs os 0) fx (w .done-0);
-  done-1 = wrote one i y (omega (arith, w .long-one)) (number size cap a hs zs os 1) fy (w .done-1);
-}
+-- the number of a column written
+write-more : {rule : ℕ → ℕ → ℕ} {i n : ℕ} {out₀ out out' : List ℕ} → Made rule i out₀ out → i < n → length out₀ ≡ n * 4 → (f : ℕ → ℕ) → out' ≡ put out i (lanes f) → ((j : ℕ) → j < 4 → f j ≡ rule i j) →
+    Made rule (i + 1) out₀ out'
+write-more m l e f p h = rw p (made-more m (lanes f) (omega arith) (λ j lj. lanes-at f j lj ∙ h j lj))
 
 -- THE HEADS: a is the table before column i, and where a head is passed g is the table behind it
-pub record Heads (q size cap : ℕ) (a₀ hs zs os : List ℕ) (i : ℕ) (a g zero one : List ℕ) : Type 0 where
+pub record Heads (q size cap : ℕ) (a₀ hs zs os zero₀ one₀ : List ℕ) (i : ℕ) (a g zero one : List ℕ) : Type 0 where
   pub inside : i ≤ length hs - q
   pub long-a : length a ≡ size * 4
   pub here : (s j : ℕ) → s < size → j < 4 → entry a s j ≡ before a₀ hs zs os i j s
   pub long-g : length g ≡ size * 4
   pub behind : 0 < i → Costs size hs zs os i g
-  pub written : Written size cap a₀ hs zs os i zero one
+  pub done-0 : Made (number size cap a₀ hs zs os 0) i zero₀ zero
+  pub done-1 : Made (number size cap a₀ hs zs os 1) i one₀ one
 
 -- THE TAIL: the rows below half are the table before column i with the costs from there on
-pub record Tails (q size cap : ℕ) (a₀ hs zs os : List ℕ) (i half : ℕ) (a zero one : List ℕ) : Type 0 where
+pub record Tails (q size cap : ℕ) (a₀ hs zs os zero₀ one₀ : List ℕ) (i half : ℕ) (a zero one : List ℕ) : Type 0 where
   pub from : length hs - q ≤ i
   pub inside : i ≤ length hs
   pub half-is : half ≡ 2 ^ (length hs - i)
   pub long-a : length a ≡ size * 4
   pub here : (s j : ℕ) → s < half → j < 4 → entry a s j ≡ before a₀ hs zs os i j s + least hs zs os i j s
-  pub written : Written size cap a₀ hs zs os i zero one
+  pub done-0 : Made (number size cap a₀ hs zs os 0) i zero₀ zero
+  pub done-1 : Made (number size cap a₀ hs zs os 1) i one₀ one
 
 -- from the front, no table exceeds the first by more than the costs of its columns
 fore-le : (col : Columns) (g : ℕ → ℕ) (cap top size : ℕ) → ((s : ℕ) → s < size → g s ≤ cap) → (i s : ℕ) → s < size → ((p : ℕ) → p < i → col p .c0 ≤ top) → fore col g i s ≤ cap + i * top
@@ -77,21 +68,19 @@ module _ {q size cap : ℕ} {a₀ g₀ hs zs os : List ℕ} {kept : List ℤ} {z
   abbrev y : Layers q size hs zs os
   y = w .layers
 
-  -- so many costs are small
-  some-tops : (k : ℕ) → k ≤ n → k * y .top < 2 ^ 15
-  some-tops k l = omega (arith, mul-le-mul-right (y .top) l, y .room)
+  -- the cap and the costs of all columns are small
+  tops : (i d : ℕ) → i + d ≤ n → cap + (i * y .top + d * y .top) < 2 ^ 15
+  tops i d l = omega (arith, add-mul i d (y .top), mul-le-mul-right (y .top) l, w .cap-small)
 
-  before-le : (i s j : ℕ) → i ≤ n → s < size → j < 4 → before a₀ hs zs os i j s < 2 ^ 20 + 2 ^ 15
-  before-le i s j l ls lj =
-      omega (
-        arith,
-        fore-le (layer hs zs os j) (front a₀ j) cap (y .top) size (λ s ls. w .start s j ls lj) i s ls (λ p u. y .cost-zs p j (omega arith) lj),
-        some-tops i l,
-        w .cap-small,
-      )
+  before-le : (i s j : ℕ) → i ≤ n → s < size → j < 4 → before a₀ hs zs os i j s ≤ cap + i * y .top
+  before-le i s j l ls lj = fore-le (layer hs zs os j) (front a₀ j) cap (y .top) size (λ s ls. w .start s j ls lj) i s ls (λ p u. y .cost-zs p j (omega arith) lj)
 
-  top-le : {i : ℕ} → i < n → y .top < 2 ^ 15
-  top-le {i} l = omega (arith, some-tops 1 (omega arith))
+  -- what the calls ask of a column's costs and of the outputs
+  pub narrow-asks : {i : ℕ} (t : List ℕ) → length t ≡ n * 4 → ((i j : ℕ) → i < n → j < 4 → entry t i j ≤ y .top) → i < n → (i * 4 + 4 ≤ length t) × Small (2 ^ 16) (row t i)
+  narrow-asks {i} t e h l = (omega arith, λ j lj. omega (arith, row-at t i j lj, h i j l lj, tops 0 1 (omega arith)))
+
+  pub outs-in : {i k : ℕ} {r r' : ℕ → ℕ → ℕ} {zeros ones : List ℕ} → Made r k zero₀ zeros → Made r' k one₀ ones → i < n → (i * 4 + 4 ≤ length zeros) × (i * 4 + 4 ≤ length ones)
+  outs-in f g l = (omega (arith, f .long, w .length-zero), omega (arith, g .long, w .length-one))
 
   -- column i with the bit v, from the front and from the back
   held-at : (v i j : ℕ) → i < n →
@@ -103,7 +92,7 @@ module _ {q size cap : ℕ} {a₀ g₀ hs zs os : List ℕ} {kept : List ℤ} {z
       ≡ number m cap a₀ hs zs os v i j) (sym (y .size-is))
       (held q cap n (layer hs zs os j) (λ k lk. omega (arith, y .inside k lk, y .size-is)) (front a₀ j) i (n - suc i) v (final none) (omega arith))
 
-  pub heads-start : Heads q size cap a₀ hs zs os 0 a₀ g₀ zero₀ one₀
+  pub heads-start : Heads q size cap a₀ hs zs os zero₀ one₀ 0 a₀ g₀ zero₀ one₀
   unfolding fore
   heads-start = record {
     inside = omega arith;
@@ -111,11 +100,12 @@ module _ {q size cap : ℕ} {a₀ g₀ hs zs os : List ℕ} {kept : List ℤ} {z
     here = λ s j ls lj. refl;
     long-g = w .length-g;
     behind = λ p. absurd (omega arith);
-    written = record { long-zero = w .length-zero; long-one = w .length-one; done-0 = λ i j li lj. absurd (omega arith); done-1 = λ i j li lj. absurd (omega arith) };
+    done-0 = made-none;
+    done-1 = made-none;
   }
 
   -- A HEAD
-  module _ {i : ℕ} {a g zeros ones : List ℕ} (f : Heads q size cap a₀ hs zs os i a g zeros ones) (l : i < n - q) where
+  module _ {i : ℕ} {a g zeros ones : List ℕ} (f : Heads q size cap a₀ hs zs os zero₀ one₀ i a g zeros ones) (l : i < n - q) where
     pub head-in : i < n
     head-in = omega arith
 
@@ -126,11 +116,17 @@ module _ {q size cap : ℕ} {a₀ g₀ hs zs os : List ℕ} {kept : List ℤ} {z
     wide = over q size h (y .size-is) (y .inside i head-in)
 
     module _ {g' : List ℕ} (b : Costs size hs zs os (suc i) g') where
-      behind-le : (s j : ℕ) → s < size → j < 4 → entry g' s j < 2 ^ 15
+      behind-le : (s j : ℕ) → s < size → j < 4 → entry g' s j ≤ (n - suc i) * y .top
       behind-le s j ls lj =
           let d : ℕ = n - suc i in
           let e : n - d ≡ suc i = omega arith in
-          omega (arith, b .costs s j ls lj, least-le y lj d s (omega arith) (omega arith) ls, ap (λ (x : ℕ). least hs zs os x j s) e, some-tops d (omega arith))
+          omega (arith, b .costs s j ls lj, least-le y lj d s (omega arith) (omega arith) ls, ap (λ (x : ℕ). least hs zs os x j s) e)
+
+      -- a table before, a cost and a table behind
+      room : (c s u j : ℕ) → c ≤ y .top → s < size → u < size → j < 4 → entry a s j + c + entry g' u j < 2 ^ 15
+      room c s u j lc ls lu lj =
+          let k : ℕ = n - suc i in
+          omega (arith, f .here s j ls lj, before-le i s j (omega arith) ls lj, behind-le u j lu lj, tops i (suc k) (omega arith), suc-mul k (y .top))
 
       pub head-asks : Advance q size h cap a g' (row zs i) (row os i)
       head-asks = record {
@@ -140,10 +136,8 @@ module _ {q size cap : ℕ} {a₀ g₀ hs zs os : List ℕ} {kept : List ℤ} {z
         length-a = f .long-a;
         length-t = b .long;
         cap-small = omega (arith, w .cap-small);
-        room-z = λ s u j ls lu lj.
-            omega (arith, f .here s j ls lj, before-le i s j (omega arith) ls lj, row-at zs i j lj, y .cost-zs i j head-in lj, top-le head-in, behind-le u j lu lj);
-        room-o = λ s u j ls lu lj.
-            omega (arith, f .here s j ls lj, before-le i s j (omega arith) ls lj, row-at os i j lj, y .cost-os i j head-in lj, top-le head-in, behind-le u j lu lj);
+        room-z = λ s u j ls lu lj. rw (row-at zs i j lj) (room (entry zs i j) s u j (y .cost-zs i j head-in lj) ls lu lj);
+        room-o = λ s u j ls lu lj. rw (row-at os i j lj) (room (entry os i j) s u j (y .cost-os i j head-in lj) ls lu lj);
       }
 
       met-is : (v j : ℕ) → v < 2 → j < 4 → met size h cap a g' (row zs i) (row os i) v j ≡ number size cap a₀ hs zs os v i j
@@ -161,26 +155,30 @@ module _ {q size cap : ℕ} {a₀ g₀ hs zs os : List ℕ} {kept : List ℤ} {z
           same (suc zero) lv s ls = ap₂ (λ (x y : ℕ). x + y) (f .here (xor s h) j (wide s ls) lj) (row-at os i j lj)
           same (suc (suc v)) lv s ls = absurd (omega arith)
 
-      pub heads-more : {a' r₀ r₁ zeros' ones' : List ℕ} → Advanced size h cap a g' (row zs i) (row os i) a' r₀ r₁ → zeros' ≡ put zeros i r₀ → ones' ≡ put ones i r₁ →
-          Heads q size cap a₀ hs zs os (i + 1) a' g' zeros' ones'
+      pub heads-more : {a' zeros' ones' : List ℕ} → Freed size h a (row zs i) (row os i) a' → zeros' ≡ put zeros i (lanes (met size h cap a g' (row zs i) (row os i) 0)) →
+          ones' ≡ put ones i (lanes (met size h cap a g' (row zs i) (row os i) 1)) → Heads q size cap a₀ hs zs os zero₀ one₀ (i + 1) a' g' zeros' ones'
       unfolding fore step
-      heads-more {a'} {r₀} {r₁} r ez eo = record {
+      heads-more r ez eo = record {
         inside = omega arith;
         long-a = r .long ∙ f .long-a;
         here = λ s j ls lj.
             rw (add-one i) (r .made s j ls lj ∙ omega (arith, row-at zs i j lj, row-at os i j lj, f .here s j ls lj, f .here (xor s h) j (wide s ls) lj));
         long-g = b .long;
         behind = λ p. rw (add-one i) b;
-        written = write-more (f .written) head-in r₀ r₁ ez eo (λ j lj. r .with-0 j lj ∙ met-is 0 j (omega arith) lj) (λ j lj. r .with-1 j lj ∙ met-is 1 j (omega arith) lj);
+        done-0 = write-more (f .done-0) head-in (w .length-zero) (met size h cap a g' (row zs i) (row os i) 0) ez (λ j lj. met-is 0 j (omega arith) lj);
+        done-1 = write-more (f .done-1) head-in (w .length-one) (met size h cap a g' (row zs i) (row os i) 1) eo (λ j lj. met-is 1 j (omega arith) lj);
       }
 
   -- THE COSTS OF THE TAILS ADDED
-  module _ {i : ℕ} {a g zeros ones : List ℕ} (f : Heads q size cap a₀ hs zs os i a g zeros ones) (l : n - q ≤ i) where
+  module _ {i : ℕ} {a g zeros ones : List ℕ} (f : Heads q size cap a₀ hs zs os zero₀ one₀ i a g zeros ones) (l : n - q ≤ i) where
     costs : Costs size hs zs os i g
     costs = f .behind (omega (arith, w .head))
 
     pub add-asks : Add size a g
     add-asks = record {
+      even =
+          let e : q ≡ suc (q - 1) = omega (arith, y .some) in
+          omega (arith, y .size-is, ap (λ (x : ℕ). 2 ^ x) e, two-pow-succ (q - 1));
       length-a = omega (arith, f .long-a);
       length-g = omega (arith, f .long-g);
       room = λ s j ls lj.
@@ -192,11 +190,11 @@ module _ {q size cap : ℕ} {a₀ g₀ hs zs os : List ℕ} {kept : List ℤ} {z
             costs .costs s j ls lj,
             least-le y lj (n - i) s (omega (arith, f .inside, y .fits)) (omega arith) ls,
             ap (λ (x : ℕ). least hs zs os x j s) e,
-            some-tops (n - i) (omega arith),
+            tops i (n - i) (omega (arith, f .inside)),
           );
     }
 
-    pub tails-start : {a' : List ℕ} → Added size a g a' → Tails q size cap a₀ hs zs os (n - q) size a' zeros ones
+    pub tails-start : {a' : List ℕ} → Made (added a g) size a a' → Tails q size cap a₀ hs zs os zero₀ one₀ (n - q) size a' zeros ones
     tails-start {a'} r =
         let e : i ≡ n - q = omega (arith, f .inside) in
         let d : n - (n - q) ≡ q = omega (arith, y .fits) in
@@ -206,11 +204,12 @@ module _ {q size cap : ℕ} {a₀ g₀ hs zs os : List ℕ} {kept : List ℤ} {z
           half-is = rw d (y .size-is);
           long-a = r .long ∙ f .long-a;
           here = λ s j ls lj. rw (← e) (r .made s j ls lj ∙ ap₂ (λ (x y : ℕ). x + y) (f .here s j ls lj) (costs .costs s j ls lj));
-          written = rw e at (f .written);
+          done-0 = rw e at (f .done-0);
+          done-1 = rw e at (f .done-1);
         }
 
   -- A COLUMN OF THE TAIL
-  module _ {i half : ℕ} {a zeros ones : List ℕ} (f : Tails q size cap a₀ hs zs os i half a zeros ones) (l : i < n) where
+  module _ {i half : ℕ} {a zeros ones : List ℕ} (f : Tails q size cap a₀ hs zs os zero₀ one₀ i half a zeros ones) (l : i < n) where
     abbrev k : ℕ
     k = n - suc i
 
@@ -284,27 +283,24 @@ module _ {q size cap : ℕ} {a₀ g₀ hs zs os : List ℕ} {kept : List ℤ} {z
 
     pub fold-asks : Fold (half / 2) cap a
     fold-asks = rw halves record {
+      inside = omega (arith, f .long-a, half-in);
       cap-small = omega (arith, w .cap-small);
-      lay = record {
-        inside = omega (arith, f .long-a, half-in);
-        small = λ s j ls lj.
-            let e : n - suc k ≡ i = omega arith in
-            omega (
-              arith,
-              f .here s j (omega (arith, twice)) lj,
-              before-le i s j (omega arith) (omega (arith, half-in)) lj,
-              tail-at y lj (suc k) lk .near s (omega (arith, two-pow-succ k)),
-              ap (λ (x : ℕ). least hs zs os x j s) e,
-              some-tops (suc k) (omega arith),
-            );
-      };
+      small = λ s j ls lj.
+          omega (
+            arith,
+            f .here s j (omega (arith, twice)) lj,
+            before-le i s j (omega arith) (omega (arith, half-in)) lj,
+            tail-at y lj (suc k) lk .near s (omega (arith, two-pow-succ k)),
+            ap (λ (x : ℕ). least hs zs os x j s) here-is,
+            tops i (suc k) (omega arith),
+          );
     }
 
-    pub tails-more : {a' r₀ r₁ zeros' ones' : List ℕ} → Folded (half / 2) cap a a' r₀ r₁ → zeros' ≡ put zeros i r₀ → ones' ≡ put ones i r₁ →
-        Tails q size cap a₀ hs zs os (i + 1) (half / 2) a' zeros' ones'
+    pub tails-more : {a' zeros' ones' : List ℕ} → Made (laid (half / 2) a) (half / 2) a a' → zeros' ≡ put zeros i (lanes (lowest cap (half / 2) (entry a))) →
+        ones' ≡ put ones i (lanes (lowest cap (half / 2) (λ s. entry a (half / 2 + s)))) → Tails q size cap a₀ hs zs os zero₀ one₀ (i + 1) (half / 2) a' zeros' ones'
     unfolding fore step
-    tails-more {a'} {r₀} {r₁} r' ez eo =
-        let r : Folded (2 ^ k) cap a a' r₀ r₁ = rw halves at r' in
+    tails-more {a'} r' ez eo =
+        let r : Made (laid (2 ^ k) a) (2 ^ k) a a' = rw halves at r' in
         let e : n - (i + 1) ≡ k = omega arith in
         record {
           from = omega (arith, f .from);
@@ -314,5 +310,6 @@ module _ {q size cap : ℕ} {a₀ g₀ hs zs os : List ℕ} {kept : List ℤ} {z
           here = λ s j ls lj.
               let ls' : s < 2 ^ k = omega (arith, halves) in
               rw (add-one i) (r .made s j ls' lj ∙ omega (arith, with-0 lj s ls', with-1 lj s ls'));
-          written = write-more (f .written) l r₀ r₁ ez eo (λ j lj. r .with-0 j lj ∙ number-0 lj) (λ j lj. r .with-1 j lj ∙ number-1 lj);
+          done-0 = write-more (f .done-0) l (w .length-zero) (lowest cap (2 ^ k) (entry a)) (rw halves at ez) (λ j lj. number-0 lj);
+          done-1 = write-more (f .done-1) l (w .length-one) (lowest cap (2 ^ k) (λ s. entry a (2 ^ k + s))) (rw halves at eo) (λ j lj. number-1 lj);
         }

@@ -2,72 +2,80 @@
 // by one, each met with the table behind it; the tail's columns are read off by laying halves on each other. It knows no code. Its functions are for
 // the crates above; their promises cite specs/Pass.antt.
 ghost use mathlib.Core.Path.{_≡_};
-ghost use Prim.Native.Nat.{_+_, _*_, _<_};
+ghost use Prim.Native.Nat.{_+_, _*_, _≤_};
 ghost use lib.ListN.{length};
+ghost use Rattle.lanes.specs.Lanes.{entry, row, put, lanes, limit};
 ghost use Rattle.rows.specs.Rows.{sum, less, Small, Sums};
-ghost use Rattle.coset.specs.Coset.{Costs};
-ghost use Rattle.pass.specs.Steps.{AdvanceRows, AdvancedRows, Least, leasts, Lay, Laid, Fold, Add, Added, Behind};
-ghost use Rattle.pass.specs.Pass.{Advance, Advanced, Folded, Pass, Passed};
+ghost use Rattle.coset.specs.Coset.{Costs, Freed};
+ghost use Rattle.pass.specs.Steps.{AdvanceRows, AdvancedRows, FoldRows, Fold, Add, Behind, Made, laid, added};
+ghost use Rattle.pass.specs.Pass.{Advance, met, lowest, Pass, Passed};
 
 // What a column has at the least with a 0 and with a 1, in each layer.
 pub struct Pair {
-    pub zero: [u32; 4],
-    pub one: [u32; 4],
+    pub zero: [u16; 4],
+    pub one: [u16; 4],
 }
 
 // The less, lane by lane, of r and two sums.
-fn lowered(r: [u32; 4], a: [u32; 4], b: [u32; 4], c: [u32; 4], d: [u32; 4]) -> [u32; 4]
-    requires { ⌜ Small r ⌝ }
-    requires { ⌜ Sums a b ⌝ }
-    requires { ⌜ Sums c d ⌝ }
+fn lowered(r: [u16; 4], a: [u16; 4], b: [u16; 4], c: [u16; 4], d: [u16; 4]) -> [u16; 4]
+    requires { ⌜ Small limit r ⌝ }
+    requires { ⌜ Sums limit a b ⌝ }
+    requires { ⌜ Sums limit c d ⌝ }
     ensures { λ x. ⌜ x ≡ less r (less (sum a b) (sum c d)) ⌝ }
 {
-    rows::lesser(r, rows::lesser(rows::plus(a, b), rows::plus(c, d)))
+    rows::least(r, rows::least(rows::add(a, b), rows::add(c, d)))
 }
 
 // Rows s and u, which differ by a column, carried past it, each from both; on the way they are met with the table behind.
 fn advance_rows(
-    a: &mut [u32],
+    a: &mut [u16],
     t: &[u16],
     s: usize,
     u: usize,
-    z: [u32; 4],
-    o: [u32; 4],
-    zero: [u32; 4],
-    one: [u32; 4],
+    z: [u16; 4],
+    o: [u16; 4],
+    zero: [u16; 4],
+    one: [u16; 4],
 ) -> Pair
     requires { ⌜ AdvanceRows (now a) (now t) s u z o zero one ⌝ }
     ensures { λ r. ⌜ AdvancedRows (now (a .entry)) (now (t .entry)) s u z o zero one (now (a .exit)) (r .zero) (r .one) ⌝ }
 {
-    let x = rows::load(a, s);
-    let y = rows::load(a, u);
-    let xz = rows::plus(x, z);
-    let yo = rows::plus(y, o);
-    let yz = rows::plus(y, z);
-    let xo = rows::plus(x, o);
-    let c = rows::widen(t, s);
-    let d = rows::widen(t, u);
+    let x = lanes::load(a, s);
+    let y = lanes::load(a, u);
+    let xz = rows::add(x, z);
+    let yo = rows::add(y, o);
+    let yz = rows::add(y, z);
+    let xo = rows::add(x, o);
+    let c = lanes::load(t, s);
+    let d = lanes::load(t, u);
     let v = lowered(zero, xz, c, yz, d);
     let w = lowered(one, yo, c, xo, d);
-    rows::store(a, s, rows::lesser(xz, yo));
-    rows::store(a, u, rows::lesser(yz, xo));
+    rows::store_least(a, s, xz, yo);
+    rows::store_least(a, u, yz, xo);
     Pair { zero: v, one: w }
 }
 
 // The table before a column carried past it, in place, rows s and s ^ h together, for each s in which the highest bit of h is 0; on the way it is met
-// with the table behind.
+// with the table behind, and the least with a 0 and with a 1 is written to row i.
 fn advance(
-    a: &mut [u32],
+    a: &mut [u16],
     t: &[u16],
     q: u32,
     size: usize,
     h: usize,
-    z: [u32; 4],
-    o: [u32; 4],
-    cap: u32,
-) -> Pair
+    z: [u16; 4],
+    o: [u16; 4],
+    cap: u16,
+    zeros: &mut [u16],
+    ones: &mut [u16],
+    i: usize,
+)
     requires { ⌜ Advance q size h cap (now a) (now t) z o ⌝ }
-    ensures { λ r. ⌜ Advanced size h cap (now (a .entry)) (now (t .entry)) z o (now (a .exit)) (r .zero) (r .one) ⌝ }
+    requires { ⌜ i * 4 + 4 ≤ length (now zeros) ⌝ }
+    requires { ⌜ i * 4 + 4 ≤ length (now ones) ⌝ }
+    ensures { λ _. ⌜ Freed size h (now (a .entry)) z o (now (a .exit)) ⌝ }
+    ensures { λ _. ⌜ now (zeros .exit) ≡ put (now (zeros .entry)) i (lanes (met size h cap (now (a .entry)) (now (t .entry)) z o 0)) ⌝ }
+    ensures { λ _. ⌜ now (ones .exit) ≡ put (now (ones .entry)) i (lanes (met size h cap (now (a .entry)) (now (t .entry)) z o 1)) ⌝ }
 {
     let top = coset::top_of(h);
     let mut zero = [cap, cap, cap, cap];
@@ -82,58 +90,63 @@ fn advance(
         let next = s + 1;
         s = next + (next & top);
     }
-    Pair { zero, one }
+    rows::store_least(zeros, i, zero, zero);
+    rows::store_least(ones, i, one, one);
 }
 
-// The least of n rows from one on, lane by lane, and of cap.
-fn least(t: &[u32], from: usize, n: usize, cap: u32) -> [u32; 4]
-    requires { ⌜ Least from n cap (now t) ⌝ }
-    ensures { λ r. ⌜ r ≡ leasts from n cap (now (t .entry)) ⌝ }
+// Row u laid on row s, and the least of such rows so far.
+fn fold_rows(a: &mut [u16], s: usize, u: usize, zero: [u16; 4], one: [u16; 4]) -> Pair
+    requires { ⌜ FoldRows (now a) s u zero one ⌝ }
+    ensures { λ _. ⌜ now (a .exit) ≡ put (now (a .entry)) s (less (row (now (a .entry)) s) (row (now (a .entry)) u)) ⌝ }
+    ensures { λ r. ⌜ r .zero ≡ less zero (row (now (a .entry)) s) ⌝ }
+    ensures { λ r. ⌜ r .one ≡ less one (row (now (a .entry)) u) ⌝ }
 {
-    let mut r = [cap, cap, cap, cap];
-    let mut s = 0;
-    while s < n {
-        let m = rows::lesser(r, rows::load(t, from + s));
-        r = m;
-        s += 1;
+    let x = lanes::load(a, s);
+    let y = lanes::load(a, u);
+    rows::store_least(a, s, x, y);
+    Pair {
+        zero: rows::least(zero, x),
+        one: rows::least(one, y),
     }
-    r
 }
 
-// The less of the upper half of a table and the lower, row by row, in place of the lower.
-fn lay(a: &mut [u32], half: usize)
-    requires { ⌜ Lay half (now a) ⌝ }
-    ensures { λ _. ⌜ Laid half half (now (a .entry)) (now (a .exit)) ⌝ }
+// The upper half of a table laid on the lower, row by row, and what each half has at the least written to row i.
+fn fold(a: &mut [u16], half: usize, cap: u16, zeros: &mut [u16], ones: &mut [u16], i: usize)
+    requires { ⌜ Fold half cap (now a) ⌝ }
+    requires { ⌜ i * 4 + 4 ≤ length (now zeros) ⌝ }
+    requires { ⌜ i * 4 + 4 ≤ length (now ones) ⌝ }
+    ensures { λ _. ⌜ Made (laid half (now (a .entry))) half (now (a .entry)) (now (a .exit)) ⌝ }
+    ensures { λ _. ⌜ now (zeros .exit) ≡ put (now (zeros .entry)) i (lanes (lowest cap half (entry (now (a .entry))))) ⌝ }
+    ensures { λ _. ⌜ now (ones .exit) ≡ put (now (ones .entry)) i (lanes (lowest cap half (λ s. entry (now (a .entry)) (half + s)))) ⌝ }
 {
+    let mut zero = [cap, cap, cap, cap];
+    let mut one = [cap, cap, cap, cap];
     let mut s = 0;
     while s < half {
-        let r = rows::lesser(rows::load(a, s), rows::load(a, half + s));
-        rows::store(a, s, r);
+        let r = fold_rows(a, s, half + s, zero, one);
+        let lower = r.zero;
+        let upper = r.one;
+        zero = lower;
+        one = upper;
         s += 1;
     }
+    rows::store_least(zeros, i, zero, zero);
+    rows::store_least(ones, i, one, one);
 }
 
-// The upper half of a table laid on the lower, and what each half has at the least. Apart, so that the compiler makes vectors of all three.
-fn fold(a: &mut [u32], half: usize, cap: u32) -> Pair
-    requires { ⌜ Fold half cap (now a) ⌝ }
-    ensures { λ r. ⌜ Folded half cap (now (a .entry)) (now (a .exit)) (r .zero) (r .one) ⌝ }
-{
-    let zero = least(a, 0, half, cap);
-    let one = least(a, half, half, cap);
-    lay(a, half);
-    Pair { zero, one }
-}
-
-// A table of costs added to another, row by row.
-fn add(a: &mut [u32], g: &[u16], size: usize)
+// A table of costs added to another, two rows at a time.
+fn add(a: &mut [u16], g: &[u16], size: usize)
     requires { ⌜ Add size (now a) (now g) ⌝ }
-    ensures { λ _. ⌜ Added size (now (a .entry)) (now (g .entry)) (now (a .exit)) ⌝ }
+    ensures { λ _. ⌜ Made (added (now (a .entry)) (now (g .entry))) size (now (a .entry)) (now (a .exit)) ⌝ }
 {
     let mut s = 0;
     while s < size {
-        let r = rows::plus(rows::load(a, s), rows::widen(g, s));
-        rows::store(a, s, r);
-        s += 1;
+        lanes::store_two(
+            a,
+            s,
+            lanes::plus(lanes::load_two(a, s, s + 1), lanes::load_two(g, s, s + 1)),
+        );
+        s += 2;
     }
 }
 
@@ -162,7 +175,7 @@ fn behind(
 
 // The soft pass: the heads one by one, then, with the costs of the tails added, the columns of the tail by halves. a and g are used up.
 pub fn pass(
-    a: &mut [u32],
+    a: &mut [u16],
     g: &mut [u16],
     kept: &[i32],
     q: u32,
@@ -170,9 +183,9 @@ pub fn pass(
     hs: &[u16],
     zs: &[u32],
     os: &[u32],
-    cap: u32,
-    zero: &mut [u32],
-    one: &mut [u32],
+    cap: u16,
+    zero: &mut [u16],
+    one: &mut [u16],
 )
     requires { ⌜ Pass q size cap (now a) (now g) (now hs) (now zs) (now os) (now kept) (now zero) (now one) ⌝ }
     ensures { λ _. ⌜ Passed size cap (now (a .entry)) (now (hs .entry)) (now (zs .entry)) (now (os .entry)) 0 (length (now (hs .entry))) (now (zero .exit)) ⌝ }
@@ -183,13 +196,9 @@ pub fn pass(
     while i < heads {
         behind(g, kept, i, q, size, hs, zs, os);
         let h = hs[i] as usize;
-        let z = rows::load(zs, i);
-        let o = rows::load(os, i);
-        let pair = advance(a, g, q, size, h, z, o, cap);
-        let x = pair.zero;
-        let y = pair.one;
-        rows::store(zero, i, x);
-        rows::store(one, i, y);
+        let z = rows::narrow(zs, i);
+        let o = rows::narrow(os, i);
+        advance(a, g, q, size, h, z, o, cap, zero, one, i);
         i += 1;
     }
     add(a, g, size);
@@ -197,11 +206,7 @@ pub fn pass(
     let mut k = heads;
     while k < hs.len() {
         half = half / 2;
-        let pair = fold(a, half, cap);
-        let x = pair.zero;
-        let y = pair.one;
-        rows::store(zero, k, x);
-        rows::store(one, k, y);
+        fold(a, half, cap, zero, one, k);
         k += 1;
     }
 }

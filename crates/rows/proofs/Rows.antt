@@ -14,5 +14,5 @@ unfolding less
 less-at a b = lanes-at (λ j. min (lane a j) (lane b j))
 
 -- a sum that may be taken is small
-pub small-sum : (a b : List ℕ) → Sums a b → Small (sum a b)
-small-sum a b h j l = omega (arith, sum-at a b j l, h j l)
+pub small-sum : {l : ℕ} (a b : List ℕ) → Sums l a b → Small l (sum a b)
+small-sum a b h j lj = omega (arith, sum-at a b j lj, h j lj)

@@ -19,13 +19,13 @@ use Rattle.trellis.proofs.Least.{least-le}
 use Rattle.lanes.specs.Lanes.{entry, lane, lanes}
 use Rattle.lanes.proofs.Rows.{lanes-at}
 use Rattle.coset.specs.Coset.{none, first}
-use Rattle.walk.specs.Walk.{sum4, spot, total, least-total}
+use Rattle.walk.specs.Walk.{sum4, spot, total, least-total, key-cost}
 use Rattle.ties.specs.Ties.{spaced, number-of, word-at}
 use Rattle.bridge.proofs.Engine.{over}
 use Rattle.bridge.proofs.Bridge.{free-two}
 use Rattle.bridge.proofs.Traced as TR
 use Rattle.bridge.proofs.Foremost as O
-use Rattle.search.specs.Within.{cap, bound, Input, Tabled, Laid, First-words, slots-of, steps-of, turns-of, words-of, leading}
+use Rattle.search.specs.Within.{cap, bound, Input, Tabled, Costing, Laid, First-words, slots-of, steps-of, turns-of, words-of, leading}
 use Rattle.search.proofs.Laying.{number-same}
 use Rattle.search.proofs.Searching as A
 use Rattle.search.proofs.Wording.{leading-number, spaced-number}
@@ -38,7 +38,10 @@ pub record Best (m r : ℕ) (row : List ℤ) (word : List ℕ) (x : ℕ) : Type 
   pub is-least : Least m (is-codeword m r) row x
   pub first : (vs : List ℕ) → is-codeword m r vs ≡ true → cost m row vs ≡ x → not-after word vs ≡ true
 
-module _ {asked : Bool} {s : Shape} {row : List ℤ} {hs zs os t : List ℕ} {kept : List ℤ} (z : Input s row) (b : Tabled asked s row hs zs os t kept) {places f : List ℕ} (l : Laid s t places f) where
+module _ {s : Shape} {row : List ℤ} {hs zs os t : List ℕ} {kept : List ℤ} (z : Input s row) (b : Tabled s row hs zs os t kept) {places f : List ℕ} (l : Laid s (key-cost t) places f) where
+  costing : Costing s hs zs os (key-cost t)
+  costing = A.key-costing z (b .layered) (b .keys)
+
   abbrev coset : ℕ → ℕ → ℕ
   coset = visited (s .m) (s .r)
 
@@ -46,7 +49,7 @@ module _ {asked : Bool} {s : Shape} {row : List ℤ} {hs zs os t : List ℕ} {ke
   tuples = turns-of s * 16
 
   abbrev F : ℕ → ℕ → ℕ
-  F = A.F z b
+  F = A.F z (b .layered)
 
   -- the first bits of layer j in a coset
   abbrev bits : (j x : ℕ) → List ℕ
@@ -68,17 +71,17 @@ module _ {asked : Bool} {s : Shape} {row : List ℤ} {hs zs os t : List ℕ} {ke
   word-is : (i j : ℕ) → i < tuples → j < 4 → word-at t places (spot (slots-of s) (steps-of s) i j) ≡ number 2 (bits j (coset i j))
   word-is i j li lj =
       let x : ℕ = coset i j in
-      let lx : x < s .size = A.coset-in z b i j lj in
-      let h : 2 ^ length hs ≤ 2 ^ 15 = pow-le-pow-right (zero-lt-suc 1) (A.few z b) in
-      let e : getD t (getD places (spot (slots-of s) (steps-of s) i j) 0) 0 ≡ entry t x j = ap (λ (n : ℕ). getD t n 0) (A.stands z b l i j li lj) in
-      omega (arith, e, b .keys .keys x j lx lj, C.number-whole (b .layers) lj x lx, ap (number 2) (same j x))
+      let lx : x < s .size = A.coset-in z (b .layered) i j lj in
+      let h : 2 ^ length hs ≤ 2 ^ 15 = pow-le-pow-right (zero-lt-suc 1) (A.few z (b .layered)) in
+      let e : getD t (getD places (spot (slots-of s) (steps-of s) i j) 0) 0 ≡ entry t x j = ap (λ (n : ℕ). getD t n 0) (A.stands z (b .layered) costing l i j li lj) in
+      omega (arith, e, b .keys .keys x j lx lj, C.number-whole (b .layered .layers) lj x lx, ap (number 2) (same j x))
 
   words-lane : (i j : ℕ) → i < tuples → j < 4 → lane (words-of s t places i) j ≡ number 2 (bits j (coset i j))
   words-lane i j li lj = lanes-at (λ j. word-at t places (spot (slots-of s) (steps-of s) i j)) j lj ∙ word-is i j li lj
 
   -- its weight in the number of the word
   spaced-is : (i j : ℕ) → i < tuples → j < 4 → spaced 16 (lane (words-of s t places i) j) ≡ number 16 (bits j (coset i j))
-  spaced-is i j li lj = ap (spaced 16) (words-lane i j li lj) ∙ spaced-number 16 (bits j (coset i j)) (omega (arith, bits-long j (coset i j), A.few z b)) (bits-two j (coset i j))
+  spaced-is i j li lj = ap (spaced 16) (words-lane i j li lj) ∙ spaced-number 16 (bits j (coset i j)) (omega (arith, bits-long j (coset i j), A.few z (b .layered))) (bits-two j (coset i j))
 
   numbers : (i : ℕ) → i < tuples → number-of (words-of s t places i) ≡ sum4 (λ j. weighed j (bits j (coset i j)))
   unfolding number-of weighed
@@ -101,14 +104,14 @@ module _ {asked : Bool} {s : Shape} {row : List ℤ} {hs zs os t : List ℕ} {ke
     at = lanes (coset i)
 
     small : x < bound
-    small = rw e (A.least-small z b l)
+    small = rw e (A.least-small z (b .layered) costing l)
 
     over-is : over F (coset i) ≡ x
-    over-is = sym (A.total-is z b l i li) ∙ w .found .1 .1
+    over-is = sym (A.total-is z (b .layered) costing l i li) ∙ w .found .1 .1
 
     spelt : (j : ℕ) → j < 4 → leading (s .n) (lane best j) ≡ bits j (lane at j)
     spelt j lj =
-        ap₂ leading (z .coded .n-is ∙ sym (A.n-is z b) ∙ sym (bits-long j (coset i j))) (w .found .2 j lj ∙ word-is i j li lj)
+        ap₂ leading (z .coded .n-is ∙ sym (A.n-is z (b .layered)) ∙ sym (bits-long j (coset i j))) (w .found .2 j lj ∙ word-is i j li lj)
         ∙ leading-number (bits j (coset i j)) (bits-two j (coset i j))
         ∙ ap (bits j) (sym (lanes-at (coset i) j lj))
 
@@ -121,16 +124,16 @@ module _ {asked : Bool} {s : Shape} {row : List ℤ} {hs zs os t : List ℕ} {ke
 
     pub best-ok : Best (s .m) (s .r) row word x
     best-ok =
-        let p = TR.word (A.y z b) none i li (omega (arith, over-is, small)) at (lanes-at (coset i)) in
-        let g = O.first-best (A.y z b) none (firsts none hs zs os) at x (p .0) (omega (arith, small)) (λ k lk. omega (arith, e, A.totals-are z b l, least-le (λ k. over F (coset k)) cap tuples k lk)) lowest in
+        let p = TR.word (A.y z (b .layered)) none i li (omega (arith, over-is, small)) at (lanes-at (coset i)) in
+        let g = O.first-best (A.y z (b .layered)) none (firsts none hs zs os) at x (p .0) (omega (arith, small)) (λ k lk. omega (arith, e, A.totals-are z (b .layered) costing l, least-le (λ k. over F (coset k)) cap tuples k lk)) lowest in
         record {
           codeword = ap (is-codeword (s .m) (s .r)) word-spelt ∙ p .0;
           costs = ap (cost (s .m) row) word-spelt ∙ p .1 ∙ over-is;
-          is-least = rw e (A.least-is z b l);
+          is-least = rw e (A.least-is z (b .layered) costing l);
           first = λ vs cv h. ap (λ (u : List ℕ). not-after u vs) word-spelt ∙ g vs cv h;
         }
       where
         lowest : (k : ℕ) → k < tuples → over F (coset k) ≡ x → sum4 (λ j. weighed j (bits j (lane at j))) ≤ sum4 (λ j. weighed j (bits j (coset k j)))
         lowest k lk h =
             rw (lanes-at (coset i) 0 (omega arith), lanes-at (coset i) 1 (omega arith), lanes-at (coset i) 2 (omega arith), lanes-at (coset i) 3 (omega arith))
-            (omega (arith, w .first k (lk, A.total-is z b l k lk ∙ h), number-same best (words-of s t places i) (λ j lj. w .found .2 j lj ∙ sym (lanes-at (λ j. word-at t places (spot (slots-of s) (steps-of s) i j)) j lj)), numbers i li, numbers k lk))
+            (omega (arith, w .first k (lk, A.total-is z (b .layered) costing l k lk ∙ h), number-same best (words-of s t places i) (λ j lj. w .found .2 j lj ∙ sym (lanes-at (λ j. word-at t places (spot (slots-of s) (steps-of s) i j)) j lj)), numbers i li, numbers k lk))

@@ -2,17 +2,21 @@
 -- part agree are those of the first tuple.
 -- Assumes nothing.
 use Rattle.basics.proofs.Kit.{_≡_, refl, sym, ap, ap₂, _∙_, Bool, true, false, cond, List, ℕ, suc, _+_, _*_, _/_, _%_, _^_, _≤_, _<_, arith, length, getD, eqb}
+use mathlib.Core.Path.{subst}
 use borrow.Author.Tests.{eq-eqb}
+use lib.ListN.{replicate}
 use Rattle.code.specs.declared.Shape.{Shape}
 use Rattle.code.specs.Within.{Coded}
+use Rattle.spots.specs.Spots.{Placed}
 use Rattle.spots.specs.Promise.{Walkable, Walks}
-use Rattle.spots.proofs.Walks.{walks}
+use Rattle.spots.proofs.Walks.{walks, no-steps}
 use Rattle.trellis.proofs.Least.{least-le, least-found, least-cap, le-least}
 use Rattle.lanes.specs.Lanes.{lane, lanes}
 use Rattle.lanes.proofs.Rows.{four, lanes-at}
-use Rattle.walk.specs.Walk.{start, spot, total, least-total, Slots, Marginals}
+use Rattle.walk.specs.Walk.{start, spot, total, least-total, Slots, Marginals, key-cost}
+use Rattle.walk.specs.Turns.{Eights}
 use Rattle.ties.specs.Ties.{spaced, number-of, words, First-tied, word-at, Agree}
-use Rattle.search.specs.Within.{cap, Laid, Ties, First-words, Small-keys, Walked, slots-of, steps-of, turns-of, words-of}
+use Rattle.search.specs.Within.{cap, Laid, Ties, First-words, Cheap, Walked, slots-of, steps-of, turns-of, words-of}
 
 -- words that are the same in each layer have one number
 pub number-same : (vs ws : List ℕ) → ((j : ℕ) → j < 4 → lane vs j ≡ lane ws j) → number-of vs ≡ number-of ws
@@ -31,6 +35,24 @@ module _ {s : Shape} (z : Coded s) where
   unfolding Walks
   w = walks (s .m) (s .r) (z .accepted-is)
 
+  -- a walk of one turn has no steps: what holds of the code's slots and steps holds with none, and what holds with none holds of them
+  module _ (P : (sl st : List ℕ) → (n : ℕ) → Type 0) {sl : List ℕ} {n : ℕ} (e : sl ≡ slots-of s) (f : n ≡ turns-of s) (g : n ≡ 1) where
+    abbrev one : turns-of s ≡ 1
+    one = sym f ∙ g
+
+    abbrev none : replicate 48 0 ≡ steps-of s
+    none = no-steps (s .m) (s .r) (z .accepted-is) one
+
+    pub to-none : P (slots-of s) (steps-of s) (turns-of s) → P sl (replicate 48 0) 1
+    to-none h = subst (λ (x : List ℕ). P x (replicate 48 0) 1) (sym e) (subst (λ (x : List ℕ). P (slots-of s) x 1) (sym none) (subst (P (slots-of s) (steps-of s)) one h))
+
+    pub from-none : P sl (replicate 48 0) 1 → P (slots-of s) (steps-of s) (turns-of s)
+    from-none h = subst (P (slots-of s) (steps-of s)) (sym one) (subst (λ (x : List ℕ). P (slots-of s) x 1) none (subst (λ (x : List ℕ). P x (replicate 48 0) 1) e h))
+
+  -- its places are taken eight at a time
+  pub eights : {places : List ℕ} {n : ℕ} → Placed (s .m) (s .r) (s .size) places → n ≡ s .size * 4 → Eights n places
+  eights p e = record { eights = rw (p .long) (w .eights); inside = λ i h. omega (arith, p .inside i h) }
+
   turn : (i : ℕ) → i < turns-of s * 16 → i / 16 < turns-of s
   turn i h = omega arith
 
@@ -40,7 +62,7 @@ module _ {s : Shape} (z : Coded s) where
   pub apart : (j : ℕ) → j < 4 → start (slots-of s) j + 16 ≤ start (slots-of s) (suc j)
   apart j lj = omega (arith, w .above 0 j (w .some) lj, w .below 0 j (w .some) lj)
 
-  module _ {t places f : List ℕ} (l : Laid s t places f) where
+  module _ {cost : ℕ → ℕ} {places f : List ℕ} (l : Laid s cost places f) where
     pub spot-long : (i j : ℕ) → i < turns-of s * 16 → j < 4 → spot (slots-of s) (steps-of s) i j < length places
     spot-long i j li lj =
         four (λ j. spot (slots-of s) (steps-of s) i j < start (slots-of s) (suc j) → spot (slots-of s) (steps-of s) i j < length places)
@@ -49,7 +71,7 @@ module _ {s : Shape} (z : Coded s) where
         (λ h. omega (arith, apart 3 (omega arith), l .placed .long))
         (λ h. omega (arith, l .placed .long)) j lj (spot-in i j li lj .1)
 
-    module _ (k : Small-keys t) (lt : length t ≡ s .size * 4) where
+    module _ {n : ℕ} (k : Cheap cost n) (ln : n ≡ s .size * 4) where
       cost-le : (i j : ℕ) → i < turns-of s * 16 → j < 4 → getD f (spot (slots-of s) (steps-of s) i j) 0 ≤ 1905
       cost-le i j li lj =
           let h : spot (slots-of s) (steps-of s) i j < length places = spot-long i j li lj in
@@ -81,7 +103,7 @@ module _ {s : Shape} (z : Coded s) where
           (r .0, (r .1, r .2))
 
     -- WHERE ALL AGREE, each tuple that costs the least has these words
-    module _ (g best : List ℕ) (x : ℕ) (mg : Marginals (turns-of s) cap f (slots-of s) (steps-of s) g) (e : x ≡ least-total cap f (slots-of s) (steps-of s) (turns-of s))
+    module _ (t g best : List ℕ) (x : ℕ) (mg : Marginals (turns-of s) cap f (slots-of s) (steps-of s) g) (e : x ≡ least-total cap f (slots-of s) (steps-of s) (turns-of s))
         (ag : Agree (slots-of s) t places g x best) where
       least-there : (i j : ℕ) → Ties s f x i → j < 4 → getD g (spot (slots-of s) (steps-of s) i j) 0 ≡ x
       least-there i j c lj =
@@ -111,9 +133,9 @@ module _ {s : Shape} (z : Coded s) where
       }
 
     -- where the words of all places stand in a list
-    pub from-words : {ws best : List ℕ} {x : ℕ} → ((p : ℕ) → p < length places → getD ws p 0 ≡ word-at t places p) →
+    pub from-words : {t ws best : List ℕ} {x : ℕ} → ((p : ℕ) → p < length places → getD ws p 0 ≡ word-at t places p) →
         First-tied (turns-of s) f (slots-of s) (steps-of s) ws x best → First-words s t places f x best
-    from-words {ws} {best} {x} v e = record {
+    from-words {t} {ws} {best} {x} v e = record {
       found = (e .found .0, e .found .1, λ j lj. ap (λ (u : List ℕ). lane u j) (e .found .2) ∙ at (e .found .0) (e .found .1 .0) j lj);
       first = λ i c. let h : number-of (words ws (slots-of s) (steps-of s) i) ≡ number-of (words-of s t places i) = number-same _ _ (λ j lj. at i (c .0) j lj ∙ sym (lanes-at (λ j. word-at t places (spot (slots-of s) (steps-of s) i j)) j lj)) in omega (arith, e .first i c);
     }
@@ -122,6 +144,6 @@ module _ {s : Shape} (z : Coded s) where
         at i li j lj = lanes-at (λ j. getD ws (spot (slots-of s) (steps-of s) i j) 0) j lj ∙ v (spot (slots-of s) (steps-of s) i j) (spot-long i j li lj)
 
 -- what the walk leaves, over the places as they are after it
-pub walked : {s : Shape} {t places places' f g best : List ℕ} {x : ℕ} → Laid s t places f → places' ≡ places → x ≡ least-total cap f (slots-of s) (steps-of s) (turns-of s) →
+pub walked : {s : Shape} {t places places' f g best : List ℕ} {x : ℕ} → Laid s (key-cost t) places f → places' ≡ places → x ≡ least-total cap f (slots-of s) (steps-of s) (turns-of s) →
     First-words s t places f x best → Marginals (turns-of s) cap f (slots-of s) (steps-of s) g → length g ≡ start (slots-of s) 4 → Walked s t places' f g x best
 walked l e u v m n = rw e record { laid = l; least = u; words = v; marginals = m; long-g = n ∙ sym (l .placed .long) }

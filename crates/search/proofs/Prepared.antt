@@ -65,6 +65,11 @@ pub not-below : (r : ℤ) → ltZ r (pos 0) ≡ false → 0 ≡ costZero r
 not-below (pos n) e = refl
 not-below (negsuc n) e = clash (sym e)
 
+-- of a number below 0 a 1 costs nothing
+pub below-one : (r : ℤ) → ltZ r (pos 0) ≡ true → 0 ≡ costOne r
+below-one (pos n) e = absurd (omega (arith, ltb-true n 0 e))
+below-one (negsuc n) e = refl
+
 -- a signed number that was passed on
 pub through : (f : ℤ → ℕ) {x : ℕ} {r : ℤ} → SFits w16 r → x ≡ f (toZ w16 (ofZ w16 r)) → x ≡ f r
 through f ok e = e ∙ ap f (toZ-ofZ ok)

@@ -25,9 +25,9 @@ module _ {s : Shape} (z : Coded s) where
   pub wide : s .n * 4 ≤ 60
   wide = omega (arith, z .n-is, long-le (s .m) (z .width-is))
 
-  -- k numbers for a table, and n for places, costs and marginals, which take turns with a table
+  -- k numbers for a table, and n for places, costs and marginals, which take turns with tables
   rooms : (t places f g : List ℕ) {n k : ℕ} → s .size * 4 ≤ k → k ≤ n → start (slots-of s) 4 ≤ n → length t ≡ k → length places ≡ n → length f ≡ n → length g ≡ n → Roomy s t places f g
-  rooms t places f g x y l a b c d = record { states-t = omega arith; count-places = omega arith; count-f = omega arith; states-g = omega arith; count-g = omega arith }
+  rooms t places f g x y l a b c d = record { states-t = omega arith; count-places = omega arith; states-f = omega arith; count-f = omega arith; states-g = omega arith; count-g = omega arith }
 
   pub least-rooms : {n : ℕ} (t places f g : List ℕ) → n ≡ start (slots-of s) 4 → n ≤ 64 → s .size ≤ 16 → length t ≡ 64 → length places ≡ 64 → length f ≡ 64 → length g ≡ 64 → Roomy s t places f g
   least-rooms t places f g e h l = rooms t places f g (omega arith) (omega arith) (omega arith)

@@ -23,19 +23,19 @@ use Rattle.trellis.specs.Rows.{layer as column-of}
 use Rattle.trellis.proofs.Least.{least-same, least-le, least-found, least-cap}
 use Rattle.lanes.specs.Lanes.{entry, lane, lanes}
 use Rattle.lanes.proofs.Rows.{four, lanes-at}
-use Rattle.coset.specs.Coset.{none, least}
-use Rattle.walk.specs.Walk.{sum4, start, place, spot, total, least-total, least-at, Slots, Marginals, Scattered}
+use Rattle.coset.specs.Coset.{none, least, Keys}
+use Rattle.walk.specs.Walk.{sum4, start, place, spot, total, least-total, least-at, Slots, Marginals, key-cost, Scattered}
 use Rattle.bridge.specs.Bridge.{Glue, Setting}
 use Rattle.bridge.proofs.Engine.{over, Others, part-le}
 use Rattle.bridge.proofs.Bridge.{table}
 use Rattle.bridge.proofs.Found as S
-use Rattle.search.specs.Within.{cap, bound, Input, Tabled, Laid, Ties, Small-keys, slots-of, steps-of, turns-of}
+use Rattle.search.specs.Within.{cap, bound, Input, Layered, Costing, Laid, Ties, Cheap, slots-of, steps-of, turns-of}
 use Rattle.tails.proofs.Walk.{codewords-visited}
 use Rattle.spots.proofs.Walks.{walks, spot-visited, visited-inside, visited-high}
 use Rattle.coset.proofs.Search as C
 use Rattle.tails.proofs.Codewords.{columns-long}
 
-module _ {asked : Bool} {s : Shape} {row : List ℤ} {hs zs os t : List ℕ} {kept : List ℤ} (z : Input s row) (b : Tabled asked s row hs zs os t kept) where
+module _ {s : Shape} {row : List ℤ} {hs zs os : List ℕ} (z : Input s row) (b : Layered s row hs zs os) where
   abbrev coset : ℕ → ℕ → ℕ
   coset = visited (s .m) (s .r)
 
@@ -94,173 +94,179 @@ module _ {asked : Bool} {s : Shape} {row : List ℤ} {hs zs os t : List ℕ} {ke
   unfolding Visited-inside
   coset-in i j lj = rw (z .coded .size-is, z .coded .q-is) (visited-inside (s .m) (s .r) i j (z .coded .accepted-is) lj)
 
-  -- what a coset costs
-  key-cost : (x j : ℕ) → x < s .size → j < 4 → entry t x j / 65536 ≡ F j x
-  key-cost x j lx lj =
-      let h : 2 ^ length hs ≤ 2 ^ 15 = pow-le-pow-right (zero-lt-suc 1) few in
-      omega (arith, b .keys .keys x j lx lj, C.number-whole (b .layers) lj x lx, same j x)
+  -- WHAT AN ENTRY COSTS, in a table of keys and in one of costs
+  pub key-costing : {t : List ℕ} → Keys (s .size) hs zs os 0 t → Costing s hs zs os (key-cost t)
+  key-costing k = record {
+    entries = λ x j lx lj.
+        let h : 2 ^ length hs ≤ 2 ^ 15 = pow-le-pow-right (zero-lt-suc 1) few in
+        omega (arith, k .keys x j lx lj, C.number-whole (b .layers) lj x lx);
+  }
 
-  -- every key's cost is that of a word of a layer
-  pub small-keys : Small-keys t
-  small-keys x h =
-      let lx : x / 4 < s .size = omega (arith, b .keys .long) in
-      let lj : x % 4 < 4 = omega arith in
-      let e : x / 4 * 4 + x % 4 ≡ x = omega arith in
-      omega (arith, ap (λ (i : ℕ). getD t i 0 / 65536) e, key-cost (x / 4) (x % 4) lx lj, F-le (x % 4) (x / 4) lj lx)
+  module _ {cost : ℕ → ℕ} (k : Costing s hs zs os cost) where
+    entry-cost : (x j : ℕ) → x < s .size → j < 4 → cost (x * 4 + j) ≡ F j x
+    entry-cost x j lx lj = k .entries x j lx lj ∙ sym (same j x)
 
-  -- over the places of the walk
-  module _ {places f : List ℕ} (l : Laid s t places f) where
-    abbrev sl : List ℕ
-    sl = slots-of s
+    -- it is the cost of a word of a layer
+    pub cheap : {n : ℕ} → n ≡ s .size * 4 → Cheap cost n
+    cheap e x h =
+        let lx : x / 4 < s .size = omega arith in
+        let lj : x % 4 < 4 = omega arith in
+        let d : x / 4 * 4 + x % 4 ≡ x = omega arith in
+        omega (arith, ap cost d, entry-cost (x / 4) (x % 4) lx lj, F-le (x % 4) (x / 4) lj lx)
 
-    abbrev st : List ℕ
-    st = steps-of s
+    -- over the places of the walk
+    module _ {places f : List ℕ} (l : Laid s cost places f) where
+      abbrev sl : List ℕ
+      sl = slots-of s
 
-    w : Walkable (s .m) (s .r)
-    unfolding Walks
-    w = walks (s .m) (s .r) (z .coded .accepted-is)
+      abbrev st : List ℕ
+      st = steps-of s
 
-    -- where tuple i stands in slot j
-    pub stands : (i j : ℕ) → i < tuples → j < 4 → getD places (spot sl st i j) 0 ≡ coset i j * 4 + j
-    unfolding Spot-visited
-    stands i j li lj = spot-visited (s .m) (s .r) (s .size) i j places (z .coded .accepted-is) (l .placed) li lj
+      w : Walkable (s .m) (s .r)
+      unfolding Walks
+      w = walks (s .m) (s .r) (z .coded .accepted-is)
 
-    turn : (i : ℕ) → i < tuples → i / 16 < turns-of s
-    turn i h = omega arith
+      -- where tuple i stands in slot j
+      pub stands : (i j : ℕ) → i < tuples → j < 4 → getD places (spot sl st i j) 0 ≡ coset i j * 4 + j
+      unfolding Spot-visited
+      stands i j li lj = spot-visited (s .m) (s .r) (s .size) i j places (z .coded .accepted-is) (l .placed) li lj
 
-    spot-in : (i j : ℕ) → i < tuples → j < 4 → (start sl j ≤ spot sl st i j) × (spot sl st i j < start sl (suc j))
-    spot-in i j li lj = (omega (arith, w .above (i / 16) j (turn i li) lj), omega (arith, w .below (i / 16) j (turn i li) lj))
+      turn : (i : ℕ) → i < tuples → i / 16 < turns-of s
+      turn i h = omega arith
 
-    ordered : (j : ℕ) → j < 4 → start sl j ≤ start sl (suc j)
-    ordered j lj = omega (arith, w .above 0 j (w .some) lj, w .below 0 j (w .some) lj)
+      spot-in : (i j : ℕ) → i < tuples → j < 4 → (start sl j ≤ spot sl st i j) × (spot sl st i j < start sl (suc j))
+      spot-in i j li lj = (omega (arith, w .above (i / 16) j (turn i li) lj), omega (arith, w .below (i / 16) j (turn i li) lj))
 
-    spot-long : (i j : ℕ) → i < tuples → j < 4 → spot sl st i j < length places
-    spot-long i j li lj =
-        four (λ j. spot sl st i j < start sl (suc j) → spot sl st i j < length places)
-        (λ h. omega (arith, ordered 1 (omega arith), ordered 2 (omega arith), ordered 3 (omega arith), l .placed .long))
-        (λ h. omega (arith, ordered 2 (omega arith), ordered 3 (omega arith), l .placed .long))
-        (λ h. omega (arith, ordered 3 (omega arith), l .placed .long))
-        (λ h. omega (arith, l .placed .long)) j lj (spot-in i j li lj .1)
+      ordered : (j : ℕ) → j < 4 → start sl j ≤ start sl (suc j)
+      ordered j lj = omega (arith, w .above 0 j (w .some) lj, w .below 0 j (w .some) lj)
 
-    place-cost : (i j : ℕ) → i < tuples → j < 4 → getD f (spot sl st i j) 0 ≡ F j (coset i j)
-    place-cost i j li lj =
-        l .gathered .costs (spot sl st i j) (spot-long i j li lj)
-        ∙ ap (λ (x : ℕ). getD t x 0 / 65536) (stands i j li lj)
-        ∙ key-cost (coset i j) j (coset-in i j lj) lj
+      spot-long : (i j : ℕ) → i < tuples → j < 4 → spot sl st i j < length places
+      spot-long i j li lj =
+          four (λ j. spot sl st i j < start sl (suc j) → spot sl st i j < length places)
+          (λ h. omega (arith, ordered 1 (omega arith), ordered 2 (omega arith), ordered 3 (omega arith), l .placed .long))
+          (λ h. omega (arith, ordered 2 (omega arith), ordered 3 (omega arith), l .placed .long))
+          (λ h. omega (arith, ordered 3 (omega arith), l .placed .long))
+          (λ h. omega (arith, l .placed .long)) j lj (spot-in i j li lj .1)
 
-    pub total-is : (i : ℕ) → i < tuples → total f sl st i ≡ over F (coset i)
-    unfolding total
-    total-is i li = omega (arith, place-cost i 0 li (omega arith), place-cost i 1 li (omega arith), place-cost i 2 li (omega arith), place-cost i 3 li (omega arith))
+      place-cost : (i j : ℕ) → i < tuples → j < 4 → getD f (spot sl st i j) 0 ≡ F j (coset i j)
+      place-cost i j li lj =
+          l .gathered .costs (spot sl st i j) (spot-long i j li lj)
+          ∙ ap cost (stands i j li lj)
+          ∙ entry-cost (coset i j) j (coset-in i j lj) lj
 
-    over-le : (i : ℕ) → over F (coset i) ≤ 7620
-    over-le i =
-        omega (
-          arith,
-          F-le 0 (coset i 0) (omega arith) (coset-in i 0 (omega arith)),
-          F-le 1 (coset i 1) (omega arith) (coset-in i 1 (omega arith)),
-          F-le 2 (coset i 2) (omega arith) (coset-in i 2 (omega arith)),
-          F-le 3 (coset i 3) (omega arith) (coset-in i 3 (omega arith)),
-        )
+      pub total-is : (i : ℕ) → i < tuples → total f sl st i ≡ over F (coset i)
+      unfolding total
+      total-is i li = omega (arith, place-cost i 0 li (omega arith), place-cost i 1 li (omega arith), place-cost i 2 li (omega arith), place-cost i 3 li (omega arith))
 
-    -- what the walk asks
-    pub slots-ok : Slots (turns-of s) f sl st
-    slots-ok = record {
-      some = w .some;
-      few = w .few;
-      slots = w .slots-long;
-      steps = w .steps-long;
-      ends = sym (l .gathered .long ∙ l .placed .long);
-      above = w .above;
-      below = w .below;
-      short = omega (arith, l .gathered .long, l .placed .long, w .short);
-      room = λ i li. omega (arith, total-is i li, over-le i);
-    }
-
-    abbrev best : ℕ
-    best = S.best y none cap bound light (omega arith) (omega arith)
-
-    pub totals-are : least-total cap f sl st (turns-of s) ≡ best
-    totals-are = least-same (total f sl st) (λ i. over F (coset i)) cap tuples total-is
-
-    -- THE LEAST TOTAL is the least cost
-    pub least-is : Least (s .m) (is-codeword (s .m) (s .r)) row (least-total cap f sl st (turns-of s))
-    least-is = rw totals-are (S.least y none cap bound light (omega arith) (omega arith))
-
-    pub least-small : least-total cap f sl st (turns-of s) < bound
-    least-small = rw totals-are (S.best-small y none cap bound light (omega arith) (omega arith))
-
-    -- a place is in some slot
-    pub in-slot : (p : ℕ) → p < length places → (j : ℕ) × (j < 4) × (start sl j ≤ p) × (p < start sl (suc j))
-    unfolding slots slots-from
-    in-slot p h = go (decLe (start sl 3) p) (decLe (start sl 2) p) (decLe (start sl 1) p)
-      where
-        go : Dec (start sl 3 ≤ p) → Dec (start sl 2 ≤ p) → Dec (start sl 1 ≤ p) → (j : ℕ) × (j < 4) × (start sl j ≤ p) × (p < start sl (suc j))
-        go (yes x) y z = (3, omega arith, x, omega (arith, l .placed .long))
-        go (no x) (yes y) z = (2, omega arith, y, omega arith)
-        go (no x) (no y) (yes z) = (1, omega arith, z, omega arith)
-        go (no x) (no y) (no z) = (0, omega arith, omega arith, omega arith)
-
-    -- WHAT THE OTHER LAYERS COST
-    module _ {g a : List ℕ} (mg : Marginals (turns-of s) cap f sl st g) (lg : length g ≡ length places) (sc : Scattered cap f g places a) (la : length a ≡ s .size * 4) where
-      at-spot : (i j : ℕ) → i < tuples → j < 4 → getD g (spot sl st i j) 0 ≤ total f sl st i
-      at-spot i j li lj =
-          let p : ℕ = spot sl st i j in
-          let o = spot-in i j li lj in
+      over-le : (i : ℕ) → over F (coset i) ≤ 7620
+      over-le i =
           omega (
             arith,
-            mg j p lj (o .0) (o .1),
-            least-le (λ k. cond (eqb (spot sl st k j) p) (total f sl st k) cap) cap tuples i li,
-            ap (λ (x : Bool). cond x (total f sl st i) cap) (eq-eqb (spot sl st i j) p refl),
+            F-le 0 (coset i 0) (omega arith) (coset-in i 0 (omega arith)),
+            F-le 1 (coset i 1) (omega arith) (coset-in i 1 (omega arith)),
+            F-le 2 (coset i 2) (omega arith) (coset-in i 2 (omega arith)),
+            F-le 3 (coset i 3) (omega arith) (coset-in i 3 (omega arith)),
           )
 
-      pub others-ok : (j : ℕ) → j < 4 → Others F coset tuples j (s .size) bound (λ x. entry a x j)
-      others-ok j lj = record { no-less = no-less; met = met }
+      -- what the walk asks
+      pub slots-ok : Slots (turns-of s) f sl st
+      slots-ok = record {
+        some = w .some;
+        few = w .few;
+        slots = w .slots-long;
+        steps = w .steps-long;
+        ends = sym (l .gathered .long ∙ l .placed .long);
+        above = w .above;
+        below = w .below;
+        short = omega (arith, l .gathered .long, l .placed .long, w .short);
+        room = λ i li. omega (arith, total-is i li, over-le i);
+      }
+
+      abbrev best : ℕ
+      best = S.best y none cap bound light (omega arith) (omega arith)
+
+      pub totals-are : least-total cap f sl st (turns-of s) ≡ best
+      totals-are = least-same (total f sl st) (λ i. over F (coset i)) cap tuples total-is
+
+      -- THE LEAST TOTAL is the least cost
+      pub least-is : Least (s .m) (is-codeword (s .m) (s .r)) row (least-total cap f sl st (turns-of s))
+      least-is = rw totals-are (S.least y none cap bound light (omega arith) (omega arith))
+
+      pub least-small : least-total cap f sl st (turns-of s) < bound
+      least-small = rw totals-are (S.best-small y none cap bound light (omega arith) (omega arith))
+
+      -- a place is in some slot
+      pub in-slot : (p : ℕ) → p < length places → (j : ℕ) × (j < 4) × (start sl j ≤ p) × (p < start sl (suc j))
+      unfolding slots slots-from
+      in-slot p h = go (decLe (start sl 3) p) (decLe (start sl 2) p) (decLe (start sl 1) p)
         where
-          no-less : (i : ℕ) → i < tuples → entry a (coset i j) j + F j (coset i j) ≤ over F (coset i)
-          no-less i li =
-              let p : ℕ = spot sl st i j in
-              let x : ℕ = coset i j * 4 + j in
-              omega (
-                arith,
-                sc .others x (omega (arith, coset-in i j lj)),
-                least-le (λ p. cond (eqb (getD places p 0) x) (getD g p 0 - getD f p 0) cap) cap (length places) p (spot-long i j li lj),
-                ap (λ (y : Bool). cond y (getD g p 0 - getD f p 0) cap) (eq-eqb (getD places p 0) x (stands i j li lj)),
-                at-spot i j li lj,
-                total-is i li,
-                place-cost i j li lj,
-                part-le F (coset i) j lj,
-              )
+          go : Dec (start sl 3 ≤ p) → Dec (start sl 2 ≤ p) → Dec (start sl 1 ≤ p) → (j : ℕ) × (j < 4) × (start sl j ≤ p) × (p < start sl (suc j))
+          go (yes x) y z = (3, omega arith, x, omega (arith, l .placed .long))
+          go (no x) (yes y) z = (2, omega arith, y, omega arith)
+          go (no x) (no y) (yes z) = (1, omega arith, z, omega arith)
+          go (no x) (no y) (no z) = (0, omega arith, omega arith, omega arith)
 
-          met : (x : ℕ) → x < s .size → entry a x j < bound → (k : ℕ) × (k < tuples) × (coset k j ≡ x) × (entry a x j + F j x ≡ over F (coset k))
-          met x lx h = with-place (least-found (λ p. cond (eqb (getD places p 0) (x * 4 + j)) (getD g p 0 - getD f p 0) cap) cap (length places) (omega (arith, e)))
-            where
-              e : entry a x j ≡ leastOf (λ p. cond (eqb (getD places p 0) (x * 4 + j)) (getD g p 0 - getD f p 0) cap) cap (length places)
-              e = sc .others (x * 4 + j) (omega arith)
+      -- WHAT THE OTHER LAYERS COST
+      module _ {g a : List ℕ} (mg : Marginals (turns-of s) cap f sl st g) (lg : length g ≡ length places) (sc : Scattered cap f g places a) (la : length a ≡ s .size * 4) where
+        at-spot : (i j : ℕ) → i < tuples → j < 4 → getD g (spot sl st i j) 0 ≤ total f sl st i
+        at-spot i j li lj =
+            let p : ℕ = spot sl st i j in
+            let o = spot-in i j li lj in
+            omega (
+              arith,
+              mg j p lj (o .0) (o .1),
+              least-le (λ k. cond (eqb (spot sl st k j) p) (total f sl st k) cap) cap tuples i li,
+              ap (λ (x : Bool). cond x (total f sl st i) cap) (eq-eqb (spot sl st i j) p refl),
+            )
 
-              -- the tuple
-              with-tuple : (p jj i : ℕ) → jj < 4 → i < tuples → getD places p 0 ≡ x * 4 + j → getD f p 0 ≡ F j x → getD g p 0 - getD f p 0 ≡ entry a x j →
-                  (q : Bool) → eqb (spot sl st i jj) p ≡ q → cond q (total f sl st i) cap ≡ getD g p 0 → getD g p 0 < cap → (k : ℕ) × (k < tuples) × (coset k j ≡ x) × (entry a x j + F j x ≡ over F (coset k))
-              with-tuple p jj i lj' li ep ef eg true q eq lg =
-                  let v : coset i jj * 4 + jj ≡ x * 4 + j = sym (stands i jj li lj') ∙ ap (λ (n : ℕ). getD places n 0) (eqb-true (spot sl st i jj) p q) ∙ ep in
-                  let vj : jj ≡ j = omega arith in
-                  let vx : coset i jj ≡ x = omega arith in
-                  let c : coset i j ≡ x = ap (coset i) (sym vj) ∙ vx in
-                  (i, li, c, omega (arith, total-is i li, part-le F (coset i) j lj, ap (F j) c))
-              with-tuple p jj i lj' li ep ef eg false q eq lg = absurd (omega arith)
+        pub others-ok : (j : ℕ) → j < 4 → Others F coset tuples j (s .size) bound (λ x. entry a x j)
+        others-ok j lj = record { no-less = no-less; met = met }
+          where
+            no-less : (i : ℕ) → i < tuples → entry a (coset i j) j + F j (coset i j) ≤ over F (coset i)
+            no-less i li =
+                let p : ℕ = spot sl st i j in
+                let x : ℕ = coset i j * 4 + j in
+                omega (
+                  arith,
+                  sc .others x (omega (arith, coset-in i j lj)),
+                  least-le (λ p. cond (eqb (getD places p 0) x) (getD g p 0 - getD f p 0) cap) cap (length places) p (spot-long i j li lj),
+                  ap (λ (y : Bool). cond y (getD g p 0 - getD f p 0) cap) (eq-eqb (getD places p 0) x (stands i j li lj)),
+                  at-spot i j li lj,
+                  total-is i li,
+                  place-cost i j li lj,
+                  part-le F (coset i) j lj,
+                )
 
-              with-place : (p : ℕ) × (p < length places) × (cond (eqb (getD places p 0) (x * 4 + j)) (getD g p 0 - getD f p 0) cap ≡ leastOf (λ p. cond (eqb (getD places p 0) (x * 4 + j)) (getD g p 0 - getD f p 0) cap) cap (length places)) → (k : ℕ) × (k < tuples) × (coset k j ≡ x) × (entry a x j + F j x ≡ over F (coset k))
-              with-place r = go (eqb (getD places (r .0) 0) (x * 4 + j)) refl (r .2)
-                where
-                  p : ℕ
-                  p = r .0
+            met : (x : ℕ) → x < s .size → entry a x j < bound → (k : ℕ) × (k < tuples) × (coset k j ≡ x) × (entry a x j + F j x ≡ over F (coset k))
+            met x lx h = with-place (least-found (λ p. cond (eqb (getD places p 0) (x * 4 + j)) (getD g p 0 - getD f p 0) cap) cap (length places) (omega (arith, e)))
+              where
+                e : entry a x j ≡ leastOf (λ p. cond (eqb (getD places p 0) (x * 4 + j)) (getD g p 0 - getD f p 0) cap) cap (length places)
+                e = sc .others (x * 4 + j) (omega arith)
 
-                  go : (q : Bool) → eqb (getD places p 0) (x * 4 + j) ≡ q → cond q (getD g p 0 - getD f p 0) cap ≡ leastOf (λ p. cond (eqb (getD places p 0) (x * 4 + j)) (getD g p 0 - getD f p 0) cap) cap (length places) → (k : ℕ) × (k < tuples) × (coset k j ≡ x) × (entry a x j + F j x ≡ over F (coset k))
-                  go false q u = absurd (omega (arith, e))
-                  go true q u =
-                      let ep : getD places p 0 ≡ x * 4 + j = eqb-true (getD places p 0) (x * 4 + j) q in
-                      let ef : getD f p 0 ≡ F j x = l .gathered .costs p (r .1) ∙ ap (λ (n : ℕ). getD t n 0 / 65536) ep ∙ key-cost x j lx lj in
-                      let o = in-slot p (r .1) in
-                      let m : getD g p 0 ≡ least-at cap f sl st (turns-of s) (o .0) p = mg (o .0) p (o .1) (o .2) (o .3) in
-                      let low : getD g p 0 < cap = omega (arith, e, F-le j x lj lx) in
-                      let k = least-found (λ i. cond (eqb (spot sl st i (o .0)) p) (total f sl st i) cap) cap tuples (omega arith) in
-                      with-tuple p (o .0) (k .0) (o .1) (k .1) ep ef (u ∙ sym e) (eqb (spot sl st (k .0) (o .0)) p) refl (k .2 ∙ sym m) low
+                -- the tuple
+                with-tuple : (p jj i : ℕ) → jj < 4 → i < tuples → getD places p 0 ≡ x * 4 + j → getD f p 0 ≡ F j x → getD g p 0 - getD f p 0 ≡ entry a x j →
+                    (q : Bool) → eqb (spot sl st i jj) p ≡ q → cond q (total f sl st i) cap ≡ getD g p 0 → getD g p 0 < cap → (k : ℕ) × (k < tuples) × (coset k j ≡ x) × (entry a x j + F j x ≡ over F (coset k))
+                with-tuple p jj i lj' li ep ef eg true q eq lg =
+                    let v : coset i jj * 4 + jj ≡ x * 4 + j = sym (stands i jj li lj') ∙ ap (λ (n : ℕ). getD places n 0) (eqb-true (spot sl st i jj) p q) ∙ ep in
+                    let vj : jj ≡ j = omega arith in
+                    let vx : coset i jj ≡ x = omega arith in
+                    let c : coset i j ≡ x = ap (coset i) (sym vj) ∙ vx in
+                    (i, li, c, omega (arith, total-is i li, part-le F (coset i) j lj, ap (F j) c))
+                with-tuple p jj i lj' li ep ef eg false q eq lg = absurd (omega arith)
+
+                with-place : (p : ℕ) × (p < length places) × (cond (eqb (getD places p 0) (x * 4 + j)) (getD g p 0 - getD f p 0) cap ≡ leastOf (λ p. cond (eqb (getD places p 0) (x * 4 + j)) (getD g p 0 - getD f p 0) cap) cap (length places)) → (k : ℕ) × (k < tuples) × (coset k j ≡ x) × (entry a x j + F j x ≡ over F (coset k))
+                with-place r = go (eqb (getD places (r .0) 0) (x * 4 + j)) refl (r .2)
+                  where
+                    p : ℕ
+                    p = r .0
+
+                    go : (q : Bool) → eqb (getD places p 0) (x * 4 + j) ≡ q → cond q (getD g p 0 - getD f p 0) cap ≡ leastOf (λ p. cond (eqb (getD places p 0) (x * 4 + j)) (getD g p 0 - getD f p 0) cap) cap (length places) → (k : ℕ) × (k < tuples) × (coset k j ≡ x) × (entry a x j + F j x ≡ over F (coset k))
+                    go false q u = absurd (omega (arith, e))
+                    go true q u =
+                        let ep : getD places p 0 ≡ x * 4 + j = eqb-true (getD places p 0) (x * 4 + j) q in
+                        let ef : getD f p 0 ≡ F j x = l .gathered .costs p (r .1) ∙ ap cost ep ∙ entry-cost x j lx lj in
+                        let o = in-slot p (r .1) in
+                        let m : getD g p 0 ≡ least-at cap f sl st (turns-of s) (o .0) p = mg (o .0) p (o .1) (o .2) (o .3) in
+                        let low : getD g p 0 < cap = omega (arith, e, F-le j x lj lx) in
+                        let k = least-found (λ i. cond (eqb (spot sl st i (o .0)) p) (total f sl st i) cap) cap tuples (omega arith) in
+                        with-tuple p (o .0) (k .0) (o .1) (k .1) ep ef (u ∙ sym e) (eqb (spot sl st (k .0) (o .0)) p) refl (k .2 ∙ sym m) low

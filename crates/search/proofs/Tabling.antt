@@ -9,9 +9,10 @@ use Rattle.tails.specs.Tails.{columns}
 use Rattle.metric.specs.Row.{row-bound}
 use Rattle.metric.specs.Cost.{costZero, costOne}
 use Rattle.metric.proofs.Bounds.{row-at, costs-le}
-use Rattle.coset.specs.Coset.{Layers, Keys, Kept, Room}
+use Rattle.metric.specs.Scratch.{scratch-long}
+use Rattle.coset.specs.Coset.{Layers, Room}
 use Rattle.bridge.specs.Bridge.{reliability, Costed}
-use Rattle.search.specs.Within.{Costs-within, Input, Buffers, Tabled}
+use Rattle.search.specs.Within.{Costs-within, Input, Layered}
 use Rattle.tails.proofs.Codewords.{columns-long}
 use Rattle.search.proofs.Heads as H
 use Rattle.search.proofs.Prepared.{long-le}
@@ -35,12 +36,12 @@ module _ {s : Shape} {row : List ℤ} (z : Input s row) where
   size-is : s .size ≡ 2 ^ syndrome-long (s .m) (s .r)
   size-is = z .coded .size-is ∙ ap (λ (q : ℕ). 2 ^ q) (z .coded .q-is)
 
-  module _ {asked : Bool} {zs os t g : List ℕ} {kept : List ℤ} (b : Buffers asked s zs os t g kept) where
+  module _ {zs os : List ℕ} (lz : length zs ≡ s .n * 4) (lo : length os ≡ s .n * 4) where
     pub costs-ok : Costs-within (s .m) (s .n) row zs os
-    costs-ok = record { width = z .coded .width-is; few = short; length-row = row-is; length-zs = b .length-zs; length-os = b .length-os }
+    costs-ok = record { width = z .coded .width-is; few = short; length-row = row-is; length-zs = lz; length-os = lo }
 
     -- after the costs are written
-    module _ {hs zs' os' : List ℕ} (h : hs ≡ columns (s .m) (s .r)) (k : Costed (s .m) (s .n) row zs' os') (lz : length zs' ≡ length zs) (lo : length os' ≡ length os) where
+    module _ {hs : List ℕ} (h : hs ≡ columns (s .m) (s .r)) (k : Costed (s .m) (s .n) row zs os) where
       many : length hs ≡ long (s .m)
       many = ap length h ∙ columns-long (s .m) (s .r) (z .coded .accepted-is)
 
@@ -50,15 +51,15 @@ module _ {s : Shape} {row : List ℤ} (z : Input s row) where
       at : (i : ℕ) → getD hs i 0 ≡ getD (columns (s .m) (s .r)) i 0
       at i = ap (λ (x : List ℕ). getD x i 0) h
 
-      pub layers-ok : Layers (s .q) (s .size) hs zs' os'
+      pub layers-ok : Layers (s .q) (s .size) hs zs os
       layers-ok = record {
         top = row-bound;
         some = rw (z .coded .q-is) (H.some-bits (s .m) (s .r) (z .coded .accepted-is));
         fits = omega (arith, z .coded .q-is, many, H.head-there (s .m) (s .r) (z .coded .accepted-is));
         few = omega (arith, same-n, short);
         size-is = z .coded .size-is;
-        length-zs = lz ∙ b .length-zs ∙ ap (λ (x : ℕ). x * 4) (sym same-n);
-        length-os = lo ∙ b .length-os ∙ ap (λ (x : ℕ). x * 4) (sym same-n);
+        length-zs = lz ∙ ap (λ (x : ℕ). x * 4) (sym same-n);
+        length-os = lo ∙ ap (λ (x : ℕ). x * 4) (sym same-n);
         inside = λ i l. rw (at i, size-is) (H.column-in (s .m) (s .r) (z .coded .accepted-is) i (omega (arith, many)));
         heads = λ i l. rw (at i) (H.column-some (s .m) (s .r) (z .coded .accepted-is) i (omega (arith, many)));
         tails = λ i l. at (length hs - suc i) ∙ ap (λ (x : ℕ). getD (columns (s .m) (s .r)) (x - suc i) 0) many ∙ H.column-unit (s .m) (s .r) (z .coded .accepted-is) i (omega (arith, z .coded .q-is));
@@ -67,13 +68,13 @@ module _ {s : Shape} {row : List ℤ} (z : Input s row) where
         room = omega (arith, same-n, short);
       }
 
-      pub room-ok : Room asked (s .q) (s .size) hs t g kept
-      room-ok = record {
-        length-t = b .length-t;
-        length-g = b .length-g;
-        length-kept = λ y. rw (many, z .coded .q-is, size-is, b .length-kept y) (H.kept-in (s .m) (s .r) (z .coded .accepted-is));
-      }
-
-      pub tabled : {t' : List ℕ} {kept' : List ℤ} → Keys (s .size) hs zs' os' 0 t' → (asked ≡ true → Kept (s .q) (s .size) hs zs' os' kept') → Tabled asked s row hs zs' os' t' kept'
+      pub layered : Layered s row hs zs os
       unfolding layers-ok
-      tabled x y = record { headed = h; costs = rw (z .coded .n-is) at k; layers = layers-ok; top-is = refl; keys = x; tables = y }
+      layered = record { headed = h; costs = rw (z .coded .n-is) at k; layers = layers-ok; top-is = refl }
+
+      pub room-ok : {t g : List ℕ} {kept : List ℤ} → length t ≡ s .size * 4 → length g ≡ s .size * 4 → length kept ≡ scratch-long → Room (s .q) (s .size) hs t g kept
+      room-ok lt lg lk = record {
+        length-t = lt;
+        length-g = lg;
+        length-kept = rw (many, z .coded .q-is, size-is, lk) (H.kept-in (s .m) (s .r) (z .coded .accepted-is));
+      }

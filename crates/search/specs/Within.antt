@@ -1,7 +1,7 @@
 -- What the functions of the search ask and leave: costs, the tables of an accepted row, and what the walk finds over them. A reader need not believe these
 -- definitions: proofs/ ties them to codewords and metrics. Assumes nothing: these are definitions.
 use mathlib.Core.Path.{_≡_}
-use mathlib.Core.Bool.{Bool, true}
+use mathlib.Core.Bool.{true}
 use mathlib.Core.List.{List, [], _∷_}
 use Prim.Native.Nat.{ℕ, zero, suc, _+_, _*_, _/_, _%_, _^_, _≤_, _<_}
 use lib.ListN.{length, getD}
@@ -17,8 +17,8 @@ use Rattle.metric.specs.Scratch.{scratch-long}
 use Rattle.trellis.specs.Trellis.{pick}
 use Rattle.lanes.specs.Lanes.{entry, lane, lanes}
 use Rattle.tails.specs.Tails.{columns, turns}
-use Rattle.coset.specs.Coset.{Layers, Keys, Kept}
-use Rattle.walk.specs.Walk.{sum4, start, spot, least-total, Gathered, Marginals}
+use Rattle.coset.specs.Coset.{least, Layers, Keys, Kept}
+use Rattle.walk.specs.Walk.{sum4, start, spot, least-total, key-cost, Gathered, Marginals}
 use Rattle.ties.specs.Ties.{Costs, number-of, word-at}
 use Rattle.spots.specs.Spots.{slots, all-steps, Placed}
 use Rattle.bridge.specs.Bridge.{reliability, Costed}
@@ -76,22 +76,30 @@ pub record Input (s : Shape) (row : List ℤ) : Type 0 where
   pub length-row : length row ≡ row-long (s .m)
   pub good-row : row-good row-bound row ≡ true
 
--- buffers of the lengths that the search wants, a scratch where tables are to be kept
-pub record Buffers (asked : Bool) (s : Shape) (zs os t g : List ℕ) (kept : List ℤ) : Type 0 where
+-- buffers of the lengths that the search wants
+pub record Buffers (s : Shape) (zs os t g : List ℕ) (kept : List ℤ) : Type 0 where
   pub length-zs : length zs ≡ s .n * 4
   pub length-os : length os ≡ s .n * 4
   pub length-t : length t ≡ s .size * 4
   pub length-g : length g ≡ s .size * 4
-  pub length-kept : asked ≡ true → length kept ≡ scratch-long
+  pub length-kept : length kept ≡ scratch-long
 
--- what the tables are made of, the tables and, where they were asked for, those behind the columns
-pub record Tabled (asked : Bool) (s : Shape) (row : List ℤ) (hs zs os t : List ℕ) (kept : List ℤ) : Type 0 where
+-- what the tables are made of: the columns of a code and the costs of a row
+pub record Layered (s : Shape) (row : List ℤ) (hs zs os : List ℕ) : Type 0 where
   pub headed : hs ≡ columns (s .m) (s .r)
   pub costs : Costed (s .m) (long (s .m)) row zs os
   pub layers : Layers (s .q) (s .size) hs zs os
   pub top-is : layers .top ≡ row-bound
+
+-- and the tables: the keys, and those behind the columns
+pub record Tabled (s : Shape) (row : List ℤ) (hs zs os t : List ℕ) (kept : List ℤ) : Type 0 where
+  pub layered : Layered s row hs zs os
   pub keys : Keys (s .size) hs zs os 0 t
-  pub tables : asked ≡ true → Kept (s .q) (s .size) hs zs os kept
+  pub tables : Kept (s .q) (s .size) hs zs os kept
+
+-- entry x * 4 + j costs what coset x of layer j costs at the least
+pub record Costing (s : Shape) (hs zs os : List ℕ) (cost : ℕ → ℕ) : Type 0 where
+  pub entries : (x j : ℕ) → x < s .size → j < 4 → cost (x * 4 + j) ≡ least hs zs os 0 j x
 
 -- the slots and the steps of a code's walk
 abbrev pub slots-of : Shape → List ℕ
@@ -103,15 +111,16 @@ steps-of s = all-steps (s .m) (s .r)
 abbrev pub turns-of : Shape → ℕ
 turns-of s = turns (s .m) (s .r)
 
--- the places of a walk, with what they stand for and what they cost
-pub record Laid (s : Shape) (t places f : List ℕ) : Type 0 where
+-- the places of a walk, with what they stand for and what they cost, by what the entries of a table do
+pub record Laid (s : Shape) (cost : ℕ → ℕ) (places f : List ℕ) : Type 0 where
   pub placed : Placed (s .m) (s .r) (s .size) places
-  pub gathered : Gathered t places f
+  pub gathered : Gathered cost places f
 
--- rooms that are long enough for the tables, the places of the walk and their costs, and for marginals and tables by turns
+-- rooms that are long enough for the tables and the places of the walk, and for their costs, marginals and tables by turns
 pub record Roomy (s : Shape) (t places f g : List ℕ) : Type 0 where
   pub states-t : s .size * 4 ≤ length t
   pub count-places : start (slots-of s) 4 ≤ length places
+  pub states-f : s .size * 4 ≤ length f
   pub count-f : start (slots-of s) 4 ≤ length f
   pub states-g : s .size * 4 ≤ length g
   pub count-g : start (slots-of s) 4 ≤ length g
@@ -134,18 +143,18 @@ unfoldable pub leading : (n w : ℕ) → List ℕ
 leading zero w = []
 leading (suc k) w = (w / 2 ^ k % 2) ∷ leading k w
 
--- keys whose costs are those of words of a layer
-abbrev pub Small-keys : List ℕ → Type 0
-Small-keys t = (x : ℕ) → x < length t → getD t x 0 / 65536 ≤ 1905
+-- the first n entries cost no more than a word of a layer may
+abbrev pub Cheap : (cost : ℕ → ℕ) → (n : ℕ) → Type 0
+Cheap cost n = (x : ℕ) → x < n → cost x ≤ 1905
 
 -- what the walk leaves: its places and costs, the least total, its first words, and the least with each place
 pub record Walked (s : Shape) (t places f g : List ℕ) (x : ℕ) (best : List ℕ) : Type 0 where
-  pub laid : Laid s t places f
+  pub laid : Laid s (key-cost t) places f
   pub least : x ≡ least-total cap f (slots-of s) (steps-of s) (turns-of s)
   pub words : First-words s t places f x best
   pub marginals : Marginals (turns-of s) cap f (slots-of s) (steps-of s) g
   pub long-g : length g ≡ length places
 
-pub record Least-laid (s : Shape) (t places f : List ℕ) (x : ℕ) : Type 0 where
-  pub laid : Laid s t places f
+pub record Least-laid (s : Shape) (cost : ℕ → ℕ) (places f : List ℕ) (x : ℕ) : Type 0 where
+  pub laid : Laid s cost places f
   pub least : x ≡ least-total cap f (slots-of s) (steps-of s) (turns-of s)

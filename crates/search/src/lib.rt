@@ -17,11 +17,12 @@ ghost use Rattle.lanes.specs.Lanes.{lane, put-four};
 ghost use Rattle.trellis.specs.Trellis.{pick};
 ghost use Rattle.trellis.specs.Rows.{symbol, weave};
 ghost use Rattle.tails.specs.Tails.{columns};
-ghost use Rattle.walk.specs.Walk.{sum4, start, least-total, Slots, Marginals};
+ghost use Rattle.coset.specs.Coset.{Costs};
+ghost use Rattle.walk.specs.Walk.{sum4, start, least-total, Slots, Marginals, key-cost};
 ghost use Rattle.bridge.specs.Bridge.{reliability, Costed};
 ghost use Rattle.spots.specs.Spots.{Placed};
 ghost use Rattle.ties.specs.Ties.{Agree};
-ghost use Rattle.search.specs.Within.{cap, Spread, Costs-to, Costs-within, Input, Buffers, Tabled, Laid, Ties, First-words, slots-of, steps-of, turns-of, leading, symbol-cost, word-cost, Own, Symbol, Small-keys, Walked, Least-laid};
+ghost use Rattle.search.specs.Within.{cap, Spread, Costs-to, Costs-within, Input, Buffers, Tabled, Laid, Ties, First-words, slots-of, steps-of, turns-of, leading, symbol-cost, word-cost, Own, Symbol, Cheap, Walked, Least-laid, Layered};
 
 // A number above the cost of every word, and of a layer besides.
 pub const CAP: u16 = 75 * metric::BOUND + 1;
@@ -117,7 +118,7 @@ fn cost_rows(m: u32, n: usize, row: &[i16], zs: &mut [u32], os: &mut [u32])
     }
 }
 
-// The layers' tables of a row; those behind the columns are kept where they are asked for.
+// The layers' tables of a row: the keys, and the tables behind the columns, which the soft pass meets.
 pub fn of_row(
     shape: Shape,
     row: &[i16],
@@ -127,26 +128,54 @@ pub fn of_row(
     t: &mut [u32],
     g: &mut [u16],
     kept: &mut [i32],
-    asked: bool,
 )
     requires { ⌜ Input shape (now row) ⌝ }
     requires { ⌜ now hs ≡ columns (shape .m) (shape .r) ⌝ }
-    requires { ⌜ Buffers asked shape (now zs) (now os) (now t) (now g) (now kept) ⌝ }
-    ensures { λ _. ⌜ Tabled asked shape (now (row .entry)) (now (hs .entry)) (now (zs .exit)) (now (os .exit)) (now (t .exit)) (now (kept .exit)) ⌝ }
+    requires { ⌜ Buffers shape (now zs) (now os) (now t) (now g) (now kept) ⌝ }
+    ensures { λ _. ⌜ Tabled shape (now (row .entry)) (now (hs .entry)) (now (zs .exit)) (now (os .exit)) (now (t .exit)) (now (kept .exit)) ⌝ }
     ensures { λ _. ⌜ length (now (kept .exit)) ≡ length (now (kept .entry)) ⌝ }
 {
     cost_rows(shape.m, shape.n, row, zs, os);
-    coset::make(t, g, kept, shape.q, shape.size, hs, zs, os, asked);
+    coset::make(t, g, kept, shape.q, shape.size, hs, zs, os);
 }
 
-// The places of the walk, and what each costs.
+// The costs of its cosets alone.
+pub fn costs_of_row(
+    shape: Shape,
+    row: &[i16],
+    hs: &[u16],
+    zs: &mut [u32],
+    os: &mut [u32],
+    g: &mut [u16],
+)
+    requires { ⌜ Input shape (now row) ⌝ }
+    requires { ⌜ now hs ≡ columns (shape .m) (shape .r) ⌝ }
+    requires { ⌜ (length (now zs) ≡ shape .n * 4) × (length (now os) ≡ shape .n * 4) × (length (now g) ≡ shape .size * 4) ⌝ }
+    ensures { λ _. ⌜ Layered shape (now (row .entry)) (now (hs .entry)) (now (zs .exit)) (now (os .exit)) ⌝ }
+    ensures { λ _. ⌜ Costs (shape .size) (now (hs .entry)) (now (zs .exit)) (now (os .exit)) 0 (now (g .exit)) ⌝ }
+{
+    cost_rows(shape.m, shape.n, row, zs, os);
+    coset::make_costs(g, shape.q, shape.size, hs, zs, os);
+}
+
+// The places of the walk, and what each costs by a table of keys.
 fn lay(shape: Shape, t: &[u32], places: &mut [u16], f: &mut [u16])
     requires { ⌜ Coded shape ⌝ }
     requires { ⌜ (length (now t) ≡ shape .size * 4) × (length (now places) ≡ start (slots-of shape) 4) × (length (now f) ≡ length (now places)) ⌝ }
-    ensures { λ _. ⌜ Laid shape (now (t .entry)) (now (places .exit)) (now (f .exit)) ⌝ }
+    ensures { λ _. ⌜ Laid shape (key-cost (now (t .entry))) (now (places .exit)) (now (f .exit)) ⌝ }
 {
     spots::fill(shape.m, shape.r, shape.size, places);
     walk::gather(t, places, f);
+}
+
+// The same by a table of costs.
+fn lay_costs(shape: Shape, g: &[u16], places: &mut [u16], f: &mut [u16])
+    requires { ⌜ Coded shape ⌝ }
+    requires { ⌜ (length (now g) ≡ shape .size * 4) × (length (now places) ≡ start (slots-of shape) 4) × (length (now f) ≡ length (now places)) ⌝ }
+    ensures { λ _. ⌜ Laid shape (λ x. getD (now (g .entry)) x 0) (now (places .exit)) (now (f .exit)) ⌝ }
+{
+    spots::fill(shape.m, shape.r, shape.size, places);
+    walk::gather_costs(g, places, f);
 }
 
 // The least that a tuple costs, and the words of the first codeword that costs it.
@@ -155,28 +184,22 @@ pub struct Best {
     pub words: [u16; 4],
 }
 
-// Every number of a list the same.
-fn reset(g: &mut [u16], x: u16)
-    ensures { λ _. ⌜ (length (now (g .exit)) ≡ length (now (g .entry))) × ((p : ℕ) → p < length (now (g .entry)) → getD (now (g .exit)) p 0 ≡ x) ⌝ }
-{
-    let mut p = 0;
-    while p < g.len() {
-        g[p] = x;
-        p += 1;
-    }
-}
-
-// All tuples: the least total, and in g the least with each place.
+// All tuples: the least total, and in g the least with each place. A walk of one turn has no steps, and what a code does not need is not chosen for it.
 fn walk_all(shape: Shape, f: &[u16], g: &mut [u16]) -> u16
     requires { ⌜ Coded shape ⌝ }
     requires { ⌜ Slots (turns-of shape) (now f) (slots-of shape) (steps-of shape) × (length (now g) ≡ length (now f)) ⌝ }
     ensures { λ r. ⌜ r ≡ least-total cap (now (f .entry)) (slots-of shape) (steps-of shape) (turns-of shape) ⌝ }
     ensures { λ _. ⌜ Marginals (turns-of shape) cap (now (f .entry)) (slots-of shape) (steps-of shape) (now (g .exit)) ⌝ }
 {
-    reset(g, CAP);
+    walk::reset(g, CAP);
     let sl = spots::slots(shape.m, shape.r);
+    let n = spots::turns(shape.m, shape.r);
+    if n == 1 {
+        let none = [0u16; 48];
+        return walk::walk(f, &sl, &none, 1, g, CAP);
+    }
     let st = spots::steps(shape.m, shape.r);
-    walk::walk(f, &sl, &st, spots::turns(shape.m, shape.r), g, CAP)
+    walk::walk(f, &sl, &st, n, g, CAP)
 }
 
 // The words of the places that take part in the least total, and whether each slot has one.
@@ -192,7 +215,7 @@ fn agree(shape: Shape, t: &[u32], places: &[u16], g: &[u16], least: u16) -> Agre
 // Of the tuples that cost the least, the words that come first: the places become words on the way, and are made again.
 fn first_words(shape: Shape, t: &[u32], places: &mut [u16], f: &[u16], least: u16) -> [u16; 4]
     requires { ⌜ Coded shape ⌝ }
-    requires { ⌜ (length (now t) ≡ shape .size * 4) × Laid shape (now t) (now places) (now f) ⌝ }
+    requires { ⌜ (length (now t) ≡ shape .size * 4) × Laid shape (key-cost (now t)) (now places) (now f) ⌝ }
     requires { ⌜ Slots (turns-of shape) (now f) (slots-of shape) (steps-of shape) ⌝ }
     requires { ⌜ ((i : ℕ) × Ties shape (now f) least i) ⌝ }
     ensures { λ r. ⌜ First-words shape (now (t .entry)) (now (places .entry)) (now (f .entry)) least r ⌝ }
@@ -216,7 +239,7 @@ fn words_of(
     least: u16,
 ) -> [u16; 4]
     requires { ⌜ Coded shape ⌝ }
-    requires { ⌜ Small-keys (now t) × (length (now t) ≡ shape .size * 4) × Laid shape (now t) (now places) (now f) ⌝ }
+    requires { ⌜ Cheap (key-cost (now t)) (length (now t)) × (length (now t) ≡ shape .size * 4) × Laid shape (key-cost (now t)) (now places) (now f) ⌝ }
     requires { ⌜ least ≡ least-total cap (now f) (slots-of shape) (steps-of shape) (turns-of shape) ⌝ }
     requires { ⌜ (length (now g) ≡ length (now places)) × Marginals (turns-of shape) cap (now f) (slots-of shape) (steps-of shape) (now g) ⌝ }
     ensures { λ r. ⌜ First-words shape (now (t .entry)) (now (places .entry)) (now (f .entry)) least r ⌝ }
@@ -233,7 +256,7 @@ fn words_of(
 // The walk: the least total, the words of the first codeword that has it, and in g the least with each place.
 pub fn best_of(shape: Shape, t: &[u32], places: &mut [u16], f: &mut [u16], g: &mut [u16]) -> Best
     requires { ⌜ Coded shape ⌝ }
-    requires { ⌜ Small-keys (now t) × (length (now t) ≡ shape .size * 4) ⌝ }
+    requires { ⌜ Cheap (key-cost (now t)) (length (now t)) × (length (now t) ≡ shape .size * 4) ⌝ }
     requires { ⌜ (length (now places) ≡ start (slots-of shape) 4) × (length (now f) ≡ length (now places)) × (length (now g) ≡ length (now places)) ⌝ }
     ensures { λ r. ⌜ Walked shape (now (t .entry)) (now (places .exit)) (now (f .exit)) (now (g .exit)) (r .total) (r .words) ⌝ }
 {
@@ -246,17 +269,22 @@ pub fn best_of(shape: Shape, t: &[u32], places: &mut [u16], f: &mut [u16], g: &m
     }
 }
 
-// The least total alone.
-pub fn least_of(shape: Shape, t: &[u32], places: &mut [u16], f: &mut [u16]) -> u16
+// The least total alone, by a table of costs.
+pub fn least_of(shape: Shape, t: &[u16], places: &mut [u16], f: &mut [u16]) -> u16
     requires { ⌜ Coded shape ⌝ }
-    requires { ⌜ Small-keys (now t) × (length (now t) ≡ shape .size * 4) ⌝ }
+    requires { ⌜ Cheap (λ x. getD (now t) x 0) (length (now t)) × (length (now t) ≡ shape .size * 4) ⌝ }
     requires { ⌜ (length (now places) ≡ start (slots-of shape) 4) × (length (now f) ≡ length (now places)) ⌝ }
-    ensures { λ r. ⌜ Least-laid shape (now (t .entry)) (now (places .exit)) (now (f .exit)) r ⌝ }
+    ensures { λ r. ⌜ Least-laid shape (λ x. getD (now (t .entry)) x 0) (now (places .exit)) (now (f .exit)) r ⌝ }
 {
-    lay(shape, t, places, f);
+    lay_costs(shape, t, places, f);
     let sl = spots::slots(shape.m, shape.r);
+    let n = spots::turns(shape.m, shape.r);
+    if n == 1 {
+        let none = [0u16; 48];
+        return walk::least_of(f, &sl, &none, 1, CAP);
+    }
     let st = spots::steps(shape.m, shape.r);
-    walk::least_of(f, &sl, &st, spots::turns(shape.m, shape.r), CAP)
+    walk::least_of(f, &sl, &st, n, CAP)
 }
 
 // The bit of a word at a place.
@@ -344,7 +372,11 @@ fn size_of(r: i16) -> u32
     requires { ⌜ reliability-good row-bound r ≡ true ⌝ }
     ensures { λ x. ⌜ (x ≡ costZero r + costOne r) × (x ≤ 127) ⌝ }
 {
-    cost_of_zero(r) + cost_of_one(r)
+    if r < 0 {
+        cost_of_zero(r)
+    } else {
+        cost_of_one(r)
+    }
 }
 
 // The sum of a row's sizes.

@@ -3,3 +3,4 @@ pub mod Filled
 pub mod Data
 pub mod Entries
 pub mod Walks
+pub mod Short

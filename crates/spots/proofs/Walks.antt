@@ -1,18 +1,19 @@
 -- Where the walk of a code goes: its rows stay in their slots, and the place of a tuple stands for its coset.
 -- Assumes nothing.
-use Rattle.basics.proofs.Kit.{_≡_, refl, sym, ap, ap₂, _∙_, true, List, [], _∷_, _++_, ℕ, zero, suc, _+_, _-_, _*_, _/_, _%_, _^_, _≤_, _<_, arith, length, getD}
+use Rattle.basics.proofs.Kit.{_≡_, refl, sym, ap, ap₂, _∙_, true, List, [], _∷_, _++_, ℕ, zero, suc, _+_, _-_, _*_, _/_, _%_, _^_, _≤_, _<_, arith, eqb, length, getD}
 use native.Mathlib.Nat.{mod-lt, zero-lt-suc, add-zero, div-add-mod'}
-use borrow.Author.Tests.{le-ltb}
+use borrow.Author.Tests.{le-ltb, eq-eqb}
 use lib.Bits as B
 use lib.Bits.{bitXor}
 use lib.ListN.{replicate}
 use lib.Pow.{pow-pos, pow-mono}
 use Rattle.field.specs.Field.{xor}
-use Rattle.code.specs.Code.{accepted}
-use Rattle.tails.specs.Tails.{marked, steps, step, changed-bit, off, visited, place-columns}
+use Rattle.code.specs.Code.{accepted, long, message-long, bch-dimension, configuration-long}
+use Rattle.tails.specs.Tails.{marked, steps, step-count, turns, step, changed-bit, off, visited, place-columns}
 use Rattle.walk.specs.Walk.{start, place, spot}
 use Rattle.spots.specs.Spots.{slot-bits, slots-from, slots, all-steps}
 use Rattle.spots.specs.Promise.{Walks, Spot-visited, Visited-inside, Visited-high}
+use Rattle.spots.proofs.Cases.{the-list}
 use Rattle.spots.proofs.Data as D
 use Rattle.spots.proofs.Entries.{picked-lt, apart}
 
@@ -78,9 +79,15 @@ walks m r a = record {
   slots-long = refl;
   steps-long = D.steps-count m r a;
   short = D.places-count m r a;
+  eights = D.places-even m r a;
   above = λ k j lk h. omega (arith, place-off m r a j h k);
   below = λ k j lk h. omega (arith, place-off m r a j h k, fits m r a j h k, apart m r a j h, pow-mono (D.bits-room m r a j h));
 }
+
+-- a walk of one turn has no steps
+pub no-steps : (m r : ℕ) → accepted m r ≡ true → turns m r ≡ 1 → replicate 48 0 ≡ all-steps m r
+unfolding all-steps steps turns step-count configuration-long message-long bch-dimension long
+no-steps m r a e = the-list all-steps (λ m r. eqb (turns m r) 1) tt a (eq-eqb (turns m r) 1 e)
 
 pub spot-visited : Spot-visited
 unfolding Spot-visited visited

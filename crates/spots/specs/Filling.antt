@@ -1,8 +1,8 @@
 -- What the functions that fill the places promise each other. They know columns and slots, and no code.
 -- Assumes nothing: these are definitions.
 use mathlib.Core.Path.{_≡_}
-use mathlib.Core.List.{List, _++_}
-use Prim.Native.Nat.{ℕ, suc, _+_, _*_, _^_, _≤_, _<_}
+use mathlib.Core.List.{List, [], _∷_, _++_, map}
+use Prim.Native.Nat.{ℕ, suc, _+_, _*_, _/_, _%_, _^_, _≤_, _<_}
 use lib.Bits.{bitXor}
 use lib.ListN.{length, getD, take, drop, replicate}
 use Rattle.split.specs.Members.{picked}
@@ -75,3 +75,32 @@ pub record Slots (columns sl places : List ℕ) : Type 0 where
 pub record Slots-filled (n : ℕ) (columns sl before after : List ℕ) : Type 0 where
   pub long : length after ≡ length before
   pub entries : (j p : ℕ) → j < n → start sl j + p < start sl (suc j) → getD after (start sl j + p) 0 ≡ entry (ten-of columns j) j p
+
+-- A WALK OF ONE TURN has four slots of sixteen places, and these columns that may be other than 0: three of slots 0, 1 and 2 each
+unfoldable pub nine-columns : (r : ℕ) → List ℕ
+nine-columns r = take 3 (place-columns 3 r 0) ++ take 3 (place-columns 3 r 1) ++ take 3 (place-columns 3 r 2)
+
+-- numbers below 64 as one
+unfoldable pub packed : (columns : List ℕ) → ℕ
+packed [] = 0
+packed (c ∷ cs) = c + 64 * packed cs
+
+-- number k of them, times 4
+abbrev pub short-column : (w k : ℕ) → ℕ
+short-column w k = w / 2 ^ (6 * k) % 64 * 4
+
+-- the numbers, and each again xored with h
+abbrev pub and-with : (h : ℕ) → List ℕ → List ℕ
+and-with h xs = xs ++ map (λ x. bitXor x h) xs
+
+-- the entries of a slot, x the first
+unfoldable pub eight-twice : (a b c x : ℕ) → List ℕ
+eight-twice a b c x = and-with c (and-with b (and-with a (x ∷ []))) ++ and-with c (and-with b (and-with a (x ∷ [])))
+
+-- and of all four
+unfoldable pub short-places : (w : ℕ) → List ℕ
+short-places w =
+    eight-twice (short-column w 0) (short-column w 1) (short-column w 2) 0
+    ++ eight-twice (short-column w 3) (short-column w 4) (short-column w 5) 1
+    ++ eight-twice (short-column w 6) (short-column w 7) (short-column w 8) 2
+    ++ eight-twice 0 0 0 3

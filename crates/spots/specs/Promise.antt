@@ -2,7 +2,7 @@
 use mathlib.Core.Path.{_≡_}
 use mathlib.Core.Bool.{true}
 use mathlib.Core.List.{List}
-use Prim.Native.Nat.{ℕ, suc, _+_, _*_, _^_, _≤_, _<_}
+use Prim.Native.Nat.{ℕ, suc, _+_, _*_, _%_, _^_, _≤_, _<_}
 use lib.ListN.{length, getD}
 use Rattle.code.specs.Code.{accepted, syndrome-long}
 use Rattle.tails.specs.Tails.{turns, visited}
@@ -16,6 +16,7 @@ pub record Walkable (m r : ℕ) : Type 0 where
   pub slots-long : length (slots m r) ≡ 5
   pub steps-long : length (all-steps m r) ≡ 48
   pub short : start (slots m r) 4 ≤ 4096
+  pub eights : start (slots m r) 4 % 8 ≡ 0
   pub above : (k j : ℕ) → k < turns m r → j < 4 → start (slots m r) j ≤ place (slots m r) (all-steps m r) k j
   pub below : (k j : ℕ) → k < turns m r → j < 4 → place (slots m r) (all-steps m r) k j + 16 ≤ start (slots m r) (suc j)
 

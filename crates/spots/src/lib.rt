@@ -8,7 +8,7 @@ ghost use Rattle.code.specs.Code.{accepted, long, syndrome-long};
 ghost use Rattle.tails.specs.Tails.{columns, turns};
 ghost use Rattle.walk.specs.Walk.{start};
 ghost use Rattle.spots.specs.Spots.{slots, all-steps, Placed};
-ghost use Rattle.spots.specs.Filling.{all-place-columns, Doubles, Doubled, Slot, Begun, Slot-filled, Slots, Slots-filled};
+ghost use Rattle.spots.specs.Filling.{all-place-columns, Doubles, Doubled, Slot, Begun, Slot-filled, Slots, Slots-filled, packed, nine-columns, short-column, eight-twice, short-places};
 
 mod tables;
 
@@ -123,28 +123,19 @@ pub fn turns(m: u32, r: u32) -> usize
     4096
 }
 
-// The cosets of the places' bits, ten to a slot.
+// The cosets of the places' bits, ten to a slot, where the walk has more than one turn.
 fn place_columns(m: u32, r: u32) -> [u16; 40]
-    requires { ⌜ accepted m r ≡ true ⌝ }
+    requires { ⌜ (accepted m r ≡ true) × (1 < turns m r) ⌝ }
     ensures { λ x. ⌜ x ≡ all-place-columns m r ⌝ }
 {
     if m == 3 {
         if r == 1 {
             return tables::PLACES_3_1;
         }
-        if r == 2 {
-            return tables::PLACES_3_2;
-        }
         if r == 3 {
             return tables::PLACES_3_3;
         }
-        if r == 4 {
-            return tables::PLACES_3_4;
-        }
-        if r == 5 {
-            return tables::PLACES_3_5;
-        }
-        return [0; 40];
+        return tables::PLACES_3_4;
     }
     if r == 1 {
         return tables::PLACES_4_1;
@@ -214,12 +205,96 @@ fn fill_slots(columns: &[u16], slots: &[u16], places: &mut [u16])
     }
 }
 
+// Where the walk has one turn: the columns as one number, six bits to each, three for slots 0, 1 and 2 in turn. All other columns are 0.
+fn short_columns(r: u32) -> u64
+    requires { ⌜ (accepted 3 r ≡ true) × (turns 3 r ≡ 1) ⌝ }
+    ensures { λ w. ⌜ w ≡ packed (nine-columns r) ⌝ }
+{
+    if r == 2 {
+        return 1996854969000069;
+    }
+    if r == 5 {
+        return 6704459381163661;
+    }
+    0
+}
+
+// Column k of these, times 4: what is xored to an entry.
+fn short_column(w: u64, k: u32) -> u16
+    requires { ⌜ k < 9 ⌝ }
+    ensures { λ x. ⌜ x ≡ short-column w k ⌝ }
+{
+    (((w >> (6 * k)) % 64) * 4) as u16
+}
+
+// The entries of a slot of sixteen places, x0 the first: its fourth column is 0, so that the last eight repeat the first.
+fn fill_eight(a: u16, b: u16, c: u16, x0: u16, part: &mut [u16])
+    requires { ⌜ length (now part) ≡ 16 ⌝ }
+    ensures { λ _. ⌜ now (part .exit) ≡ eight-twice a b c x0 ⌝ }
+{
+    let x1 = x0 ^ a;
+    let x2 = x0 ^ b;
+    let x3 = x1 ^ b;
+    let x4 = x0 ^ c;
+    let x5 = x1 ^ c;
+    let x6 = x2 ^ c;
+    let x7 = x3 ^ c;
+    part[0] = x0;
+    part[1] = x1;
+    part[2] = x2;
+    part[3] = x3;
+    part[4] = x4;
+    part[5] = x5;
+    part[6] = x6;
+    part[7] = x7;
+    part[8] = x0;
+    part[9] = x1;
+    part[10] = x2;
+    part[11] = x3;
+    part[12] = x4;
+    part[13] = x5;
+    part[14] = x6;
+    part[15] = x7;
+}
+
+// Four such slots, the last with no column but 0.
+fn fill_short(w: u64, places: &mut [u16])
+    requires { ⌜ length (now places) ≡ 64 ⌝ }
+    ensures { λ _. ⌜ now (places .exit) ≡ short-places w ⌝ }
+{
+    fill_eight(
+        short_column(w, 0),
+        short_column(w, 1),
+        short_column(w, 2),
+        0,
+        &mut places[0..16],
+    );
+    fill_eight(
+        short_column(w, 3),
+        short_column(w, 4),
+        short_column(w, 5),
+        1,
+        &mut places[16..32],
+    );
+    fill_eight(
+        short_column(w, 6),
+        short_column(w, 7),
+        short_column(w, 8),
+        2,
+        &mut places[32..48],
+    );
+    fill_eight(0, 0, 0, 3, &mut places[48..64]);
+}
+
 // The entry that each place stands for.
 pub fn fill(m: u32, r: u32, size: usize, places: &mut [u16])
     requires { ⌜ accepted m r ≡ true ⌝ }
     requires { ⌜ (size ≡ 2 ^ syndrome-long m r) × (length (now places) ≡ start (slots m r) 4) ⌝ }
     ensures { λ _. ⌜ Placed m r size (now (places .exit)) ⌝ }
 {
+    if turns(m, r) == 1 {
+        return fill_short(short_columns(r), places);
+    }
     let columns = place_columns(m, r);
     let slots = slots(m, r);
     fill_slots(&columns, &slots, places);

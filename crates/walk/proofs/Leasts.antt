@@ -9,6 +9,7 @@ use lib.ListN.{length-set}
 use lib.Seq.{getD-set-same, getD-set-other}
 use Rattle.trellis.specs.Trellis.{leastOf}
 use Rattle.trellis.proofs.Least.{least-cap, least-le, le-least, least-same}
+use Rattle.walk.specs.Walk.{others, Lowered}
 use Rattle.walk.specs.Turns.{Each, Less-own}
 
 module _ (f : ℕ → ℕ) (cap : ℕ) where
@@ -54,27 +55,15 @@ module _ (f : ℕ → ℕ) (cap : ℕ) where
           omega (arith, h (k - n) (omega arith) b, ap f e, least-cap f cap n)
       go k l (no a) b = omega (arith, least-le f cap n k (omega arith))
 
--- what the first n places say of entry x
-abbrev pub others : (cap : ℕ) → (f g places : List ℕ) → (n x : ℕ) → ℕ
-others cap f g places n x = leastOf (λ p. cond (eqb (getD places p 0) x) (getD g p 0 - getD f p 0) cap) cap n
-
-pub record Scattering (cap : ℕ) (f g places : List ℕ) (size n : ℕ) (a : List ℕ) : Type 0 where
-  pub within : n ≤ length places
-  pub long : length a ≡ size
-  pub entries : Each size (λ x. getD a x 0 ≡ others cap f g places n x)
-
-pub scatter-start : {cap : ℕ} {f g places : List ℕ} {size : ℕ} {a : List ℕ} → length a ≡ size → Each size (λ x. getD a x 0 ≡ cap) → Scattering cap f g places size 0 a
+-- a table before any place, and with a place more
+pub lowered-none : {cap : ℕ} {f g places a : List ℕ} → Each (length a) (λ x. getD a x 0 ≡ cap) → Lowered cap f g places 0 a
 unfolding leastOf
-scatter-start e h = record { within = omega arith; long = e; entries = h }
+lowered-none h = record { others = h }
 
-pub scatter-more : {cap : ℕ} {f g places : List ℕ} {size n : ℕ} {a h : List ℕ} → Scattering cap f g places size n a → n < length places → getD places n 0 < size →
-    h ≡ set a (getD places n 0) (min (getD a (getD places n 0) 0) (getD g n 0 - getD f n 0)) → Scattering cap f g places size (n + 1) h
+pub lowered-more : {cap : ℕ} {f g places : List ℕ} {n : ℕ} {a h : List ℕ} → Lowered cap f g places n a → getD places n 0 < length a →
+    h ≡ set a (getD places n 0) (min (getD a (getD places n 0) 0) (getD g n 0 - getD f n 0)) → Lowered cap f g places (n + 1) h
 unfolding leastOf
-scatter-more {cap} {f} {g} {places} {size} {n} {a} m l ls e = rw e (record {
-  within = omega arith;
-  long = length-set a s v ∙ m .long;
-  entries = λ x lx. entered x lx (ℕ-discrete s x) ∙ ap (λ (i : ℕ). others cap f g places i x) (sym (add-one n));
-})
+lowered-more {cap} {f} {g} {places} {n} {a} m ls e = rw e (record { others = λ x lx. entered x (omega (arith, length-set a s v)) (ℕ-discrete s x) ∙ ap (λ (i : ℕ). others cap f g places i x) (sym (add-one n)) })
   where
     s : ℕ
     s = getD places n 0
@@ -82,12 +71,12 @@ scatter-more {cap} {f} {g} {places} {size} {n} {a} m l ls e = rw e (record {
     v : ℕ
     v = min (getD a s 0) (getD g n 0 - getD f n 0)
 
-    entered : (x : ℕ) → x < size → Dec (s ≡ x) → getD (set a s v) x 0 ≡ others cap f g places (suc n) x
+    entered : (x : ℕ) → x < length a → Dec (s ≡ x) → getD (set a s v) x 0 ≡ others cap f g places (suc n) x
     entered x lx (yes d) =
-        ap (λ (y : ℕ). getD (set a s v) y 0) (sym d) ∙ getD-set-same a s v 0 (omega (arith, m .long))
-        ∙ ap (λ (y : ℕ). min y (getD g n 0 - getD f n 0)) (ap (λ (y : ℕ). getD a y 0) d ∙ m .entries x lx) ∙ rw (eq-eqb s x d) refl
+        ap (λ (y : ℕ). getD (set a s v) y 0) (sym d) ∙ getD-set-same a s v 0 ls
+        ∙ ap (λ (y : ℕ). min y (getD g n 0 - getD f n 0)) (ap (λ (y : ℕ). getD a y 0) d ∙ m .others x lx) ∙ rw (eq-eqb s x d) refl
     entered x lx (no d) =
-        getD-set-other a s x v 0 (λ z. d (sym z)) ∙ m .entries x lx
+        getD-set-other a s x v 0 (λ z. d (sym z)) ∙ m .others x lx
         ∙ rw (ne-eqb s x d) (omega (arith, least-cap (λ p. cond (eqb (getD places p 0) x) (getD g p 0 - getD f p 0) cap) cap n))
 
 -- a place more whose own cost is taken off

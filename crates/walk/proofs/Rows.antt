@@ -6,6 +6,7 @@ use native.Mathlib.Decide.{decLe}
 use lib.ListN.{length-set}
 use lib.Seq.{getD-set-same, getD-set-other}
 use Rattle.lanes.specs.Lanes.{lane, limit}
+use Rattle.walk.specs.Walk.{Priced}
 use Rattle.walk.specs.Turns.{Each, Small, fill, low, lows}
 
 -- the first x of n numbers are those of F
@@ -28,6 +29,13 @@ made-more {n} {F} {x} {r} {v} m l e = record { within = omega arith; long = leng
 
 pub made-end : {n : ℕ} {F : ℕ → ℕ} {x : ℕ} {r : List ℕ} → Made n F x r → n ≤ x → Each n (λ y. getD r y 0 ≡ F y)
 made-end m l y ly = m .done y (omega arith)
+
+-- what one place more costs
+pub priced-more : {cost : ℕ → ℕ} {places f : List ℕ} {n v : ℕ} → Priced cost places n f → n < length places → v ≡ cost (getD places n 0) → Priced cost places (n + 1) (set f n v)
+priced-more {cost} {places} {f} {n} {v} m l e =
+    let u : Made (length places) (λ y. cost (getD places y 0)) n f = record { within = omega arith; long = m .long; done = m .costs } in
+    let r = made-more u l e in
+    record { long = r .long; costs = r .done }
 
 -- a run of numbers written from place p on
 module _ (g : List ℕ) (p : ℕ) (v : ℕ → ℕ) where

@@ -3,7 +3,7 @@
 use mathlib.Core.Path.{_≡_}
 use mathlib.Core.Bool.{Bool, true, cond}
 use mathlib.Core.List.{List}
-use Prim.Native.Nat.{ℕ, zero, suc, _+_, _-_, _≤_, _<_, min}
+use Prim.Native.Nat.{ℕ, zero, suc, _+_, _-_, _%_, _≤_, _<_, min}
 use lib.Bits.{bitXor}
 use lib.Dec.{eqb}
 use lib.ListN.{length, getD, set}
@@ -49,3 +49,16 @@ pub record Less-own (f g : List ℕ) (n : ℕ) (d : List ℕ) : Type 0 where
   pub long : length d ≡ length g
   pub less : (p : ℕ) → p < n → getD d p 0 ≡ getD g p 0 - getD f p 0
   pub left : (p : ℕ) → n ≤ p → getD d p 0 ≡ getD g p 0
+
+-- places whose numbers are to be taken eight at a time, which stand for entries of a table of so many
+pub record Eights (size : ℕ) (places : List ℕ) : Type 0 where
+  pub eights : length places % 8 ≡ 0
+  pub inside : (p : ℕ) → p < length places → getD places p 0 < size
+
+-- what `scatter` asks: the costs of the places stand in the first part of a room, in which there is place for the entries
+pub record Scatter (states : ℕ) (room g places : List ℕ) : Type 0 where
+  pub places-in : Eights states places
+  pub count : length places ≤ length room
+  pub states-in : states ≤ length room
+  pub length-g : length g ≡ length places
+  pub own : (p : ℕ) → p < length places → getD room p 0 ≤ getD g p 0

@@ -5,31 +5,68 @@ ghost use mathlib.Core.Bool.{true, cond};
 ghost use Prim.Native.Nat.{ℕ, _+_, _/_, _^_, _<_, _≤_, min};
 ghost use lib.Bits.{bitXor};
 ghost use mathlib.Core.List.{[]};
-ghost use lib.ListN.{length, getD, set};
+ghost use lib.ListN.{length, getD, set, take};
 ghost use Rattle.lanes.specs.Lanes.{lane, limit};
 ghost use Rattle.trellis.specs.Trellis.{leastOf};
-ghost use Rattle.walk.specs.Walk.{start, step, changed-bit, least-total, Slots, Marginals, Gathered, Scattered};
-ghost use Rattle.walk.specs.Turns.{Each, Small, moved, row-sum, low, lows, Blank, Less-own};
+ghost use Rattle.walk.specs.Walk.{start, step, changed-bit, least-total, Slots, Marginals, key-cost, Priced, Gathered, Lowered, Scattered};
+ghost use Rattle.walk.specs.Turns.{Each, Small, moved, row-sum, low, lows, Blank, Less-own, Eights, Scatter};
 
 // The cost in entry s of a table of keys.
 fn cost_at(t: &[u32], s: u16) -> u16
     requires { ⌜ s < length (now t) ⌝ }
-    ensures { λ r. ⌜ r ≡ getD (now (t .entry)) s 0 / 65536 ⌝ }
+    ensures { λ r. ⌜ r ≡ key-cost (now (t .entry)) s ⌝ }
 {
     let i = s as usize;
     (t[i] / 65536) as u16
 }
 
-// What each place costs.
+// What eight places cost, from place p on. The compiler writes a loop of eight out.
+fn gather_eight(t: &[u32], places: &[u16], p: usize, f: &mut [u16])
+    requires { ⌜ Eights (length (now t)) (now places) × (p + 8 ≤ length (now places)) ⌝ }
+    requires { ⌜ Priced (key-cost (now t)) (now places) p (now f) ⌝ }
+    ensures { λ _. ⌜ Priced (key-cost (now (t .entry))) (now (places .entry)) (p + 8) (now (f .exit)) ⌝ }
+{
+    let mut x = 0;
+    while x < 8 {
+        f[p + x] = cost_at(t, places[p + x]);
+        x += 1;
+    }
+}
+
+// What each place costs, from a table of keys.
 pub fn gather(t: &[u32], places: &[u16], f: &mut [u16])
-    requires { ⌜ length (now f) ≡ length (now places) ⌝ }
-    requires { ⌜ ((p : ℕ) → p < length (now places) → getD (now places) p 0 < length (now t)) ⌝ }
-    ensures { λ _. ⌜ Gathered (now (t .entry)) (now (places .entry)) (now (f .exit)) ⌝ }
+    requires { ⌜ Eights (length (now t)) (now places) × (length (now f) ≡ length (now places)) ⌝ }
+    ensures { λ _. ⌜ Gathered (key-cost (now (t .entry))) (now (places .entry)) (now (f .exit)) ⌝ }
 {
     let mut p = 0;
     while p < places.len() {
-        f[p] = cost_at(t, places[p]);
-        p += 1;
+        gather_eight(t, places, p, f);
+        p += 8;
+    }
+}
+
+// The same from a table of costs: eight places, and all.
+fn gather_eight_costs(t: &[u16], places: &[u16], p: usize, f: &mut [u16])
+    requires { ⌜ Eights (length (now t)) (now places) × (p + 8 ≤ length (now places)) ⌝ }
+    requires { ⌜ Priced (λ x. getD (now t) x 0) (now places) p (now f) ⌝ }
+    ensures { λ _. ⌜ Priced (λ x. getD (now (t .entry)) x 0) (now (places .entry)) (p + 8) (now (f .exit)) ⌝ }
+{
+    let mut x = 0;
+    while x < 8 {
+        let i = places[p + x] as usize;
+        f[p + x] = t[i];
+        x += 1;
+    }
+}
+
+pub fn gather_costs(t: &[u16], places: &[u16], f: &mut [u16])
+    requires { ⌜ Eights (length (now t)) (now places) × (length (now f) ≡ length (now places)) ⌝ }
+    ensures { λ _. ⌜ Gathered (λ x. getD (now (t .entry)) x 0) (now (places .entry)) (now (f .exit)) ⌝ }
+{
+    let mut p = 0;
+    while p < places.len() {
+        gather_eight_costs(t, places, p, f);
+        p += 8;
     }
 }
 
@@ -207,20 +244,13 @@ pub fn least_of(f: &[u16], sl: &[u16], st: &[u16], n: usize, cap: u16) -> u16
     walk_any(f, sl, st, n, &mut none, cap, false)
 }
 
-// The less of two costs.
-fn less_of(a: u32, b: u32) -> u32
-    ensures { λ r. ⌜ r ≡ min a b ⌝ }
-{
-    if a <= b { a } else { b }
-}
-
 // Entry s of a table lowered to x.
-fn lower_at(a: &mut [u32], s: u16, x: u32)
+fn lower_at(a: &mut [u16], s: u16, x: u16)
     requires { ⌜ s < length (now a) ⌝ }
     ensures { λ _. ⌜ now (a .exit) ≡ set (now (a .entry)) s (min (getD (now (a .entry)) s 0) x) ⌝ }
 {
     let i = s as usize;
-    a[i] = less_of(a[i], x);
+    a[i] = lanes::less_of(a[i], x);
 }
 
 // What each place costs itself taken off.
@@ -236,30 +266,53 @@ fn less_own(f: &[u16], g: &mut [u16])
     }
 }
 
-// The numbers of the places, each entry of a table lowered to those of the places that stand for it.
-fn lower_places(g: &[u16], places: &[u16], a: &mut [u32], cap: u32)
-    requires { ⌜ length (now g) ≡ length (now places) ⌝ }
-    requires { ⌜ ((p : ℕ) → p < length (now places) → getD (now places) p 0 < length (now a)) ⌝ }
-    requires { ⌜ ((x : ℕ) → x < length (now a) → getD (now a) x 0 ≡ cap) ⌝ }
-    ensures { λ _. ⌜ Scattered cap [] (now (g .entry)) (now (places .entry)) (now (a .exit)) ⌝ }
+// Eight entries of a table lowered, to the numbers of the places from p on that stand for them.
+fn lower_eight(g: &[u16], places: &[u16], p: usize, a: &mut [u16], cap: u16)
+    requires { ⌜ Eights (length (now a)) (now places) × (length (now g) ≡ length (now places)) × (p + 8 ≤ length (now places)) ⌝ }
+    requires { ⌜ Lowered cap [] (now g) (now places) p (now a) ⌝ }
+    ensures { λ _. ⌜ Lowered cap [] (now (g .entry)) (now (places .entry)) (p + 8) (now (a .exit)) ⌝ }
     ensures { λ _. ⌜ length (now (a .exit)) ≡ length (now (a .entry)) ⌝ }
 {
+    let mut x = 0;
+    while x < 8 {
+        lower_at(a, places[p + x], g[p + x]);
+        x += 1;
+    }
+}
+
+// Every number of a list the same.
+pub fn reset(g: &mut [u16], x: u16)
+    ensures { λ _. ⌜ (length (now (g .exit)) ≡ length (now (g .entry))) × ((p : ℕ) → p < length (now (g .entry)) → getD (now (g .exit)) p 0 ≡ x) ⌝ }
+{
     let mut p = 0;
-    while p < places.len() {
-        lower_at(a, places[p], g[p] as u32);
+    while p < g.len() {
+        g[p] = x;
         p += 1;
     }
 }
 
-// What the other layers cost at the least, into the entries of a table, which are all cap before; g is used up. Own costs are taken off first, several at a
-// time.
-pub fn scatter(f: &[u16], g: &mut [u16], places: &[u16], a: &mut [u32], cap: u32)
-    requires { ⌜ (length (now f) ≡ length (now places)) × (length (now g) ≡ length (now places)) ⌝ }
-    requires { ⌜ ((p : ℕ) → p < length (now places) → (getD (now places) p 0 < length (now a)) × (getD (now f) p 0 ≤ getD (now g) p 0)) ⌝ }
-    requires { ⌜ ((x : ℕ) → x < length (now a) → getD (now a) x 0 ≡ cap) ⌝ }
-    ensures { λ _. ⌜ Scattered cap (now (f .entry)) (now (g .entry)) (now (places .entry)) (now (a .exit)) ⌝ }
+// The entries of a table, each the least of the places that stand for it.
+fn lower_places(g: &[u16], places: &[u16], a: &mut [u16], cap: u16)
+    requires { ⌜ Eights (length (now a)) (now places) × (length (now g) ≡ length (now places)) ⌝ }
+    ensures { λ _. ⌜ Scattered cap [] (now (g .entry)) (now (places .entry)) (now (a .exit)) ⌝ }
     ensures { λ _. ⌜ length (now (a .exit)) ≡ length (now (a .entry)) ⌝ }
 {
-    less_own(f, g);
-    lower_places(g, places, a, cap);
+    reset(a, cap);
+    let mut p = 0;
+    while p < places.len() {
+        lower_eight(g, places, p, a, cap);
+        p += 8;
+    }
+}
+
+// What the other layers cost at the least, for each of so many entries, in the room in which the costs of the places stood; g is used up. Own costs are taken
+// off first, several at a time.
+pub fn scatter(room: &mut [u16], g: &mut [u16], places: &[u16], states: usize, cap: u16)
+    requires { ⌜ Scatter states (now room) (now g) (now places) ⌝ }
+    ensures { λ _. ⌜ Scattered cap (take (length (now (places .entry))) (now (room .entry))) (now (g .entry)) (now (places .entry)) (take states (now (room .exit))) ⌝ }
+    ensures { λ _. ⌜ length (now (room .exit)) ≡ length (now (room .entry)) ⌝ }
+{
+    let count = places.len();
+    less_own(&room[..count], g);
+    lower_places(g, places, &mut room[..states], cap);
 }

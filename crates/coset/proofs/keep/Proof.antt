@@ -1,16 +1,15 @@
 -- `coset::keep` meets its contract.
 -- Assumes nothing.
-use Rattle.basics.proofs.Kit.{sym, _∙_, arith, needs, length}
-use mathlib.Core.Bool.{false≢true}
+use Rattle.basics.proofs.Kit.{arith, needs, length}
 use Rattle.coset.proofs.Keeping.{table-end, keeps-none, keeps}
 use Rattle.coset.proofs.keep.Statement.{statement}
 use Rattle.coset.proofs.keep.Tie as tie
 
 mul-copy : tie.Need-mul-copy
-mul-copy c = let s = c .before .before .before .before in record { fits = omega (arith, table-end (s .args .i) (length (s .args .t .now)) (c .before .if2 .taken), s .pre (c .before .before .if1 .taken), s .good) }
+mul-copy c = let s = c .before .before .before in record { fits = omega (arith, table-end (s .args .i) (length (s .args .t .now)) (c .before .if1 .taken), s .pre, s .good) }
 
 copy-requires : tie.Need-copy-requires
-copy-requires c κs = let s = c .before .before .before .before in omega (arith, table-end (s .args .i) (length (s .args .t .now)) (c .before .if2 .taken), s .pre (c .before .before .if1 .taken))
+copy-requires c κs = let s = c .before .before .before in omega (arith, table-end (s .args .i) (length (s .args .t .now)) (c .before .if1 .taken), s .pre)
 
 pub keep-spec : {M : Type 1} → statement M
 keep-spec =
@@ -20,6 +19,5 @@ keep-spec =
     mul-copy
     copy-requires
     (λ c. search needs)
-    (λ c. keeps (c .before .before .before .if2 .taken) (c .before .copy .ensures))
-    (λ c. keeps-none (c .before .before .before .args .i) (λ y. omega arith))
-    (λ c. keeps-none (c .before .before .args .i) (λ y. absurd (false≢true (sym (c .if1 .left) ∙ y)))))
+    (λ c. keeps (c .before .before .before .if1 .taken) (c .before .copy .ensures))
+    (λ c. keeps-none (omega arith)))

@@ -6,10 +6,10 @@ use Rattle.coset.proofs.make.Statement.{statement}
 use Rattle.coset.proofs.make.Tie as tie
 
 abbrev Inv-loop : tie.InvT-loop
-Inv-loop t₀ g kept₀ q size hs zs os asked i₀ bit₀ t kept i bit = Making asked q size hs zs os kept₀ t kept i bit
+Inv-loop t₀ g kept₀ q size hs zs os i₀ bit₀ t kept i bit = Making q size hs zs os kept₀ t kept i bit
 
 abbrev μ-loop : tie.MeasureT-loop
-μ-loop t₀ g kept₀ q size hs zs os asked i₀ bit₀ t kept i bit = i
+μ-loop t₀ g kept₀ q size hs zs os i₀ bit₀ t kept i bit = i
 
 abbrev In : Type 0
 In = tie.In-loop Inv-loop μ-loop
@@ -39,7 +39,7 @@ free-at-requires : tie.Need-free-at-requires Inv-loop μ-loop
 free-at-requires c κs = let d = c .before in let p = st d .pre in (p .0, make-asks (p .0) (d .before .loop .inv) (d .loop-test .taken))
 
 keep-requires : tie.Need-keep-requires Inv-loop μ-loop
-keep-requires c κs = let d = c .before .before .before .before .before .before in let p = st d .pre in λ y. keep-asks (p .0) (d .before .loop .inv) (d .loop-test .taken) (c .before .before .before .before .free-at .ensures) (p .1 .length-kept y)
+keep-requires c κs = let d = c .before .before .before .before .before .before in let p = st d .pre in keep-asks (p .0) (d .before .loop .inv) (d .loop-test .taken) (c .before .before .before .before .free-at .ensures) (p .1 .length-kept)
 
 add-bit : tie.Need-add-bit Inv-loop μ-loop
 add-bit c = let d = c .before .before .before .before .before .before .before .before in record { fits = bit-fits (st d .pre .0) (d .before .loop .inv) (d .loop-test .taken) }

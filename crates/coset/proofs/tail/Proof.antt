@@ -15,7 +15,7 @@ abbrev In : Type 0
 In = tie.In-loop Inv-loop μ-loop
 
 abbrev st : In → tie.Start Inv-loop μ-loop
-st c = c .before .before .before .before .before .before .before .before .before .before .before .before .before .before .before .before .before .before
+st c = c .before .before .before .before .before .before .before .before .before .before .before .before .before .before .before .before
 
 inside : (c : In) → c .before .loop .i - 1 < length (st c .args .hs .now)
 inside c = li (st c .pre .0) (c .before .loop .inv) (c .loop-test .taken)
@@ -27,70 +27,58 @@ last s = let l = some-column (s .pre .0) in omega arith
 sub-i : tie.Need-sub-i Inv-loop μ-loop
 sub-i c = some-column (c .before .before .before .before .pre .0)
 
-load-requires : tie.Need-load-requires Inv-loop μ-loop
-load-requires c κs = let s = c .before .before .before .before .before in omega (arith, last s, s .pre .0 .length-zs)
-
 narrow-requires : tie.Need-narrow-requires Inv-loop μ-loop
-narrow-requires c κs = let s = c .before .before .before .before .before .before in rw (c .load .ensures) (zeros-fit (s .pre .0) (last s))
+narrow-requires c κs = let s = c .before .before .before .before .before in (omega (arith, last s, s .pre .0 .length-zs), zeros-fit (s .pre .0) (last s))
 
 store-requires : tie.Need-store-requires Inv-loop μ-loop
-store-requires c κs = let s = c .before .before .before .before .before .before .before in omega (arith, rows-in (s .pre .0) (s .args .g .now) (s .pre .1))
-
-load-requires-2 : tie.Need-load-requires-2 Inv-loop μ-loop
-load-requires-2 c κs = let s = c .before .before .before .before .before .before .before .before .before .before .before in omega (arith, last s, s .pre .0 .length-os)
+store-requires c κs = let s = c .before .before .before .before .before .before in omega (arith, rows-in (s .pre .0) (s .args .g .now) (s .pre .1))
 
 narrow-requires-2 : tie.Need-narrow-requires-2 Inv-loop μ-loop
-narrow-requires-2 c κs = let s = c .before .before .before .before .before .before .before .before .before .before .before .before in rw (c .load2 .ensures) (ones-fit (s .pre .0) (last s))
+narrow-requires-2 c κs = let s = c .before .before .before .before .before .before .before .before .before .before in (omega (arith, last s, s .pre .0 .length-os), ones-fit (s .pre .0) (last s))
 
 store-requires-2 : tie.Need-store-requires-2 Inv-loop μ-loop
-store-requires-2 c κs = let s = c .before .before .before .before .before .before .before .before .before .before .before .before .before in omega (arith, rows-in (s .pre .0) (s .args .g .now) (s .pre .1), c .before .before .before .before .before .store .kept .0)
+store-requires-2 c κs = let s = c .before .before .before .before .before .before .before .before .before .before .before in omega (arith, rows-in (s .pre .0) (s .args .g .now) (s .pre .1), c .before .before .before .before .store .kept .0)
 
 sub-stop : tie.Need-sub-stop Inv-loop μ-loop
-sub-stop c = c .before .before .before .before .before .before .before .before .before .before .before .before .before .before .before .before .pre .0 .fits
+sub-stop c = c .before .before .before .before .before .before .before .before .before .before .before .before .before .before .pre .0 .fits
 
 loop-holds : tie.Need-loop-holds Inv-loop μ-loop
-loop-holds c = let s = c .before .before .before .before .before .before .before .before .before .before .before .before .before .before .before .before in
-    let e = c .before .before .before .before .before .before .before .before in
+loop-holds c = let s = c .before .before .before .before .before .before .before .before .before .before .before .before .before .before in
+    let e = c .before .before .before .before .before .before .before in
     tail-start (s .pre .0) (s .args .g .now) (s .pre .1)
-    (c .before .before .store2 .ensures ∙ rw (e .store .ensures, e .before .narrow .ensures, c .before .before .before .narrow2 .ensures, e .before .before .load .ensures, c .before .before .before .before .load2 .ensures))
+    (c .before .before .store2 .ensures ∙ rw (e .store .ensures, e .before .narrow .ensures, c .before .before .before .narrow2 .ensures))
 
 sub-i-2 : tie.Need-sub-i-2 Inv-loop μ-loop
 sub-i-2 c = omega (arith, c .loop-test .taken)
 
-load-requires-3 : tie.Need-load-requires-3 Inv-loop μ-loop
-load-requires-3 c κs = omega (arith, inside c, st c .pre .0 .length-zs)
-
 narrow-requires-3 : tie.Need-narrow-requires-3 Inv-loop μ-loop
-narrow-requires-3 c κs = rw (c .load3 .ensures) (zeros-fit (st (c .before) .pre .0) (inside (c .before)))
-
-load-requires-4 : tie.Need-load-requires-4 Inv-loop μ-loop
-load-requires-4 c κs = let d = c .before .before in omega (arith, inside d, st d .pre .0 .length-os)
+narrow-requires-3 c κs = let p = st c .pre .0 in (omega (arith, inside c, p .length-zs), zeros-fit p (inside c))
 
 narrow-requires-4 : tie.Need-narrow-requires-4 Inv-loop μ-loop
-narrow-requires-4 c κs = let d = c .before .before .before in rw (c .load4 .ensures) (ones-fit (st d .pre .0) (inside d))
+narrow-requires-4 c κs = let d = c .before in
+    let p = st d .pre .0 in
+    (omega (arith, inside d, p .length-os), ones-fit p (inside d))
 
 double-requires : tie.Need-double-requires Inv-loop μ-loop
-double-requires c κs = let d = c .before .before .before .before .before in
-    rw (c .before .before .before .narrow3 .ensures, c .before .narrow4 .ensures, c .before .before .before .before .load3 .ensures, c .before .before .load4 .ensures)
-    (double-asks (st d .pre .0) (d .before .loop .inv) (d .loop-test .taken))
+double-requires c κs = let d = c .before .before .before in
+    rw (c .before .before .narrow3 .ensures, c .before .narrow4 .ensures) (double-asks (st d .pre .0) (d .before .loop .inv) (d .loop-test .taken))
 
 add-half : tie.Need-add-half Inv-loop μ-loop
-add-half c = let d = c .before .before .before .before .before .before .before .before in record { fits = omega (arith, tail-fits (st d .pre .0) (d .before .loop .inv) (d .loop-test .taken), st d .fits .size) }
+add-half c = let d = c .before .before .before .before .before .before in record { fits = omega (arith, tail-fits (st d .pre .0) (d .before .loop .inv) (d .loop-test .taken), st d .fits .size) }
 
 loop-less : tie.Need-loop-less Inv-loop μ-loop
-loop-less c = let d = c .before .before .before .before .before .before .before .before in omega (arith, d .loop-test .taken)
+loop-less c = let d = c .before .before .before .before .before .before in omega (arith, d .loop-test .taken)
 
 loop-again : tie.Need-loop-again Inv-loop μ-loop
-loop-again c = let d = c .before .before .before .before .before .before .before .before in
-    let e = c .before .before .before .before in
-    tail-next (st d .pre .0) (d .before .loop .inv) (d .loop-test .taken)
-    (rw (e .before .before .narrow3 .ensures, e .narrow4 .ensures, e .before .before .before .load3 .ensures, e .before .load4 .ensures) at (c .before .before .double .ensures))
+loop-again c = let e = c .before .before .before .before in
+    let d = e .before .before in
+    tail-next (st d .pre .0) (d .before .loop .inv) (d .loop-test .taken) (rw (e .before .narrow3 .ensures, e .narrow4 .ensures) at (c .before .before .double .ensures))
 
 same-length : tie.Need-same-length Inv-loop μ-loop
-same-length c = c .before .loop .inv .long ∙ sym (c .before .before .before .before .before .before .before .before .before .before .before .before .before .before .before .before .before .before .pre .1)
+same-length c = c .before .loop .inv .long ∙ sym (c .before .before .before .before .before .before .before .before .before .before .before .before .before .before .before .before .pre .1)
 
 returns : tie.Need-returns Inv-loop μ-loop
-returns c = tail-end (c .before .before .before .before .before .before .before .before .before .before .before .before .before .before .before .before .before .before .pre .0) (c .before .loop .inv) (c .loop-test .left)
+returns c = tail-end (c .before .before .before .before .before .before .before .before .before .before .before .before .before .before .before .before .pre .0) (c .before .loop .inv) (c .loop-test .left)
 
 pub tail-spec : {M : Type 1} → statement M
 tail-spec =
@@ -99,18 +87,14 @@ tail-spec =
     Inv-loop
     μ-loop
     sub-i
-    load-requires
     narrow-requires
     store-requires
-    load-requires-2
     narrow-requires-2
     store-requires-2
     sub-stop
     loop-holds
     sub-i-2
-    load-requires-3
     narrow-requires-3
-    load-requires-4
     narrow-requires-4
     double-requires
     add-half

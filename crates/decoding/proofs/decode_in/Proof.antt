@@ -61,20 +61,14 @@ slice-relend-prefix-decode-with-2 c = search needs
 slice-aggregate-decode-with-5 : tie.Need-slice-aggregate-decode-with-5
 slice-aggregate-decode-with-5 c = let s = c .before .before .before .before .before .before .before .before .before .before .before .before .before .before .before .before .before .before in sym (length-take-le _ (s .args .places .now) (omega (arith, c .before .before .before .before .before .places-of .ensures, s .pre .1 .count-places)))
 
-slice-relend-prefix-decode-with-3 : tie.Need-slice-relend-prefix-decode-with-3
-slice-relend-prefix-decode-with-3 c = search needs
-
 slice-aggregate-decode-with-6 : tie.Need-slice-aggregate-decode-with-6
-slice-aggregate-decode-with-6 c = let s = c .before .before .before .before .before .before .before .before .before .before .before .before .before .before .before .before .before .before .before in sym (length-take-le _ (s .args .f .now) (omega (arith, c .before .before .before .before .before .before .places-of .ensures, s .pre .1 .count-f)))
+slice-aggregate-decode-with-6 c = sym (length-take-le _ _ (wide (c .before .before .before .before .before .before .before .before .before .before .before .before .before .before .before .before .before .before .before .before .before .pre .0 .input .coded)))
 
 slice-aggregate-decode-with-7 : tie.Need-slice-aggregate-decode-with-7
-slice-aggregate-decode-with-7 c = sym (length-take-le _ _ (wide (c .before .before .before .before .before .before .before .before .before .before .before .before .before .before .before .before .before .before .before .before .before .pre .0 .input .coded)))
-
-slice-aggregate-decode-with-8 : tie.Need-slice-aggregate-decode-with-8
-slice-aggregate-decode-with-8 c = sym (length-take-le _ _ (wide (c .before .before .before .before .before .before .before .before .before .before .before .before .before .before .before .before .before .before .before .before .before .before .pre .0 .input .coded)))
+slice-aggregate-decode-with-7 c = sym (length-take-le _ _ (wide (c .before .before .before .before .before .before .before .before .before .before .before .before .before .before .before .before .before .before .before .before .before .before .pre .0 .input .coded)))
 
 decode-with-requires : tie.Need-decode-with-requires
-decode-with-requires c κs = let s = c .before .before .before .before .before .before .before .before .before .before .before .before .before .before .before .before .before .before .before .before .before .before .before .before .before in let p = s .pre in let z = p .0 .input .coded in let e = c .before .before .before .before .before .before .before .before .before .before .before .before .places-of .ensures in let a = length-take-le (c .before .before .before .before .before .before .before .before .before .before .before .before .places-of .result) (s .args .places .now) (omega (arith, p .1 .count-places)) in (p .0 .input, (headed z _ (c .before .before .before .before .before .before .before .before .before .before .before .before .before .before .before .before .before .before .before .columns .ensures), (record { length-t = length-take-le _ (s .args .t .now) (p .1 .states-t); length-places = a ∙ e; length-f = length-take-le (c .before .before .before .before .before .before .before .before .before .before .before .before .places-of .result) (s .args .f .now) (omega (arith, p .1 .count-f)) ∙ sym a; states-g = p .1 .states-g; places-g = omega (arith, p .1 .count-g) }, record { length-zs = length-take-le _ _ (wide z); length-os = length-take-le _ _ (wide z); length-zero = length-take-le _ _ (wide z); length-one = length-take-le _ _ (wide z); length-word = p .0 .long-word; length-soft = p .0 .long-soft; length-scratch = p .0 .long-scratch })))
+decode-with-requires c κs = let s = c .before .before .before .before .before .before .before .before .before .before .before .before .before .before .before .before .before .before .before .before .before .before .before .before .before in let p = s .pre in let z = p .0 .input .coded in let e = c .before .before .before .before .before .before .before .before .before .before .before .before .places-of .ensures in let a = length-take-le (c .before .before .before .before .before .before .before .before .before .before .before .before .places-of .result) (s .args .places .now) (omega (arith, p .1 .count-places)) in (p .0 .input, (headed z _ (c .before .before .before .before .before .before .before .before .before .before .before .before .before .before .before .before .before .before .before .columns .ensures), (record { length-t = length-take-le _ (s .args .t .now) (p .1 .states-t); length-places = a ∙ e; states-f = p .1 .states-f; places-f = omega (arith, a, e, p .1 .count-f); states-g = p .1 .states-g; places-g = omega (arith, a, e, p .1 .count-g) }, record { length-zs = length-take-le _ _ (wide z); length-os = length-take-le _ _ (wide z); length-zero = length-take-le _ _ (wide z); length-one = length-take-le _ _ (wide z); length-word = p .0 .long-word; length-soft = p .0 .long-soft; length-scratch = p .0 .long-scratch })))
 
 same-length : tie.Need-same-length
 same-length c = search needs
@@ -120,10 +114,8 @@ decode-in-spec =
     slice-aggregate-decode-with-4
     slice-relend-prefix-decode-with-2
     slice-aggregate-decode-with-5
-    slice-relend-prefix-decode-with-3
     slice-aggregate-decode-with-6
     slice-aggregate-decode-with-7
-    slice-aggregate-decode-with-8
     decode-with-requires
     same-length
     same-length-2

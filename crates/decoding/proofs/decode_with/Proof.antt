@@ -17,7 +17,7 @@ find-word-requires : tie.Need-find-word-requires
 find-word-requires c κs = let s = c .before .before .before .before .before .before .before .before .before .before .before .before .before .before .before .before .before .before in let r = s .pre .1 .1 .0 in let o = s .pre .1 .1 .1 in (s .pre .0, (s .pre .1 .0, (record { length-zs = o .length-zs; length-os = o .length-os; length-t = r .length-t; states-g = r .states-g; length-scratch = o .length-scratch }, (r, o .length-word))))
 
 soften-requires : tie.Need-soften-requires
-soften-requires c κs = let s = c .before .before .before .before .before .before .before .before .before .before .before .before .before .before .before .before .before .before .before .before .before .before .before .before .before .before .before .before .before .before .before .before .before .before .before .before .before .before .before .before .before .before .before .before in let r = s .pre .1 .1 .0 in let o = s .pre .1 .1 .1 in let v = c .before .before .before .before .before .before .before .before .before .before .before .before .before .before .before .before .before .before .before .before .before .before .before .before .before .find-word in let e = v .ensures in (s .pre .0, (e .tabled, (e .laid, (e .marginals, record { states-g = omega (arith, v .kept .1 .1 .1 .1 .1 .1 .1 .1 .0, r .states-g); places-g = omega (arith, v .kept .1 .1 .1 .1 .1 .1 .1 .1 .0, v .kept .1 .1 .1 .1 .1 .1 .0, r .places-g); length-scratch = v .kept .1 .1 .1 .1 .1 .1 .1 .1 .1 .1 .0 ∙ o .length-scratch; length-zero = o .length-zero; length-one = o .length-one; length-soft = o .length-soft }))))
+soften-requires c κs = let s = c .before .before .before .before .before .before .before .before .before .before .before .before .before .before .before .before .before .before .before .before .before .before .before .before .before .before .before .before .before .before .before .before .before .before .before .before .before .before .before .before .before .before .before .before in let r = s .pre .1 .1 .0 in let o = s .pre .1 .1 .1 in let v = c .before .before .before .before .before .before .before .before .before .before .before .before .before .before .before .before .before .before .before .before .before .before .before .before .before .find-word in let e = v .ensures in (s .pre .0, (e .tabled, (e .laid, (e .marginals, record { states-f = omega (arith, v .kept .1 .1 .1 .1 .1 .1 .1 .0, r .states-f); places-f = omega (arith, v .kept .1 .1 .1 .1 .1 .1 .1 .0, v .kept .1 .1 .1 .1 .1 .1 .0, r .places-f); states-g = omega (arith, v .kept .1 .1 .1 .1 .1 .1 .1 .1 .0, r .states-g); places-g = omega (arith, v .kept .1 .1 .1 .1 .1 .1 .1 .1 .0, v .kept .1 .1 .1 .1 .1 .1 .0, r .places-g); length-scratch = v .kept .1 .1 .1 .1 .1 .1 .1 .1 .1 .1 .0 ∙ o .length-scratch; length-zero = o .length-zero; length-one = o .length-one; length-soft = o .length-soft }))))
 
 weight-requires : tie.Need-weight-requires
 weight-requires c κs = let s = c .before .before .before .before .before .before .before .before .before .before .before .before .before .before .before .before .before .before .before .before .before .before .before .before .before .before .before .before .before .before .before .before .before .before .before .before .before .before .before .before .before .before .before .before .before .before .before .before .before .before .before .before .before .before in (s .pre .0 .good-row, row-60 (s .pre .0))

@@ -5,8 +5,7 @@ use Rattle.lanes.specs.Lanes.{lane}
 use Rattle.trellis.specs.Rows.{weave}
 use Rattle.search.specs.Within.{leading}
 use Rattle.search.proofs.Prepared.{long-le}
-use Rattle.search.proofs.Searching.{small-keys}
-use Rattle.decoding.proofs.Finding.{found}
+use Rattle.decoding.proofs.Finding.{cheap-ok, found}
 use borrow.Author.Needs.{needs}
 use Rattle.decoding.proofs.find_word.Statement.{statement}
 use Rattle.decoding.proofs.find_word.Tie as tie
@@ -20,7 +19,7 @@ tabulate-requires : tie.Need-tabulate-requires
 tabulate-requires c κs = search needs
 
 walk-over-requires : tie.Need-walk-over-requires
-walk-over-requires c κs = let s = c .before .before .before .before .before .before .before .before .before .before .before .before .before .before .before .before .before .before .before .before .before .before .before .before .before .before .before in let r = s .pre .1 .1 .1 .0 in let v = c .before .before .before .before .before .before .before .before .before .before .before .before .before .tabulate in (s .pre .0 .coded, (small-keys (s .pre .0) (v .ensures), record { length-t = v .kept .1 .1 .1 .1 .1 .0 ∙ r .length-t; length-places = r .length-places; length-f = r .length-f; states-g = omega (arith, v .kept .1 .1 .1 .1 .1 .1 .0, r .states-g); places-g = omega (arith, v .kept .1 .1 .1 .1 .1 .1 .0, r .places-g) }))
+walk-over-requires c κs = let s = c .before .before .before .before .before .before .before .before .before .before .before .before .before .before .before .before .before .before .before .before .before .before .before .before .before .before .before in let r = s .pre .1 .1 .1 .0 in let v = c .before .before .before .before .before .before .before .before .before .before .before .before .before .tabulate in (s .pre .0 .coded, (cheap-ok (s .pre .0) (v .ensures), record { length-t = v .kept .1 .1 .1 .1 .1 .0 ∙ r .length-t; length-places = r .length-places; states-f = r .states-f; places-f = r .places-f; states-g = omega (arith, v .kept .1 .1 .1 .1 .1 .1 .0, r .states-g); places-g = omega (arith, v .kept .1 .1 .1 .1 .1 .1 .0, r .places-g) }))
 
 write-word-requires : tie.Need-write-word-requires
 write-word-requires c κs = let s = c .before .before .before .before .before .before .before .before .before .before .before .before .before .before .before .before .before .before .before .before .before .before .before .before .before .before .before .before .before .before .before .before .before .before .before .before in omega (arith, s .pre .1 .1 .1 .1, s .pre .0 .coded .n-is, long-le (s .args .shape .m) (s .pre .0 .coded .width-is))

@@ -19,7 +19,7 @@ slice-aggregate-of-row : tie.Need-slice-aggregate-of-row
 slice-aggregate-of-row c = let s = c .before .before .before .before .before .before .before .before .before .before in sym (length-take-le _ (s .args .g .now) (s .pre .1 .1 .states-g))
 
 of-row-requires : tie.Need-of-row-requires
-of-row-requires c κs = let s = c .before .before .before .before .before .before .before .before .before .before .before in let r = s .pre .1 .1 in (s .pre .0, (s .pre .1 .0, record { length-zs = r .length-zs; length-os = r .length-os; length-t = r .length-t; length-g = length-take-le _ (s .args .g .now) (r .states-g); length-kept = λ y. r .length-scratch }))
+of-row-requires c κs = let s = c .before .before .before .before .before .before .before .before .before .before .before in let r = s .pre .1 .1 in (s .pre .0, (s .pre .1 .0, record { length-zs = r .length-zs; length-os = r .length-os; length-t = r .length-t; length-g = length-take-le _ (s .args .g .now) (r .states-g); length-kept = r .length-scratch }))
 
 same-length : tie.Need-same-length
 same-length c = search needs

@@ -1,59 +1,53 @@
 -- `search::least_of` meets its contract.
 -- Assumes nothing.
-use Rattle.basics.proofs.Kit.{arith}
-use Rattle.search.proofs.Laying.{slots-ok}
-use borrow.Author.Needs.{needs}
+use Rattle.basics.proofs.Kit.{_≡_, arith, needs}
+use Rattle.walk.specs.Walk.{least-total, Slots}
+use Rattle.search.specs.Within.{cap}
+use Rattle.search.proofs.Laying.{slots-ok, to-none, from-none}
 use Rattle.search.proofs.least_of.Statement.{statement}
 use Rattle.search.proofs.least_of.Tie as tie
-use Rattle.search.proofs.least_of.Reads as reads
-use Rattle.search.proofs.least_of.Lts as lts
-use Rattle.search.proofs.lay.Reads as lay-reads
-use Rattle.spots.proofs.slots.Reads as slots-reads
-use Rattle.spots.proofs.steps.Reads as steps-reads
-use Rattle.spots.proofs.turns.Reads as turns-reads
-use Rattle.walk.proofs.least_of.Reads as least-of-reads
 
-lay-requires : tie.Need-lay-requires
-lay-requires c κs = search needs
+abbrev laid : tie.After-turns → tie.After-lay-costs
+laid c = c .before .before .before .before .before .before
 
-slots-requires : tie.Need-slots-requires
-slots-requires c κs = search needs
-
-steps-requires : tie.Need-steps-requires
-steps-requires c κs = search needs
-
-slice-aggregate-least-of : tie.Need-slice-aggregate-least-of
-slice-aggregate-least-of c = search needs
-
-slice-aggregate-least-of-2 : tie.Need-slice-aggregate-least-of-2
-slice-aggregate-least-of-2 c = search needs
-
-turns-requires : tie.Need-turns-requires
-turns-requires c κs = search needs
+abbrev st : tie.After-turns → tie.Start
+st c = laid c .before .before .before .before .before .before
 
 least-of-requires : tie.Need-least-of-requires
-least-of-requires c κs = let s = c .before .before .before .before .before .before .before .before .before .before .before .before .before .before .before .before in rw (c .turns .ensures, c .before .before .before .before .before .slots .ensures, c .before .before .before .before .steps .ensures) (slots-ok (s .pre .0) (c .before .before .before .before .before .before .before .before .before .before .lay .ensures) (s .pre .1 .0 .0) (s .pre .1 .0 .1), omega arith)
-
-same-length : tie.Need-same-length
-same-length c = search needs
-
-same-length-2 : tie.Need-same-length-2
-same-length-2 c = search needs
+least-of-requires c κs = let b = c .before .before .before in let t = b .before in let s = st t in
+    (to-none (s .pre .0) (λ sl st n. Slots n (laid t .lay-costs .last .1 .1 .1 .0) sl st) (t .before .slots .ensures) (t .turns .ensures) (b .if1 .taken) (slots-ok (s .pre .0) (laid t .lay-costs .ensures) (s .pre .1 .0 .0) (s .pre .1 .0 .1)), omega arith)
 
 returns : tie.Need-returns
-returns c = record { laid = c .before .before .before .before .before .before .before .before .before .before .before .lay .ensures; least = rw (c .before .turns .ensures, c .before .before .before .before .before .before .slots .ensures, c .before .before .before .before .before .steps .ensures) at (c .least-of .ensures) }
+returns c = let b = c .before .before .before .before in let t = b .before in let s = st t in record {
+  laid = laid t .lay-costs .ensures;
+  least = from-none (s .pre .0) (λ sl st n. c .least-of .result ≡ least-total cap (laid t .lay-costs .last .1 .1 .1 .0) sl st n) (t .before .slots .ensures) (t .turns .ensures) (b .if1 .taken) (c .least-of .ensures);
+}
+
+least-of-requires-2 : tie.Need-least-of-requires-2
+least-of-requires-2 c κs = let k = c .before .before .before in let t = k .before .before in let s = st t in
+    rw (t .turns .ensures, k .steps .ensures, t .before .slots .ensures) (slots-ok (s .pre .0) (laid t .lay-costs .ensures) (s .pre .1 .0 .0) (s .pre .1 .0 .1), omega arith)
+
+returns-2 : tie.Need-returns-2
+returns-2 c = let k = c .before .before .before .before in let t = k .before .before in
+    record { laid = laid t .lay-costs .ensures; least = rw (t .turns .ensures, k .steps .ensures, t .before .slots .ensures) at (c .least-of2 .ensures) }
 
 pub least-of-spec : {M : Type 1} → statement M
 least-of-spec =
     tie.close
     (tie.spec
-    lay-requires
-    slots-requires
-    steps-requires
-    slice-aggregate-least-of
-    slice-aggregate-least-of-2
-    turns-requires
+    (λ c κs. search needs)
+    (λ c κs. search needs)
+    (λ c κs. search needs)
+    (λ c. search needs)
+    (λ c. search needs)
     least-of-requires
-    same-length
-    same-length-2
-    returns)
+    (λ c. search needs)
+    (λ c. search needs)
+    returns
+    (λ c κs. search needs)
+    (λ c. search needs)
+    (λ c. search needs)
+    least-of-requires-2
+    (λ c. search needs)
+    (λ c. search needs)
+    returns-2)

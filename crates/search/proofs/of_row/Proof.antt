@@ -1,6 +1,7 @@
 -- `search::of_row` meets its contract.
 -- Assumes nothing.
-use Rattle.search.proofs.Tabling.{costs-ok, layers-ok, room-ok, tabled}
+use Rattle.basics.proofs.Kit.{_∙_}
+use Rattle.search.proofs.Tabling.{costs-ok, layers-ok, layered, room-ok}
 use borrow.Author.Needs.{needs}
 use Rattle.search.proofs.of_row.Statement.{statement}
 use Rattle.search.proofs.of_row.Tie as tie
@@ -10,10 +11,12 @@ use Rattle.coset.proofs.make.Reads as make-reads
 use Rattle.search.proofs.cost_rows.Reads as cost-rows-reads
 
 cost-rows-requires : tie.Need-cost-rows-requires
-cost-rows-requires c κs = let s = c .before .before .before .before .before .before .before in costs-ok (s .pre .0) (s .pre .1 .1)
+cost-rows-requires c κs = let s = c .before .before .before .before .before .before .before in costs-ok (s .pre .0) (s .pre .1 .1 .length-zs) (s .pre .1 .1 .length-os)
 
 make-requires : tie.Need-make-requires
-make-requires c κs = let s = c .before .before .before .before .before .before .before .before .before .before .before .before .before .before .before .before .before in let r = c .before .before .before .before .before .before .before .before .before in (layers-ok (s .pre .0) (s .pre .1 .1) (s .pre .1 .0) (r .cost-rows .ensures) (r .cost-rows .kept .1 .1 .1 .0) (r .cost-rows .kept .1 .1 .1 .1 .0), room-ok (s .pre .0) (s .pre .1 .1) (s .pre .1 .0) (r .cost-rows .ensures) (r .cost-rows .kept .1 .1 .1 .0) (r .cost-rows .kept .1 .1 .1 .1 .0))
+make-requires c κs = let r = c .before .before .before .before .before .before .before .before .before in let s = r .before .before .before .before .before .before .before .before in let u = s .pre .1 .1 in
+    let lz = r .cost-rows .kept .1 .1 .1 .0 ∙ u .length-zs in let lo = r .cost-rows .kept .1 .1 .1 .1 .0 ∙ u .length-os in
+    (layers-ok (s .pre .0) lz lo (s .pre .1 .0) (r .cost-rows .ensures), room-ok (s .pre .0) lz lo (s .pre .1 .0) (r .cost-rows .ensures) (u .length-t) (u .length-g) (u .length-kept))
 
 same-length : tie.Need-same-length
 same-length c = search needs
@@ -31,7 +34,14 @@ same-length-5 : tie.Need-same-length-5
 same-length-5 c = search needs
 
 returns : tie.Need-returns
-returns c = let s = c .before .before .before .before .before .before .before .before .before .before .before .before .before .before .before .before .before .before .before .before .before .before .before in let r = c .before .before .before .before .before .before .before .before .before .before .before .before .before .before .before in let m = c .before .before .before .before .before .make .ensures in (tabled (s .pre .0) (s .pre .1 .1) (s .pre .1 .0) (r .cost-rows .ensures) (r .cost-rows .kept .1 .1 .1 .0) (r .cost-rows .kept .1 .1 .1 .1 .0) (m .0) (m .1 .0), m .1 .1)
+returns c = let m = c .before .before .before .before .before in let r = m .before .before .before .before .before .before .before .before .before .before in let s = r .before .before .before .before .before .before .before .before in let u = s .pre .1 .1 in (
+  record {
+    layered = layered (s .pre .0) (r .cost-rows .kept .1 .1 .1 .0 ∙ u .length-zs) (r .cost-rows .kept .1 .1 .1 .1 .0 ∙ u .length-os) (s .pre .1 .0) (r .cost-rows .ensures);
+    keys = m .make .ensures .0;
+    tables = m .make .ensures .1 .0;
+  },
+  m .make .ensures .1 .1,
+)
 
 pub of-row-spec : {M : Type 1} → statement M
 of-row-spec =

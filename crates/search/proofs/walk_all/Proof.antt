@@ -1,54 +1,51 @@
--- `search::walk_all` meets its contract.
+-- `search::walk_all` meets its contract: a walk of one turn takes no step of those it is lent.
 -- Assumes nothing.
-use Rattle.basics.proofs.Kit.{_∙_, arith}
-use borrow.Author.Needs.{needs}
+use Rattle.basics.proofs.Kit.{_≡_, _∙_, arith, needs}
+use Rattle.walk.specs.Walk.{least-total, Slots, Marginals}
+use Rattle.search.specs.Within.{cap}
+use Rattle.search.proofs.Laying.{to-none, from-none}
 use Rattle.search.proofs.walk_all.Statement.{statement}
 use Rattle.search.proofs.walk_all.Tie as tie
-use Rattle.search.proofs.walk_all.Reads as reads
-use Rattle.search.proofs.walk_all.Lts as lts
-use Rattle.search.proofs.reset.Reads as reset-reads
-use Rattle.spots.proofs.slots.Reads as slots-reads
-use Rattle.spots.proofs.steps.Reads as steps-reads
-use Rattle.spots.proofs.turns.Reads as turns-reads
-use Rattle.walk.proofs.walk.Reads as walk-reads
 
-reset-requires : tie.Need-reset-requires
-reset-requires c κs = search needs
+abbrev reset : tie.After-turns → tie.After-reset
+reset c = c .before .before .before .before
 
-slots-requires : tie.Need-slots-requires
-slots-requires c κs = search needs
-
-steps-requires : tie.Need-steps-requires
-steps-requires c κs = search needs
-
-slice-aggregate-walk : tie.Need-slice-aggregate-walk
-slice-aggregate-walk c = search needs
-
-slice-aggregate-walk-2 : tie.Need-slice-aggregate-walk-2
-slice-aggregate-walk-2 c = search needs
-
-turns-requires : tie.Need-turns-requires
-turns-requires c κs = search needs
+abbrev st : tie.After-turns → tie.Start
+st c = reset c .before .before .before .before
 
 walk-requires : tie.Need-walk-requires
-walk-requires c κs = let s = c .before .before .before .before .before .before .before .before .before .before .before .before in let e = c .before .before .before .before .before .before .before .before .reset .ensures in (rw (c .before .turns .ensures, c .before .before .before .before .before .slots .ensures, c .before .before .before .before .steps .ensures) (s .pre .1 .0), ((e .0 ∙ s .pre .1 .1, omega arith), λ p h. e .1 p (omega (arith, e .0))))
-
-same-length : tie.Need-same-length
-same-length c = search needs
+walk-requires c κs = let b = c .before .before .before in let t = b .before in let s = st t in let e = reset t .reset .ensures in
+    (to-none (s .pre .0) (λ sl st n. Slots n (s .args .f .now) sl st) (t .before .slots .ensures) (t .turns .ensures) (b .if1 .taken) (s .pre .1 .0), ((e .0 ∙ s .pre .1 .1, omega arith), λ p h. e .1 p (omega (arith, e .0))))
 
 returns : tie.Need-returns
-returns c = let e = rw (c .before .before .before .before .turns .ensures, c .before .before .before .before .before .before .before .before .slots .ensures, c .before .before .before .before .before .before .before .steps .ensures) at (c .before .before .walk .ensures) in (e .0, e .1 .0)
+returns c = let w = c .before .before in let b = w .before .before .before .before in let t = b .before in let s = st t in (
+  from-none (s .pre .0) (λ sl st n. w .walk .result ≡ least-total cap (s .args .f .now) sl st n) (t .before .slots .ensures) (t .turns .ensures) (b .if1 .taken) (w .walk .ensures .0),
+  from-none (s .pre .0) (λ sl st n. Marginals n cap (s .args .f .now) sl st (w .walk .last .1 .1 .1 .1 .0)) (t .before .slots .ensures) (t .turns .ensures) (b .if1 .taken) (w .walk .ensures .1 .0),
+)
+
+walk-requires-2 : tie.Need-walk-requires-2
+walk-requires-2 c κs = let k = c .before .before .before in let t = k .before .before in let s = st t in let e = reset t .reset .ensures in
+    (rw (t .turns .ensures, k .steps .ensures, t .before .slots .ensures) (s .pre .1 .0), ((e .0 ∙ s .pre .1 .1, omega arith), λ p h. e .1 p (omega (arith, e .0))))
+
+returns-2 : tie.Need-returns-2
+returns-2 c = let w = c .before .before in let k = w .before .before .before .before in let t = k .before .before in
+    let e = rw (t .turns .ensures, k .steps .ensures, t .before .slots .ensures) at (w .walk2 .ensures) in (e .0, e .1 .0)
 
 pub walk-all-spec : {M : Type 1} → statement M
 walk-all-spec =
     tie.close
     (tie.spec
-    reset-requires
-    slots-requires
-    steps-requires
-    slice-aggregate-walk
-    slice-aggregate-walk-2
-    turns-requires
+    (λ c κs. search needs)
+    (λ c κs. search needs)
+    (λ c κs. search needs)
+    (λ c. search needs)
+    (λ c. search needs)
     walk-requires
-    same-length
-    returns)
+    (λ c. search needs)
+    returns
+    (λ c κs. search needs)
+    (λ c. search needs)
+    (λ c. search needs)
+    walk-requires-2
+    (λ c. search needs)
+    returns-2)

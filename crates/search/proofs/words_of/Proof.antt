@@ -17,7 +17,7 @@ same-length : tie.Need-same-length
 same-length c = search needs
 
 returns : tie.Need-returns
-returns c = let s = c .before .before .before .before .before .before .before .before in let p = s .pre .1 .0 in (agreed (s .pre .0) (p .2) (s .args .g .now) _ _ (s .pre .1 .1 .1 .1) (s .pre .1 .1 .0) (c .before .before .agree .ensures (c .before .if1 .taken)) (rw (← s .pre .1 .1 .0) at (tied (s .pre .0) (p .2) (p .0) (p .1))), refl)
+returns c = let s = c .before .before .before .before .before .before .before .before in let p = s .pre .1 .0 in (agreed (s .pre .0) (p .2) (s .args .t .now) (s .args .g .now) _ _ (s .pre .1 .1 .1 .1) (s .pre .1 .1 .0) (c .before .before .agree .ensures (c .before .if1 .taken)) (rw (← s .pre .1 .1 .0) at (tied (s .pre .0) (p .2) (p .0) (p .1))), refl)
 
 first-words-requires : tie.Need-first-words-requires
 first-words-requires c κs = let s = c .before .before .before .before .before .before .before .before in let p = s .pre .1 .0 in (s .pre .0, ((p .1, p .2), (slots-ok (s .pre .0) (p .2) (p .0) (p .1), rw (← s .pre .1 .1 .0) at (tied (s .pre .0) (p .2) (p .0) (p .1)))))

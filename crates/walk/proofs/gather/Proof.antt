@@ -1,27 +1,33 @@
 -- `walk::gather` meets its contract.
 -- Assumes nothing.
-use Rattle.basics.proofs.Kit.{_/_, _-_, arith, length, getD}
-use Rattle.walk.proofs.Rows.{Made, made-start, made-more, made-end}
+use Rattle.basics.proofs.Kit.{_≡_, ℕ, _+_, _-_, _%_, _≤_, _<_, arith, length}
+use Rattle.walk.specs.Walk.{key-cost, Priced}
 use Rattle.walk.proofs.gather.Statement.{statement}
 use Rattle.walk.proofs.gather.Tie as tie
 
 abbrev Inv-loop : tie.InvT-loop
-Inv-loop t places f₀ p₀ f p = Made (length places) (λ y. getD t (getD places y 0) 0 / 65536) p f
+Inv-loop t places f₀ p₀ f p = (p % 8 ≡ 0) × (p ≤ length places) × Priced (key-cost t) places p f
 
 abbrev μ-loop : tie.MeasureT-loop
 μ-loop t places f₀ p₀ f p = length places - p
 
-loop-holds : tie.Need-loop-holds Inv-loop μ-loop
-loop-holds c = made-start (c .before .before .before .pre .0)
+abbrev In : Type 0
+In = tie.In-loop Inv-loop μ-loop
 
-cost-at-requires : tie.Need-cost-at-requires Inv-loop μ-loop
-cost-at-requires c κs = c .before .before .before .before .before .before .pre .1 (c .before .before .loop .p) (c .before .loop-test .taken)
+abbrev st : In → tie.Start Inv-loop μ-loop
+st c = c .before .before .before .before .before
+
+eight : (c : In) → c .before .loop .p + 8 ≤ length (st c .args .places .now)
+eight c = omega (arith, c .loop-test .taken, c .before .loop .inv .0, st c .pre .0 .eights)
 
 loop-again : tie.Need-loop-again Inv-loop μ-loop
-loop-again c = made-more (c .before .before .before .loop .inv) (c .before .before .loop-test .taken) (c .cost-at .ensures)
+loop-again c = let b = c .before .before .before .before in
+    (omega (arith, b .before .loop .inv .0), omega (arith, eight b), c .before .before .gather-eight .ensures)
 
 returns : tie.Need-returns Inv-loop μ-loop
-returns c = record { long = c .before .loop .inv .long; costs = made-end (c .before .loop .inv) (omega arith) }
+returns c = let t = c .before .loop in
+    let e : t .p ≡ length (c .before .before .before .before .before .args .places .now) = omega (arith, t .inv .1, c .loop-test .left) in
+    rw e at (t .inv .2)
 
 pub gather-spec : {M : Type 1} → statement M
 gather-spec =
@@ -29,14 +35,10 @@ gather-spec =
     (tie.spec
     Inv-loop
     μ-loop
-    loop-holds
-    (λ c. omega arith)
-    (λ c. omega arith)
-    cost-at-requires
-    (λ c. omega arith)
-    (λ c. omega arith)
-    (λ c. omega arith)
-    (λ c. omega arith)
+    (λ c. (omega arith, omega arith, record { long = c .before .before .before .pre .1; costs = λ p l. absurd (omega arith) }))
+    (λ c κs. let b = c .before in ((st b .pre .0, eight b), b .before .loop .inv .2))
+    (λ c. let b = c .before .before .before .before in record { fits = omega (arith, eight b, st b .good) })
+    (λ c. omega (arith, c .before .before .before .before .loop-test .taken))
     loop-again
-    (λ c. omega arith)
+    (λ c. omega (arith, c .before .loop .inv .2 .long, c .before .before .before .before .before .pre .1))
     returns)

@@ -1,39 +1,47 @@
 -- `walk::lower_places` meets its contract.
 -- Assumes nothing.
-use Rattle.basics.proofs.Kit.{_≡_, refl, ap, _∙_, [], ℕ, _-_, _<_, min, arith, length, getD, set}
-use Rattle.walk.proofs.Leasts.{others, Scattering, scatter-start, scatter-more}
+use Rattle.basics.proofs.Kit.{_≡_, refl, _∙_, [], ℕ, _+_, _-_, _%_, _≤_, _<_, arith, needs, length}
+use Rattle.walk.specs.Walk.{Lowered}
+use Rattle.walk.specs.Turns.{Eights}
+use Rattle.walk.proofs.Leasts.{lowered-none}
 use Rattle.walk.proofs.lower_places.Statement.{statement}
 use Rattle.walk.proofs.lower_places.Tie as tie
 
 abbrev Inv-loop : tie.InvT-loop
-Inv-loop g places a₀ cap p₀ a p = Scattering cap [] g places (length a₀) p a
+Inv-loop g places a₀ cap p₀ a p = (p % 8 ≡ 0) × (p ≤ length places) × (length a ≡ length a₀) × Lowered cap [] g places p a
 
 abbrev μ-loop : tie.MeasureT-loop
 μ-loop g places a₀ cap p₀ a p = length places - p
 
-abbrev from : tie.In-loop Inv-loop μ-loop → tie.Start Inv-loop μ-loop
-from c = c .before .before .before .before .before
+abbrev In : Type 0
+In = tie.In-loop Inv-loop μ-loop
 
--- what the place of this turn is asked to be
-asked : (c : tie.In-loop Inv-loop μ-loop) → getD (from c .args .places .now) (c .before .loop .p) 0 < length (from c .args .a .now)
-asked c = from c .pre .1 .0 (c .before .loop .p) (c .loop-test .taken)
+abbrev st : In → tie.Start Inv-loop μ-loop
+st c = c .before .before .before .before .before .before .before .before .before
+
+-- the table is as long as it was
+long-is : (c : In) → length (c .before .loop .a) ≡ length (st c .args .a .now)
+long-is c = c .before .loop .inv .2 ∙ c .before .before .before .before .reset .ensures .0
+
+eight : (c : In) → c .before .loop .p + 8 ≤ length (st c .args .places .now)
+eight c = omega (arith, c .loop-test .taken, c .before .loop .inv .0, st c .pre .0 .eights)
 
 loop-holds : tie.Need-loop-holds Inv-loop μ-loop
-loop-holds c = scatter-start refl (c .before .before .before .pre .1 .1)
+loop-holds c = let r = c .before .before .reset .ensures in
+    (omega arith, omega arith, refl, lowered-none (λ x l. r .1 x (omega (arith, r .0))))
 
-lower-at-requires : tie.Need-lower-at-requires Inv-loop μ-loop
-lower-at-requires c κs = let b = c .before .before .before in omega (arith, asked b, b .before .loop .inv .long)
+lower-eight-requires : tie.Need-lower-eight-requires Inv-loop μ-loop
+lower-eight-requires c κs = let b = c .before in let i = b .before .loop .inv in let p = st b .pre in
+    ((record { eights = p .0 .eights; inside = λ q l. omega (arith, p .0 .inside q l, long-is b) }, p .1, eight b), i .3)
 
 loop-again : tie.Need-loop-again Inv-loop μ-loop
-loop-again c = let b = c .before .before .before .before .before .before in let t = b .before .loop in let s = getD (from b .args .places .now) (t .p) 0 in let x = getD (from b .args .g .now) (t .p) 0 in
-    let z : x ≡ x - 0 = omega arith in
-    scatter-more (t .inv) (b .loop-test .taken) (asked b) (c .before .before .lower-at .ensures ∙ ap (λ (y : ℕ). set (t .a) s (min (getD (t .a) s 0) y)) z)
+loop-again c = let b = c .before .before .before .before in let i = b .before .loop .inv in let e = c .before .before .lower-eight .ensures in
+    (omega (arith, i .0), omega (arith, eight b), e .1 ∙ i .2, e .0)
 
 returns : tie.Need-returns Inv-loop μ-loop
-returns c = let a = c .before .before .before .before .before .args in
-    let t = c .before .loop in
-    let e : t .p ≡ length (a .places .now) = omega (arith, t .inv .within) in
-    (record { others = λ x l. t .inv .entries x (omega (arith, t .inv .long)) ∙ ap (λ (n : ℕ). others (a .cap) [] (a .g .now) (a .places .now) n x) e }, t .inv .long)
+returns c = let t = c .before .loop in
+    let e : t .p ≡ length (c .before .before .before .before .before .before .before .before .before .args .places .now) = omega (arith, t .inv .1, c .loop-test .left) in
+    (rw e at (t .inv .3), t .inv .2 ∙ c .before .before .before .before .reset .ensures .0)
 
 pub lower-places-spec : {M : Type 1} → statement M
 lower-places-spec =
@@ -41,15 +49,11 @@ lower-places-spec =
     (tie.spec
     Inv-loop
     μ-loop
+    (λ c κs. search needs)
     loop-holds
-    (λ c. omega arith)
-    (λ c. omega arith)
-    (λ c. omega arith)
-    (λ c. omega arith)
-    (λ c. omega (arith, c .shared-slice-known4 .given (c .before .before .before .before .loop .p)))
-    lower-at-requires
-    (λ c. omega arith)
-    (λ c. omega arith)
+    lower-eight-requires
+    (λ c. let b = c .before .before .before .before in record { fits = omega (arith, eight b, st b .good) })
+    (λ c. omega (arith, c .before .before .before .before .loop-test .taken))
     loop-again
-    (λ c. omega arith)
+    (λ c. c .before .loop .inv .2 ∙ c .before .before .before .before .reset .ensures .0)
     returns)

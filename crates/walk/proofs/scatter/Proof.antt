@@ -1,28 +1,42 @@
 -- `walk::scatter` meets its contract.
 -- Assumes nothing.
-use Rattle.basics.proofs.Kit.{sym, _∙_, arith, needs}
+use Rattle.basics.proofs.Kit.{_≡_, sym, _∙_, _<_, arith, needs, length, getD}
+use lib.Seq.{length-take-le, getD-take, take-at}
 use Rattle.walk.proofs.Leasts.{others-same}
 use Rattle.walk.proofs.scatter.Statement.{statement}
 use Rattle.walk.proofs.scatter.Tie as tie
 
+abbrev st : tie.After-less-own → tie.Start
+st c = c .before .before .before .before .before .before
+
 less-own-requires : tie.Need-less-own-requires
-less-own-requires c κs = let s = c .before .before .before .before .before in let p = s .pre in
-    (p .0 .0 ∙ sym (p .0 .1), λ q l. p .1 .0 q (omega (arith, p .0 .1)) .1)
+less-own-requires c κs = let s = c .before .before .before .before .before in let r = s .pre in (
+  length-take-le _ (s .args .room .now) (r .count) ∙ sym (r .length-g),
+  λ q l.
+      let h : q < length (s .args .places .now) = omega (arith, r .length-g) in rw (getD-take _ (s .args .room .now) q 0 h) (r .own q h),
+)
 
 lower-places-requires : tie.Need-lower-places-requires
-lower-places-requires c κs = let k = c .before .before .before .before in let s = k .before .before .before .before .before .before in let p = s .pre in
-    (k .less-own .ensures .long ∙ p .0 .1, (λ q l. p .1 .0 q l .0, p .1 .1))
+lower-places-requires c κs = let k = c .before .before .before .before in let s = st k in let r = s .pre in (
+  record { eights = r .places-in .eights; inside = λ q l. omega (arith, r .places-in .inside q l, length-take-le _ (s .args .room .now) (r .states-in)) },
+  k .less-own .ensures .long ∙ r .length-g,
+)
 
 returns : tie.Need-returns
-returns c = let l = c .before .before in let k = l .before .before .before .before .before in let s = k .before .before .before .before .before .before in let p = s .pre in
+returns c = let l = c .before .before in let k = l .before .before .before .before .before in let s = st k in let r = s .pre in
     let e = l .lower-places .ensures in
-    (record { others = λ x h. e .0 .others x h ∙ others-same (s .args .cap) (s .args .places .now) (k .less-own .ensures) (p .0 .1) x }, e .1)
+    rw (take-at (l .lower-places .last .1 .1 .0) _ _ (l .lower-places .kept .1 .1 .0 ∙ length-take-le _ (s .args .room .now) (r .states-in)))
+    (record { others = λ x h. e .0 .others x h ∙ others-same (s .args .cap) (s .args .places .now) (k .less-own .ensures) (r .length-g) x }, search needs)
 
 pub scatter-spec : {M : Type 1} → statement M
 scatter-spec =
     tie.close
     (tie.spec
+    (λ c. search needs)
+    (λ c. let s = c .before .before .before .before in sym (length-take-le _ (s .args .room .now) (s .pre .count)))
     less-own-requires
+    (λ c. search needs)
+    (λ c. let s = st (c .before .before .before .before) in sym (length-take-le _ (s .args .room .now) (s .pre .states-in)))
     lower-places-requires
     (λ c. search needs)
     (λ c. search needs)

@@ -1,11 +1,11 @@
--- `search::reset` meets its contract.
+-- `walk::reset` meets its contract.
 -- Assumes nothing.
 use Rattle.basics.proofs.Kit.{_≡_, refl, _∙_, List, ℕ, _+_, _-_, _≤_, _<_, arith, needs, length, getD, set}
 use native.Mathlib.Decide.{decLe}
 use lib.ListN.{length-set}
 use lib.Seq.{getD-set-same, getD-set-other}
-use Rattle.search.proofs.reset.Statement.{statement}
-use Rattle.search.proofs.reset.Tie as tie
+use Rattle.walk.proofs.reset.Statement.{statement}
+use Rattle.walk.proofs.reset.Tie as tie
 
 abbrev Inv-loop : tie.InvT-loop
 Inv-loop g₀ x p₀ g p = (p ≤ length g₀) × (length g ≡ length g₀) × ((k : ℕ) → k < p → getD g k 0 ≡ x)

@@ -1,0 +1,29 @@
+-- `search::lay_costs` meets its contract.
+-- Assumes nothing.
+use Rattle.basics.proofs.Kit.{sym, ap, _∙_, ℕ, _^_}
+use Rattle.search.proofs.Laying.{eights}
+use borrow.Author.Needs.{needs}
+use Rattle.search.proofs.lay_costs.Statement.{statement}
+use Rattle.search.proofs.lay_costs.Tie as tie
+use Rattle.search.proofs.lay_costs.Reads as reads
+use Rattle.search.proofs.lay_costs.Lts as lts
+use Rattle.spots.proofs.fill.Reads as fill-reads
+use Rattle.walk.proofs.gather_costs.Reads as gather-costs-reads
+
+fill-requires : tie.Need-fill-requires
+fill-requires c κs = let s = c .before .before .before .before in let z = s .pre .0 in (z .accepted-is, (z .size-is ∙ ap (λ (q : ℕ). 2 ^ q) (z .q-is), s .pre .1 .1))
+
+gather-costs-requires : tie.Need-gather-costs-requires
+gather-costs-requires c κs = let s = c .before .before .before .before .before .before .before .before .before in let p = c .before .before .before .before .fill .ensures in (eights (s .pre .0) p (s .pre .1 .0), s .pre .1 .2 ∙ s .pre .1 .1 ∙ sym (p .long))
+
+same-length : tie.Need-same-length
+same-length c = search needs
+
+same-length-2 : tie.Need-same-length-2
+same-length-2 c = search needs
+
+returns : tie.Need-returns
+returns c = search needs
+
+pub lay-costs-spec : {M : Type 1} → statement M
+lay-costs-spec = tie.close (tie.spec fill-requires gather-costs-requires same-length same-length-2 returns)
