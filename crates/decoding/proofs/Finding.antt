@@ -1,12 +1,12 @@
 -- From the walk to the first best word and to the soft outputs.
 -- Assumes nothing.
-use Rattle.basics.proofs.Kit.{_≡_, refl, sym, ap, _∙_, Bool, true, false, cond, List, ℕ, suc, _+_, _-_, _*_, _/_, _%_, _^_, _≤_, _<_, arith, length, getD, take, eqb, ℤ}
+use Rattle.basics.proofs.Kit.{_≡_, refl, sym, ap, _∙_, Bool, true, false, cond, List, ℕ, _+_, _-_, _*_, _≤_, _<_, arith, length, getD, take, eqb, ℤ}
 use borrow.Author.Tests.{eqb-true}
 use native.Mathlib.Nat.{mul-le-mul-right}
 use Rattle.code.specs.declared.Shape.{Shape}
 use Rattle.lanes.specs.Lanes.{entry, lane}
 use Rattle.trellis.specs.Rows.{weave}
-use Rattle.walk.specs.Walk.{sum4, start, spot, total, least-total, least-at, key-cost, Marginals, Scattered}
+use Rattle.walk.specs.Walk.{sum4, start, spot, total, least-at, key-cost, Marginals, Scattered}
 use Rattle.trellis.proofs.Least.{le-least, least-cap}
 use Rattle.lanes.proofs.Rows.{four}
 use Rattle.coset.specs.Coset.{none}
@@ -20,7 +20,7 @@ use Rattle.search.proofs.Heads as H
 use Rattle.search.specs.Within.{cap, bound, Input, Tabled, Costing, Cheap, Laid, Walked, leading, slots-of, steps-of, turns-of}
 use Rattle.search.proofs.Searching as A
 use Rattle.search.proofs.Foremost as O
-use Rattle.decoding.specs.Within.{Best-word, Found, Softs, Soften-room}
+use Rattle.decoding.specs.Within.{Found, Softs, Soften-room}
 
 module _ {s : Shape} {row : List ℤ} {hs zs os t : List ℕ} {kept : List ℤ} (z : Input s row) (b : Tabled s row hs zs os t kept) where
   costing : Costing s hs zs os (key-cost t)

@@ -38,7 +38,7 @@ pub record Pass (q size cap : ℕ) (a g hs zs os : List ℕ) (kept : List ℤ) (
   pub length-g : length g ≡ size * 4
   pub length-kept : (length hs - q - 1) * (size * 4) ≤ length kept
   pub start : (s j : ℕ) → s < size → j < 4 → entry a s j ≤ cap
-  pub cap-small : cap + length hs * layers .top < 2 ^ 15
+  pub cap-small : cap + length hs * layers .top < limit
   pub length-zero : length zero ≡ length hs * 4
   pub length-one : length one ≡ length hs * 4
 

@@ -1,15 +1,15 @@
 -- THE WORDS THAT ARE FOUND are those of the first codeword of least cost.
 -- Assumes nothing.
-use Rattle.basics.proofs.Kit.{_≡_, refl, sym, ap, ap₂, _∙_, Bool, true, List, ℕ, _+_, _-_, _*_, _/_, _%_, _^_, _≤_, _<_, arith, length, getD, ℤ}
+use Rattle.basics.proofs.Kit.{_≡_, sym, ap, ap₂, _∙_, true, List, ℕ, _+_, _-_, _*_, _^_, _≤_, _<_, arith, length, getD, ℤ}
 use native.Mathlib.Nat.{pow-le-pow-right, zero-lt-suc}
 use Rattle.order.specs.Order.{not-after}
 use Rattle.order.specs.Number.{number}
 use Rattle.code.specs.declared.Shape.{Shape}
-use Rattle.code.specs.Code.{long, is-codeword}
+use Rattle.code.specs.Code.{is-codeword}
 use Rattle.code.proofs.Words.{Below}
 use Rattle.tails.specs.Tails.{visited}
 use Rattle.metric.specs.Cost.{cost, Least}
-use Rattle.trellis.specs.Trellis.{final, free, first-word}
+use Rattle.trellis.specs.Trellis.{final, first-word}
 use Rattle.trellis.specs.Trellis as TR'
 use Rattle.trellis.specs.Rows as M
 use Rattle.trellis.specs.Rows.{layer, weave, first-words, weighed}
@@ -19,7 +19,7 @@ use Rattle.trellis.proofs.Least.{least-le}
 use Rattle.lanes.specs.Lanes.{entry, lane, lanes}
 use Rattle.lanes.proofs.Rows.{lanes-at}
 use Rattle.coset.specs.Coset.{none, first}
-use Rattle.walk.specs.Walk.{sum4, spot, total, least-total, key-cost}
+use Rattle.walk.specs.Walk.{sum4, spot, least-total, key-cost}
 use Rattle.ties.specs.Ties.{spaced, number-of, word-at}
 use Rattle.bridge.proofs.Engine.{over}
 use Rattle.bridge.proofs.Bridge.{free-two}

@@ -1,7 +1,7 @@
 -- The columns of a code that may be chosen: below the number of cosets and not 0, the last ones the powers of two; and room for
 -- the tables that are kept and for the places of the walk.
 -- Assumes nothing.
-use Rattle.basics.proofs.Kit.{_≡_, Bool, true, cond, ℕ, suc, _+_, _-_, _*_, _^_, _≤_, _<_, getD, eqb, ltb, leb}
+use Rattle.basics.proofs.Kit.{_≡_, Bool, true, cond, ℕ, suc, _-_, _*_, _^_, _≤_, _<_, getD, eqb, ltb, leb}
 use mathlib.Core.Path.{subst}
 use lib.Dec.{T, eqb→eq, leb→le, ltb→lt}
 use borrow.Author.Tests.{le-leb}

@@ -1,7 +1,7 @@
--- The places of a code's walk over a table of keys: what the walk asks, that some tuple costs the least, and that words on which all places that take
--- part agree are those of the first tuple.
+-- The places of a code's walk over a table of keys or of costs: what the walk asks, that some tuple costs the least, and that words on which all places
+-- that take part agree are those of the first tuple.
 -- Assumes nothing.
-use Rattle.basics.proofs.Kit.{_≡_, refl, sym, ap, ap₂, _∙_, Bool, true, false, cond, List, ℕ, suc, _+_, _*_, _/_, _%_, _^_, _≤_, _<_, arith, length, getD, eqb}
+use Rattle.basics.proofs.Kit.{_≡_, refl, sym, ap, ap₂, _∙_, Bool, true, false, cond, List, ℕ, suc, _+_, _*_, _/_, _^_, _≤_, _<_, arith, length, getD, eqb}
 use mathlib.Core.Path.{subst}
 use borrow.Author.Tests.{eq-eqb}
 use lib.ListN.{replicate}
@@ -11,7 +11,7 @@ use Rattle.spots.specs.Spots.{Placed}
 use Rattle.spots.specs.Promise.{Walkable, Walks}
 use Rattle.spots.proofs.Walks.{walks, no-steps}
 use Rattle.trellis.proofs.Least.{least-le, least-found, least-cap, le-least}
-use Rattle.lanes.specs.Lanes.{lane, lanes}
+use Rattle.lanes.specs.Lanes.{lane}
 use Rattle.lanes.proofs.Rows.{four, lanes-at}
 use Rattle.walk.specs.Walk.{start, spot, total, least-total, Slots, Marginals, key-cost}
 use Rattle.walk.specs.Turns.{Eights}

@@ -1,11 +1,11 @@
 -- Columns and costs as the program makes them: by the sign of a reliability, one position at a turn.
 -- Assumes nothing.
-use Rattle.basics.proofs.Kit.{_≡_, refl, sym, ap, _∙_, Bool, true, false, _&&_, List, ℕ, suc, _+_, _*_, _≤_, _<_, arith, length, getD, take, set, eqb, ℤ, pos, negsuc, natAbs, _-ℤ_}
+use Rattle.basics.proofs.Kit.{_≡_, refl, sym, ap, _∙_, true, false, List, ℕ, suc, _+_, _*_, _≤_, _<_, arith, length, getD, set, ℤ, pos, negsuc, natAbs, _-ℤ_}
 use mathlib.Core.Path.{subst}
 use native.Mathlib.Nat.{zero-add, suc-mul, mul-le-mul-right}
 use native.Mathlib.Decide.{decLe}
 use borrow.Author.Tests.{lt-ltb, ltb-true, ltb-false}
-use lib.Dec.{T, eqb→eq}
+use lib.Dec.{T}
 use lib.ListN.{length-set}
 use lib.Seq.{getD-set-same, getD-set-other}
 use lib.Signed.{ltZ, nonNeg}
@@ -13,7 +13,7 @@ use mir.Syntax.{w16, w32}
 use mir.Val.{SFits, Fits, toZ, ofZ}
 use mir.Facts.{toZ-ofZ}
 use Rattle.field.specs.Field.{width-good}
-use Rattle.field.proofs.Tests.{all, at, and-l, and-r, widths}
+use Rattle.field.proofs.Tests.{at, widths}
 use Rattle.code.specs.Code.{long}
 use Rattle.metric.specs.Cost.{costZero, costOne}
 use Rattle.lanes.proofs.Rows.{four}

@@ -1,35 +1,34 @@
 -- THE SEARCH AT AN ACCEPTED ROW: what the walk asks, that the least total is the least cost of a codeword, that the words it names are those of the first
 -- such codeword, and that what it leaves for each coset is what the other layers cost.
 -- Assumes nothing.
-use Rattle.basics.proofs.Kit.{_≡_, refl, sym, ap, ap₂, _∙_, Bool, true, false, cond, List, [], _∷_, ℕ, zero, suc, _+_, _-_, _*_, _/_, _%_, _^_, _≤_, _<_, arith, length, getD, eqb, ℤ}
+use Rattle.basics.proofs.Kit.{_≡_, refl, sym, ap, _∙_, Bool, true, false, cond, List, ℕ, suc, _+_, _-_, _*_, _/_, _%_, _^_, _≤_, _<_, arith, length, getD, eqb, ℤ}
 use native.Mathlib.Nat.{mul-comm, mul-le-mul-left, mul-le-mul-right, pow-le-pow-right, zero-lt-suc}
 use native.Mathlib.Decide.{decLe}
 use borrow.Author.Tests.{eq-eqb, eqb-true}
 use Rattle.field.proofs.Tests.{widths}
 use Rattle.code.specs.declared.Shape.{Shape}
-use Rattle.code.specs.Code.{long, symbols-good, is-codeword}
+use Rattle.code.specs.Code.{long, is-codeword}
 use Rattle.code.specs.Bits.{row-long}
-use Rattle.code.proofs.Words.{Below, good, Codeword-parts, codeword-parts}
 use Rattle.split.specs.Split.{layer}
-use Rattle.tails.specs.Tails.{columns, added, turns, visited}
+use Rattle.tails.specs.Tails.{added, visited}
 use Rattle.tails.specs.Promise.{Codewords-visited}
-use Rattle.spots.specs.Spots.{slots-from, slots, all-steps}
+use Rattle.spots.specs.Spots.{slots-from, slots}
 use Rattle.spots.specs.Promise.{Walkable, Walks, Spot-visited, Visited-inside, Visited-high}
 use Rattle.metric.specs.Row.{row-bound}
-use Rattle.metric.specs.Cost.{weight-of, cost, Least, Least-with}
+use Rattle.metric.specs.Cost.{weight-of, cost, Least}
 use Rattle.metric.proofs.Bounds.{weight-le}
-use Rattle.trellis.specs.Trellis.{back, free, final, leastOf, holding, meet}
+use Rattle.trellis.specs.Trellis.{back, free, final, leastOf}
 use Rattle.trellis.specs.Rows.{layer as column-of}
-use Rattle.trellis.proofs.Least.{least-same, least-le, least-found, least-cap}
-use Rattle.lanes.specs.Lanes.{entry, lane, lanes}
-use Rattle.lanes.proofs.Rows.{four, lanes-at}
+use Rattle.trellis.proofs.Least.{least-same, least-le, least-found}
+use Rattle.lanes.specs.Lanes.{entry}
+use Rattle.lanes.proofs.Rows.{four}
 use Rattle.coset.specs.Coset.{none, least, Keys}
-use Rattle.walk.specs.Walk.{sum4, start, place, spot, total, least-total, least-at, Slots, Marginals, key-cost, Scattered}
-use Rattle.bridge.specs.Bridge.{Glue, Setting}
+use Rattle.walk.specs.Walk.{start, spot, total, least-total, least-at, Slots, Marginals, key-cost, Scattered}
+use Rattle.bridge.specs.Bridge.{Setting}
 use Rattle.bridge.proofs.Engine.{over, Others, part-le}
 use Rattle.bridge.proofs.Bridge.{table}
 use Rattle.bridge.proofs.Found as S
-use Rattle.search.specs.Within.{cap, bound, Input, Layered, Costing, Laid, Ties, Cheap, slots-of, steps-of, turns-of}
+use Rattle.search.specs.Within.{cap, bound, Input, Layered, Costing, Laid, Cheap, slots-of, steps-of, turns-of}
 use Rattle.tails.proofs.Walk.{codewords-visited}
 use Rattle.spots.proofs.Walks.{walks, spot-visited, visited-inside, visited-high}
 use Rattle.coset.proofs.Search as C

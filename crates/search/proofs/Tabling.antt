@@ -1,7 +1,6 @@
 -- The tables of an accepted row: what is asked of the buffers, and that columns and costs are those of the row.
 -- Assumes nothing.
-use Rattle.basics.proofs.Kit.{_≡_, refl, sym, ap, ap₂, _∙_, Bool, true, false, cond, List, ℕ, suc, _+_, _-_, _*_, _^_, _≤_, _<_, arith, length, getD, ltb, ℤ, pos}
-use Rattle.field.proofs.Tests.{widths}
+use Rattle.basics.proofs.Kit.{_≡_, refl, sym, ap, _∙_, Bool, true, false, cond, List, ℕ, suc, _+_, _-_, _*_, _^_, _≤_, arith, length, getD, ltb, ℤ, pos}
 use Rattle.code.specs.declared.Shape.{Shape}
 use Rattle.code.specs.Code.{long, syndrome-long}
 use Rattle.code.specs.Bits.{row-long}

@@ -63,7 +63,7 @@ Marginals n cap f sl st g = (j p : ℕ) → j < 4 → start sl j ≤ p → p < s
 abbrev pub key-cost : (t : List ℕ) → (x : ℕ) → ℕ
 key-cost t x = getD t x 0 / 65536
 
--- what each of the first n places costs, and what each place does
+-- what each of the first n places costs, by what an entry costs; gathered where these are all of them
 pub record Priced (cost : ℕ → ℕ) (places : List ℕ) (n : ℕ) (f : List ℕ) : Type 0 where
   pub long : length f ≡ length places
   pub costs : (p : ℕ) → p < n → getD f p 0 ≡ cost (getD places p 0)
@@ -71,7 +71,7 @@ pub record Priced (cost : ℕ → ℕ) (places : List ℕ) (n : ℕ) (f : List �
 abbrev pub Gathered : (cost : ℕ → ℕ) → (places f : List ℕ) → Type 0
 Gathered cost places f = Priced cost places (length places) f
 
--- the least that the other layers cost, over those of the first n places that stand for entry x of a table; and the table of these
+-- the least that the other layers cost, over those of the first n places that stand for entry x of a table; the table of these, and that over all places
 abbrev pub others : (cap : ℕ) → (f g places : List ℕ) → (n x : ℕ) → ℕ
 others cap f g places n x = leastOf (λ p. cond (eqb (getD places p 0) x) (getD g p 0 - getD f p 0) cap) cap n
 

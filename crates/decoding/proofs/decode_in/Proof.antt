@@ -7,11 +7,6 @@ use Rattle.search.proofs.Roomed.{wide, headed, headed-long}
 use borrow.Author.Needs.{needs}
 use Rattle.decoding.proofs.decode_in.Statement.{statement}
 use Rattle.decoding.proofs.decode_in.Tie as tie
-use Rattle.decoding.proofs.decode_in.Reads as reads
-use Rattle.decoding.proofs.decode_in.Lts as lts
-use Rattle.decoding.proofs.decode_with.Reads as decode-with-reads
-use Rattle.search.proofs.places_of.Reads as places-of-reads
-use Rattle.spots.proofs.columns.Reads as columns-reads
 
 columns-requires : tie.Need-columns-requires
 columns-requires c κs = search needs

@@ -6,12 +6,6 @@ use Rattle.decoding.proofs.Decodings.{row-60, weight-small, least-small
 use borrow.Author.Needs.{needs}
 use Rattle.decoding.proofs.decode_with.Statement.{statement}
 use Rattle.decoding.proofs.decode_with.Tie as tie
-use Rattle.decoding.proofs.decode_with.Reads as reads
-use Rattle.decoding.proofs.decode_with.Lts as lts
-use Rattle.decoding.proofs.find_word.Reads as find-word-reads
-use Rattle.decoding.proofs.minus.Reads as minus-reads
-use Rattle.decoding.proofs.soften.Reads as soften-reads
-use Rattle.search.proofs.weight.Reads as weight-reads
 
 find-word-requires : tie.Need-find-word-requires
 find-word-requires c κs = let s = c .before .before .before .before .before .before .before .before .before .before .before .before .before .before .before .before .before .before in let r = s .pre .1 .1 .0 in let o = s .pre .1 .1 .1 in (s .pre .0, (s .pre .1 .0, (record { length-zs = o .length-zs; length-os = o .length-os; length-t = r .length-t; states-g = r .states-g; length-scratch = o .length-scratch }, (r, o .length-word))))

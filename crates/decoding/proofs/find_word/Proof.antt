@@ -9,11 +9,6 @@ use Rattle.decoding.proofs.Finding.{cheap-ok, found}
 use borrow.Author.Needs.{needs}
 use Rattle.decoding.proofs.find_word.Statement.{statement}
 use Rattle.decoding.proofs.find_word.Tie as tie
-use Rattle.decoding.proofs.find_word.Reads as reads
-use Rattle.decoding.proofs.find_word.Lts as lts
-use Rattle.decoding.proofs.tabulate.Reads as tabulate-reads
-use Rattle.decoding.proofs.walk_over.Reads as walk-over-reads
-use Rattle.search.proofs.write_word.Reads as write-word-reads
 
 tabulate-requires : tie.Need-tabulate-requires
 tabulate-requires c κs = search needs

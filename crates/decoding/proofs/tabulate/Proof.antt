@@ -5,9 +5,6 @@ use lib.Seq.{length-take-le}
 use borrow.Author.Needs.{needs}
 use Rattle.decoding.proofs.tabulate.Statement.{statement}
 use Rattle.decoding.proofs.tabulate.Tie as tie
-use Rattle.decoding.proofs.tabulate.Reads as reads
-use Rattle.decoding.proofs.tabulate.Lts as lts
-use Rattle.search.proofs.of_row.Reads as of-row-reads
 
 mul-states : tie.Need-mul-states
 mul-states c = search needs

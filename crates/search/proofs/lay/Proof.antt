@@ -5,10 +5,6 @@ use Rattle.search.proofs.Laying.{eights}
 use borrow.Author.Needs.{needs}
 use Rattle.search.proofs.lay.Statement.{statement}
 use Rattle.search.proofs.lay.Tie as tie
-use Rattle.search.proofs.lay.Reads as reads
-use Rattle.search.proofs.lay.Lts as lts
-use Rattle.spots.proofs.fill.Reads as fill-reads
-use Rattle.walk.proofs.gather.Reads as gather-reads
 
 fill-requires : tie.Need-fill-requires
 fill-requires c κs = let s = c .before .before .before .before in let z = s .pre .0 in (z .accepted-is, (z .size-is ∙ ap (λ (q : ℕ). 2 ^ q) (z .q-is), s .pre .1 .1))

@@ -5,10 +5,6 @@ use Rattle.search.proofs.Laying.{eights}
 use borrow.Author.Needs.{needs}
 use Rattle.search.proofs.lay_costs.Statement.{statement}
 use Rattle.search.proofs.lay_costs.Tie as tie
-use Rattle.search.proofs.lay_costs.Reads as reads
-use Rattle.search.proofs.lay_costs.Lts as lts
-use Rattle.spots.proofs.fill.Reads as fill-reads
-use Rattle.walk.proofs.gather_costs.Reads as gather-costs-reads
 
 fill-requires : tie.Need-fill-requires
 fill-requires c κs = let s = c .before .before .before .before in let z = s .pre .0 in (z .accepted-is, (z .size-is ∙ ap (λ (q : ℕ). 2 ^ q) (z .q-is), s .pre .1 .1))

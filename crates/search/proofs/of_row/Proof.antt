@@ -5,10 +5,6 @@ use Rattle.search.proofs.Tabling.{costs-ok, layers-ok, layered, room-ok
 use borrow.Author.Needs.{needs}
 use Rattle.search.proofs.of_row.Statement.{statement}
 use Rattle.search.proofs.of_row.Tie as tie
-use Rattle.search.proofs.of_row.Reads as reads
-use Rattle.search.proofs.of_row.Lts as lts
-use Rattle.coset.proofs.make.Reads as make-reads
-use Rattle.search.proofs.cost_rows.Reads as cost-rows-reads
 
 cost-rows-requires : tie.Need-cost-rows-requires
 cost-rows-requires c κs = let s = c .before .before .before .before .before .before .before in costs-ok (s .pre .0) (s .pre .1 .1 .length-zs) (s .pre .1 .1 .length-os)

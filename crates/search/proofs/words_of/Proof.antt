@@ -5,10 +5,6 @@ use Rattle.search.proofs.Laying.{agreed, tied, slots-ok}
 use borrow.Author.Needs.{needs}
 use Rattle.search.proofs.words_of.Statement.{statement}
 use Rattle.search.proofs.words_of.Tie as tie
-use Rattle.search.proofs.words_of.Reads as reads
-use Rattle.search.proofs.words_of.Lts as lts
-use Rattle.search.proofs.agree.Reads as agree-reads
-use Rattle.search.proofs.first_words.Reads as first-words-reads
 
 agree-requires : tie.Need-agree-requires
 agree-requires c κs = search needs

@@ -1,6 +1,6 @@
 -- `walk::gather` meets its contract.
 -- Assumes nothing.
-use Rattle.basics.proofs.Kit.{_≡_, ℕ, _+_, _-_, _%_, _≤_, _<_, arith, length}
+use Rattle.basics.proofs.Kit.{_≡_, _+_, _-_, _%_, _≤_, arith, length}
 use Rattle.walk.specs.Walk.{key-cost, Priced}
 use Rattle.walk.proofs.gather.Statement.{statement}
 use Rattle.walk.proofs.gather.Tie as tie

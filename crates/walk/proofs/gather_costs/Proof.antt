@@ -1,6 +1,6 @@
 -- `walk::gather_costs` meets its contract.
 -- Assumes nothing.
-use Rattle.basics.proofs.Kit.{_≡_, ℕ, _+_, _-_, _%_, _≤_, _<_, arith, length, getD}
+use Rattle.basics.proofs.Kit.{_≡_, _+_, _-_, _%_, _≤_, arith, length, getD}
 use Rattle.walk.specs.Walk.{Priced}
 use Rattle.walk.proofs.gather_costs.Statement.{statement}
 use Rattle.walk.proofs.gather_costs.Tie as tie

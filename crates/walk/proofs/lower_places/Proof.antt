@@ -1,8 +1,7 @@
 -- `walk::lower_places` meets its contract.
 -- Assumes nothing.
-use Rattle.basics.proofs.Kit.{_≡_, refl, _∙_, [], ℕ, _+_, _-_, _%_, _≤_, _<_, arith, needs, length}
+use Rattle.basics.proofs.Kit.{_≡_, refl, _∙_, [], _+_, _-_, _%_, _≤_, arith, needs, length}
 use Rattle.walk.specs.Walk.{Lowered}
-use Rattle.walk.specs.Turns.{Eights}
 use Rattle.walk.proofs.Leasts.{lowered-none}
 use Rattle.walk.proofs.lower_places.Statement.{statement}
 use Rattle.walk.proofs.lower_places.Tie as tie

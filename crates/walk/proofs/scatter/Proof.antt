@@ -1,6 +1,6 @@
 -- `walk::scatter` meets its contract.
 -- Assumes nothing.
-use Rattle.basics.proofs.Kit.{_≡_, sym, _∙_, _<_, arith, needs, length, getD}
+use Rattle.basics.proofs.Kit.{sym, _∙_, _<_, arith, needs, length}
 use lib.Seq.{length-take-le, getD-take, take-at}
 use Rattle.walk.proofs.Leasts.{others-same}
 use Rattle.walk.proofs.scatter.Statement.{statement}
