@@ -36,6 +36,14 @@ spot sl st i j = place sl st (i / 16) j + i % 16
 unfoldable pub total : (f sl st : List ℕ) → (i : ℕ) → ℕ
 total f sl st i = sum4 (λ j. getD f (spot sl st i j) 0)
 
+-- THE CHANGES: whether slot j is at another place at turn k + 1 than at turn k, and how many slots were so up to turn k
+abbrev pub change : (sl st : List ℕ) → (k j : ℕ) → ℕ
+change sl st k j = cond (eqb (place sl st (suc k) j) (place sl st k j)) 0 1
+
+unfoldable pub changes : (sl st : List ℕ) → (k : ℕ) → ℕ
+changes sl st zero = 0
+changes sl st (suc k) = changes sl st k + sum4 (change sl st k)
+
 -- the least of n turns, and the least of those tuples that have place p in slot j
 abbrev pub least-total : (cap : ℕ) → (f sl st : List ℕ) → (n : ℕ) → ℕ
 least-total cap f sl st n = leastOf (total f sl st) cap (n * 16)
@@ -54,6 +62,20 @@ pub record Slots (n : ℕ) (f sl st : List ℕ) : Type 0 where
   pub below : (k j : ℕ) → k < n → j < 4 → place sl st k j + 16 ≤ start sl (suc j)
   pub short : length f < 2 ^ 16
   pub room : (i : ℕ) → i < n * 16 → total f sl st i < 2 ^ 15
+
+-- how many slots change at a turn within a round: the third does where it takes part in the first step
+abbrev pub movers : (st : List ℕ) → ℕ
+movers st = cond (eqb (step st 0 2) 0) 2 3
+
+-- ROUNDS of 2^bits turns: within a round the first two or three slots change at every turn, by the same step, and the others stand still
+pub record Rounds (n round : ℕ) (st : List ℕ) : Type 0 where
+  pub bits : ℕ
+  pub few : bits ≤ 12
+  pub power : round ≡ 2 ^ bits
+  pub whole : n % round ≡ 0
+  pub changed : (b : ℕ) → b < bits → 0 < step st b 0
+  pub same : (b j : ℕ) → b < bits → j < movers st → step st b j ≡ step st b 0
+  pub still : (b j : ℕ) → b < bits → movers st ≤ j → j < 4 → step st b j ≡ 0
 
 -- g has the least total of each place
 abbrev pub Marginals : (n cap : ℕ) → (f sl st g : List ℕ) → Type 0
