@@ -14,8 +14,9 @@ use Rattle.metric.specs.Cost.{weight-of, top, Least-with}
 use Rattle.metric.proofs.Costs.{codeword-bits, decoded}
 use Rattle.metric.proofs.Bounds.{weight-le, cost-le}
 use Rattle.lanes.specs.Lanes.{entry}
+use Rattle.softs.specs.Softs.{Softs-within, Softened}
 use Rattle.search.specs.Within.{Input}
-use Rattle.decoding.specs.Within.{Best-word, Softs, Softs-within, Softened}
+use Rattle.decoding.specs.Within.{Best-word, Softs}
 
 module _ {s : Shape} {row : List ℤ} (z : Input s row) where
   pub row-60 : length row ≤ 60
@@ -33,7 +34,7 @@ module _ {s : Shape} {row : List ℤ} (z : Input s row) where
     length-zero = lz;
     length-one = lo;
     length-soft = ls;
-    small = λ i j li lj. let p = f i j li lj in (p .2, p .3);
+    small = λ i j li lj. let p = f i j li lj in (omega (arith, p .2), omega (arith, p .3));
   }
 
   pub decoding : {word : List ℕ} {least : ℕ} → Best-word s row word least → {za oa : List ℕ} → Softs s row za oa →

@@ -6,7 +6,8 @@ use native.Mathlib.Nat.{mul-le-mul-right}
 use Rattle.code.specs.declared.Shape.{Shape}
 use Rattle.lanes.specs.Lanes.{entry, lane}
 use Rattle.trellis.specs.Rows.{weave}
-use Rattle.walk.specs.Walk.{sum4, start, spot, total, least-at, key-cost, Marginals, Scattered}
+use Rattle.gather.specs.Gather.{key-cost, Scattered}
+use Rattle.walk.specs.Walk.{sum4, start, spot, total, least-at, Marginals}
 use Rattle.trellis.proofs.Least.{le-least, least-cap}
 use Rattle.lanes.proofs.Rows.{four}
 use Rattle.coset.specs.Coset.{none}

@@ -3,17 +3,16 @@ use mathlib.Core.Path.{_≡_}
 use mathlib.Core.Bool.{true}
 use mathlib.Core.List.{List}
 use Prim.Native.Nat.{ℕ, _+_, _*_, _<_, _≤_}
-use lib.ListN.{length, getD, take}
-use lib.IntN.{ℤ, pos, _-ℤ_}
-use Rattle.field.specs.Field.{width-good}
+use lib.ListN.{length, take}
+use lib.IntN.{ℤ}
 use Rattle.code.specs.declared.Shape.{Shape}
 use Rattle.code.specs.Code.{is-codeword}
 use Rattle.order.specs.Order.{not-after}
 use Rattle.metric.specs.Cost.{cost, Least, Least-with}
 use Rattle.metric.specs.Scratch.{scratch-long}
-use Rattle.lanes.specs.Lanes.{entry, lane}
-use Rattle.walk.specs.Walk.{start, key-cost, Marginals}
-use Rattle.walk.specs.Turns.{Scatter}
+use Rattle.lanes.specs.Lanes.{entry}
+use Rattle.gather.specs.Gather.{key-cost, Scatter}
+use Rattle.walk.specs.Walk.{start, Marginals}
 use Rattle.search.specs.Within.{cap, bound, slots-of, steps-of, turns-of, Input, Tabled, Laid}
 
 -- the least costs with a 0 and with a 1 at each bit
@@ -23,34 +22,6 @@ Softs s row zs os =
     Least-with (s .m) (is-codeword (s .m) (s .r)) row (i * s .m + j) 0 (entry zs i j)
     × Least-with (s .m) (is-codeword (s .m) (s .r)) row (i * s .m + j) 1 (entry os i j)
     × (entry zs i j < bound) × (entry os i j < bound)
-
--- soft output i * m + j from the least costs
-abbrev pub soft-of : (zero one : List ℕ) → (i j : ℕ) → ℤ
-soft-of zs os i j = pos (2 * entry os i j) -ℤ pos (2 * entry zs i j)
-
--- what `soft_rows` asks
-pub record Softs-within (m n : ℕ) (zero one : List ℕ) (soft : List ℤ) : Type 0 where
-  pub width : width-good m ≡ true
-  pub length-zero : length zero ≡ n * 4
-  pub length-one : length one ≡ n * 4
-  pub length-soft : length soft ≡ n * m
-  pub small : (i j : ℕ) → i < n → j < m → (entry zero i j < bound) × (entry one i j < bound)
-
--- the soft outputs of the first n positions are written
-pub record Softened (m : ℕ) (zero one : List ℕ) (n : ℕ) (before soft : List ℤ) : Type 0 where
-  pub long : length soft ≡ length before
-  pub done : (i j : ℕ) → i < n → j < m → getD soft (i * m + j) (pos 0) ≡ soft-of zero one i j
-
--- one position's soft outputs, from two rows, at a place
-pub record Soft-within (m at : ℕ) (z o : List ℕ) (soft : List ℤ) : Type 0 where
-  pub width : width-good m ≡ true
-  pub fits : at + m ≤ length soft
-  pub small : (j : ℕ) → j < m → (lane z j < bound) × (lane o j < bound)
-
-pub record Soft-written (m at : ℕ) (z o : List ℕ) (before soft : List ℤ) : Type 0 where
-  pub long : length soft ≡ length before
-  pub done : (j : ℕ) → j < m → getD soft (at + j) (pos 0) ≡ pos (2 * lane o j) -ℤ pos (2 * lane z j)
-  pub kept : (i : ℕ) → i < at → getD soft i (pos 0) ≡ getD before i (pos 0)
 
 -- room for the tables and the places of the walk, and for their costs, marginals and tables by turns
 pub record Rooms (s : Shape) (t places f g : List ℕ) : Type 0 where

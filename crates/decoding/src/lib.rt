@@ -3,62 +3,18 @@
 use code::Shape;
 use search::Best;
 ghost use mathlib.Core.Path.{_≡_};
-ghost use mathlib.Core.Bool.{true};
-ghost use Prim.Native.Nat.{_+_, _*_, _^_, _<_, _≤_};
+ghost use Prim.Native.Nat.{_*_, _≤_};
 ghost use lib.ListN.{length, take};
-ghost use lib.IntN.{pos, _-ℤ_};
 ghost use Rattle.code.specs.Code.{is-codeword};
 ghost use Rattle.code.specs.Within.{Coded};
 ghost use Rattle.metric.specs.Metric.{Decoded};
 ghost use Rattle.tails.specs.Tails.{columns};
-ghost use Rattle.walk.specs.Walk.{key-cost, Marginals, Scattered};
+ghost use Rattle.gather.specs.Gather.{key-cost, Scattered};
+ghost use Rattle.walk.specs.Walk.{Marginals};
 ghost use Rattle.pass.specs.Pass.{Pass, Passed};
-ghost use Rattle.search.specs.Within.{cap, bound, Input, Roomy, Tabled, Cheap, Walked, Laid, slots-of, steps-of, turns-of};
-ghost use Rattle.decoding.specs.Within.{Soft-within, Soft-written, Softs-within, Softened, Softs, Tables-room, Rooms, Others-room, Found, Soften-room, Outputs, Accepted};
-
-// a less b.
-fn minus(a: u32, b: u32) -> i32
-    requires { ⌜ (a < 2 ^ 31) × (b < 2 ^ 31) ⌝ }
-    ensures { λ r. ⌜ r ≡ pos a -ℤ pos b ⌝ }
-{
-    (a as i32) - (b as i32)
-}
-
-// A soft output: twice the least cost with a 1 less twice that with a 0.
-fn soft_from(zero: u16, one: u16) -> i16
-    requires { ⌜ (zero < bound) × (one < bound) ⌝ }
-    ensures { λ r. ⌜ r ≡ pos (2 * one) -ℤ pos (2 * zero) ⌝ }
-{
-    minus(2 * (one as u32), 2 * (zero as u32)) as i16
-}
-
-// One position's soft outputs.
-fn soft_row(m: u32, z: [u16; 4], o: [u16; 4], at: usize, soft: &mut [i16])
-    requires { ⌜ Soft-within m at z o (now soft) ⌝ }
-    ensures { λ _. ⌜ Soft-written m at z o (now (soft .entry)) (now (soft .exit)) ⌝ }
-{
-    soft[at + 0] = soft_from(z[0], o[0]);
-    soft[at + 1] = soft_from(z[1], o[1]);
-    soft[at + 2] = soft_from(z[2], o[2]);
-    if m == 4 {
-        soft[at + 3] = soft_from(z[3], o[3]);
-    }
-}
-
-// All soft outputs.
-fn soft_rows(m: u32, n: usize, zero: &[u16], one: &[u16], soft: &mut [i16])
-    requires { ⌜ Softs-within m n (now zero) (now one) (now soft) ⌝ }
-    ensures { λ _. ⌜ Softened m (now (zero .entry)) (now (one .entry)) n (now (soft .entry)) (now (soft .exit)) ⌝ }
-{
-    let w = m as usize;
-    let mut i = 0;
-    let mut at = 0;
-    while i < n {
-        soft_row(m, lanes::load(zero, i), lanes::load(one, i), at, soft);
-        at += w;
-        i += 1;
-    }
-}
+ghost use Rattle.softs.specs.Softs.{Softened};
+ghost use Rattle.search.specs.Within.{cap, Input, Roomy, Tabled, Cheap, Walked, Laid, slots-of, steps-of, turns-of};
+ghost use Rattle.decoding.specs.Within.{Softs, Tables-room, Rooms, Others-room, Found, Soften-room, Outputs, Accepted};
 
 // The tables of a row. The tails take their turn in the first part of g.
 fn tabulate(
@@ -97,7 +53,7 @@ fn others(states: usize, places: &[u16], f: &mut [u16], g: &mut [u16])
     ensures { λ _. ⌜ Scattered cap (take (length (now (places .entry))) (now (f .entry))) (take (length (now (places .entry))) (now (g .entry))) (now (places .entry)) (take states (now (f .exit))) ⌝ }
 {
     let count = places.len();
-    walk::scatter(f, &mut g[..count], places, states, search::CAP);
+    gather::scatter(f, &mut g[..count], places, states, search::CAP);
 }
 
 // The soft pass, over the first part of f. The tables behind the columns take their turn in the first part of g.
@@ -186,7 +142,7 @@ fn soften(
 {
     others(shape.size * 4, places, f, g);
     soft_costs(shape, hs, zs, os, f, g, scratch, zero, one);
-    soft_rows(shape.m, shape.n, zero, one, soft);
+    softs::soft_rows(shape.m, shape.n, zero, one, soft);
 }
 
 // A decoding, with every buffer lent. Marginals, tails and the tables behind the columns take turns in g; the costs of the places and what the others cost
@@ -229,7 +185,7 @@ fn decode_with(
         one,
         soft,
     );
-    minus(search::weight(row), 2 * (least as u32))
+    softs::minus(search::weight(row), 2 * (least as u32))
 }
 
 // With the rooms for tables and places lent, which may be longer than the code needs.

@@ -19,7 +19,8 @@ use Rattle.trellis.proofs.Least.{least-le}
 use Rattle.lanes.specs.Lanes.{entry, lane, lanes}
 use Rattle.lanes.proofs.Rows.{lanes-at}
 use Rattle.coset.specs.Coset.{none, first}
-use Rattle.walk.specs.Walk.{sum4, spot, least-total, key-cost}
+use Rattle.gather.specs.Gather.{key-cost}
+use Rattle.walk.specs.Walk.{sum4, spot, least-total}
 use Rattle.ties.specs.Ties.{spaced, number-of, word-at}
 use Rattle.bridge.proofs.Engine.{over}
 use Rattle.bridge.proofs.Bridge.{free-two}

@@ -13,8 +13,8 @@ use Rattle.spots.proofs.Walks.{walks, no-steps}
 use Rattle.trellis.proofs.Least.{least-le, least-found, least-cap, le-least}
 use Rattle.lanes.specs.Lanes.{lane}
 use Rattle.lanes.proofs.Rows.{four, lanes-at}
-use Rattle.walk.specs.Walk.{start, spot, total, least-total, Slots, Marginals, key-cost}
-use Rattle.walk.specs.Turns.{Eights}
+use Rattle.gather.specs.Gather.{key-cost, Sixteens}
+use Rattle.walk.specs.Walk.{start, spot, total, least-total, Slots, Marginals}
 use Rattle.ties.specs.Ties.{spaced, number-of, words, First-tied, word-at, Agree}
 use Rattle.search.specs.Within.{cap, Laid, Ties, First-words, Cheap, Walked, slots-of, steps-of, turns-of, words-of}
 
@@ -49,9 +49,9 @@ module _ {s : Shape} (z : Coded s) where
     pub from-none : P sl (replicate 48 0) 1 → P (slots-of s) (steps-of s) (turns-of s)
     from-none h = subst (P (slots-of s) (steps-of s)) (sym one) (subst (λ (x : List ℕ). P (slots-of s) x 1) none (subst (λ (x : List ℕ). P x (replicate 48 0) 1) e h))
 
-  -- its places are taken eight at a time
-  pub eights : {places : List ℕ} {n : ℕ} → Placed (s .m) (s .r) (s .size) places → n ≡ s .size * 4 → Eights n places
-  eights p e = record { eights = rw (p .long) (w .eights); inside = λ i h. omega (arith, p .inside i h) }
+  -- its places are taken sixteen at a time
+  pub sixteens : {places : List ℕ} {n : ℕ} → Placed (s .m) (s .r) (s .size) places → n ≡ s .size * 4 → Sixteens n places
+  sixteens p e = record { sixteens = rw (p .long) (w .sixteens); inside = λ i h. omega (arith, p .inside i h) }
 
   turn : (i : ℕ) → i < turns-of s * 16 → i / 16 < turns-of s
   turn i h = omega arith

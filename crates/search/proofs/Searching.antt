@@ -23,7 +23,8 @@ use Rattle.trellis.proofs.Least.{least-same, least-le, least-found}
 use Rattle.lanes.specs.Lanes.{entry}
 use Rattle.lanes.proofs.Rows.{four}
 use Rattle.coset.specs.Coset.{none, least, Keys}
-use Rattle.walk.specs.Walk.{start, spot, total, least-total, least-at, Slots, Marginals, key-cost, Scattered}
+use Rattle.gather.specs.Gather.{key-cost, Scattered}
+use Rattle.walk.specs.Walk.{start, spot, total, least-total, least-at, Slots, Marginals}
 use Rattle.bridge.specs.Bridge.{Setting}
 use Rattle.bridge.proofs.Engine.{over, Others, part-le}
 use Rattle.bridge.proofs.Bridge.{table}

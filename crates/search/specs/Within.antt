@@ -18,7 +18,8 @@ use Rattle.trellis.specs.Trellis.{pick}
 use Rattle.lanes.specs.Lanes.{entry, lane, lanes}
 use Rattle.tails.specs.Tails.{columns, turns}
 use Rattle.coset.specs.Coset.{least, Layers, Keys, Kept}
-use Rattle.walk.specs.Walk.{sum4, start, spot, least-total, key-cost, Gathered, Marginals}
+use Rattle.gather.specs.Gather.{key-cost, Gathered}
+use Rattle.walk.specs.Walk.{sum4, start, spot, least-total, Marginals}
 use Rattle.ties.specs.Ties.{Costs, number-of, word-at}
 use Rattle.spots.specs.Spots.{slots, all-steps, Placed}
 use Rattle.bridge.specs.Bridge.{reliability, Costed}

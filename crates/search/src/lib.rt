@@ -18,7 +18,8 @@ ghost use Rattle.trellis.specs.Trellis.{pick};
 ghost use Rattle.trellis.specs.Rows.{symbol, weave};
 ghost use Rattle.tails.specs.Tails.{columns};
 ghost use Rattle.coset.specs.Coset.{Costs};
-ghost use Rattle.walk.specs.Walk.{sum4, start, least-total, Slots, Marginals, key-cost};
+ghost use Rattle.gather.specs.Gather.{key-cost};
+ghost use Rattle.walk.specs.Walk.{sum4, start, least-total, Slots, Marginals};
 ghost use Rattle.bridge.specs.Bridge.{reliability, Costed};
 ghost use Rattle.spots.specs.Spots.{Placed};
 ghost use Rattle.ties.specs.Ties.{Agree};
@@ -106,7 +107,7 @@ fn cost_wide(m: u32, n: usize, row: &[i16], zs: &mut [u32], os: &mut [u32])
 }
 
 // The costs of a row, four layers to a position. At each place they are found without regard to positions, several at a time; with m = 4 the row has four
-// places to a position as it is.
+// places to a position as it is. Else m is 3, and is said so: the compiler then knows the width.
 fn cost_rows(m: u32, n: usize, row: &[i16], zs: &mut [u32], os: &mut [u32])
     requires { ⌜ Costs-within m n (now row) (now zs) (now os) ⌝ }
     ensures { λ _. ⌜ Costed m n (now (row .entry)) (now (zs .exit)) (now (os .exit)) ⌝ }
@@ -114,7 +115,7 @@ fn cost_rows(m: u32, n: usize, row: &[i16], zs: &mut [u32], os: &mut [u32])
     if m == 4 {
         costs(row, zs, os);
     } else {
-        cost_wide(m, n, row, zs, os);
+        cost_wide(3, n, row, zs, os);
     }
 }
 
@@ -165,7 +166,7 @@ fn lay(shape: Shape, t: &[u32], places: &mut [u16], f: &mut [u16])
     ensures { λ _. ⌜ Laid shape (key-cost (now (t .entry))) (now (places .exit)) (now (f .exit)) ⌝ }
 {
     spots::fill(shape.m, shape.r, shape.size, places);
-    walk::gather(t, places, f);
+    gather::gather(t, places, f);
 }
 
 // The same by a table of costs.
@@ -175,7 +176,7 @@ fn lay_costs(shape: Shape, g: &[u16], places: &mut [u16], f: &mut [u16])
     ensures { λ _. ⌜ Laid shape (λ x. getD (now (g .entry)) x 0) (now (places .exit)) (now (f .exit)) ⌝ }
 {
     spots::fill(shape.m, shape.r, shape.size, places);
-    walk::gather_costs(g, places, f);
+    gather::gather_costs(g, places, f);
 }
 
 // The least that a tuple costs, and the words of the first codeword that costs it.
@@ -191,7 +192,7 @@ fn walk_all(shape: Shape, f: &[u16], g: &mut [u16]) -> u16
     ensures { λ r. ⌜ r ≡ least-total cap (now (f .entry)) (slots-of shape) (steps-of shape) (turns-of shape) ⌝ }
     ensures { λ _. ⌜ Marginals (turns-of shape) cap (now (f .entry)) (slots-of shape) (steps-of shape) (now (g .exit)) ⌝ }
 {
-    walk::reset(g, CAP);
+    gather::reset(g, CAP);
     let sl = spots::slots(shape.m, shape.r);
     let n = spots::turns(shape.m, shape.r);
     if n == 1 {

@@ -46,9 +46,9 @@ module _ (m r : ℕ) (a : accepted m r ≡ true) where
   unfolding slots slots-from room-from slot-bits place-columns
   places-count = leb→le (start (slots m r) 4) 4096 (tested (λ m r. leb (start (slots m r) 4) 4096) tt m r a)
 
-  pub places-even : start (slots m r) 4 % 8 ≡ 0
+  pub places-sixteens : start (slots m r) 4 % 16 ≡ 0
   unfolding slots slots-from room-from slot-bits place-columns
-  places-even = eqb→eq (start (slots m r) 4 % 8) 0 (tested (λ m r. eqb (start (slots m r) 4 % 8) 0) tt m r a)
+  places-sixteens = eqb→eq (start (slots m r) 4 % 16) 0 (tested (λ m r. eqb (start (slots m r) 4 % 16) 0) tt m r a)
 
   pub columns-count : length (all-place-columns m r) ≡ 40
   unfolding all-place-columns ten-columns place-columns

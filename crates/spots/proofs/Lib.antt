@@ -3,4 +3,5 @@ pub mod Filled
 pub mod Data
 pub mod Entries
 pub mod Walks
+pub mod Rounds
 pub mod Short

@@ -18,7 +18,7 @@ use Rattle.spots.proofs.Data as D
 use Rattle.spots.proofs.Entries.{picked-lt, apart}
 
 -- steps that are 0 change nothing
-getD-zeros : (xs : List ℕ) (n k : ℕ) → getD (xs ++ replicate n 0) k 0 ≡ getD xs k 0
+pub getD-zeros : (xs : List ℕ) (n k : ℕ) → getD (xs ++ replicate n 0) k 0 ≡ getD xs k 0
 getD-zeros [] zero k = refl
 getD-zeros [] (suc n) zero = refl
 getD-zeros [] (suc n) (suc k) = getD-zeros [] n k
@@ -79,7 +79,7 @@ walks m r a = record {
   slots-long = refl;
   steps-long = D.steps-count m r a;
   short = D.places-count m r a;
-  eights = D.places-even m r a;
+  sixteens = D.places-sixteens m r a;
   above = λ k j lk h. omega (arith, place-off m r a j h k);
   below = λ k j lk h. omega (arith, place-off m r a j h k, fits m r a j h k, apart m r a j h, pow-mono (D.bits-room m r a j h));
 }

@@ -7,7 +7,7 @@ ghost use lib.ListN.{length, getD, take};
 ghost use Rattle.code.specs.Code.{accepted, long, syndrome-long};
 ghost use Rattle.tails.specs.Tails.{columns, turns};
 ghost use Rattle.walk.specs.Walk.{start};
-ghost use Rattle.spots.specs.Spots.{slots, all-steps, Placed};
+ghost use Rattle.spots.specs.Spots.{slots, all-steps, round, Placed};
 ghost use Rattle.spots.specs.Filling.{all-place-columns, Doubles, Doubled, Slot, Begun, Slot-filled, Slots, Slots-filled, packed, nine-columns, short-column, eight-twice, short-places};
 
 mod tables;
@@ -55,10 +55,10 @@ pub fn slots(m: u32, r: u32) -> [u16; 5]
 {
     if m == 3 {
         if r == 3 {
-            return [0, 128, 256, 384, 400];
+            return [0, 128, 256, 320, 336];
         }
         if r % 3 == 1 {
-            return [0, 64, 128, 192, 208];
+            return [0, 64, 128, 144, 160];
         }
         return [0, 16, 32, 48, 64];
     }
@@ -123,6 +123,29 @@ pub fn turns(m: u32, r: u32) -> usize
     4096
 }
 
+// How many turns a round of it has.
+pub fn round(m: u32, r: u32) -> usize
+    requires { ⌜ accepted m r ≡ true ⌝ }
+    ensures { λ x. ⌜ x ≡ round m r ⌝ }
+{
+    if m == 3 {
+        if r == 3 {
+            return 8;
+        }
+        if r % 3 == 1 {
+            return 4;
+        }
+        return 1;
+    }
+    if r == 2 {
+        return 4;
+    }
+    if r == 6 {
+        return 64;
+    }
+    16
+}
+
 // The cosets of the places' bits, ten to a slot, where the walk has more than one turn.
 fn place_columns(m: u32, r: u32) -> [u16; 40]
     requires { ⌜ (accepted m r ≡ true) × (1 < turns m r) ⌝ }
@@ -137,13 +160,14 @@ fn place_columns(m: u32, r: u32) -> [u16; 40]
         }
         return tables::PLACES_3_4;
     }
-    if r == 1 {
+    // by < and not by ==: the compiler makes shorter code of it
+    if r < 2 {
         return tables::PLACES_4_1;
     }
-    if r == 2 {
+    if r < 3 {
         return tables::PLACES_4_2;
     }
-    if r == 4 {
+    if r < 5 {
         return tables::PLACES_4_4;
     }
     tables::PLACES_4_6

@@ -1,3 +1,5 @@
 pub mod Rows
-pub mod Leasts
+pub mod Shifts
 pub mod Turns
+pub mod Blocks
+pub mod Rounds

@@ -6,7 +6,6 @@ use native.Mathlib.Decide.{decLe}
 use lib.ListN.{length-set}
 use lib.Seq.{getD-set-same, getD-set-other}
 use Rattle.lanes.specs.Lanes.{lane, limit}
-use Rattle.walk.specs.Walk.{Priced}
 use Rattle.walk.specs.Turns.{Each, Small, fill, low, lows}
 
 -- the first x of n numbers are those of F
@@ -29,13 +28,6 @@ made-more {n} {F} {x} {r} {v} m l e = record { within = omega arith; long = leng
 
 pub made-end : {n : ℕ} {F : ℕ → ℕ} {x : ℕ} {r : List ℕ} → Made n F x r → n ≤ x → Each n (λ y. getD r y 0 ≡ F y)
 made-end m l y ly = m .done y (omega arith)
-
--- what one place more costs
-pub priced-more : {cost : ℕ → ℕ} {places f : List ℕ} {n v : ℕ} → Priced cost places n f → n < length places → v ≡ cost (getD places n 0) → Priced cost places (n + 1) (set f n v)
-priced-more {cost} {places} {f} {n} {v} m l e =
-    let u : Made (length places) (λ y. cost (getD places y 0)) n f = record { within = omega arith; long = m .long; done = m .costs } in
-    let r = made-more u l e in
-    record { long = r .long; costs = r .done }
 
 -- a run of numbers written from place p on
 module _ (g : List ℕ) (p : ℕ) (v : ℕ → ℕ) where
@@ -116,41 +108,46 @@ module _ (g : List ℕ) (p : ℕ) (t : List ℕ) where
       go (no a) b = rw (low-other c (λ h i. omega arith)) (s c (omega (arith, low-length)))
       go (yes a) (yes b) = rw (low-other c (λ h i. omega arith)) (s c (omega (arith, low-length)))
 
--- the rows at the first n of the places a lowered
-module _ (g a t : List ℕ) where
-  pub lows-length : (n : ℕ) → length (lows g a t n) ≡ length g
+-- the rows at n of the places a lowered, from place i of them on
+module _ (g a t : List ℕ) (i : ℕ) where
+  pub lows-length : (n : ℕ) → length (lows g a t i n) ≡ length g
   unfolding lows
   lows-length zero = refl
-  lows-length (suc n) = low-length (lows g a t n) (lane a n) t ∙ lows-length n
+  lows-length (suc n) = low-length (lows g a t i n) (lane a (i + n)) t ∙ lows-length n
 
   -- where no row is
-  pub lows-other : (n c : ℕ) → Each n (λ j. lane a j ≤ c → c < lane a j + 16 → ⊥) → getD (lows g a t n) c 0 ≡ getD g c 0
+  pub lows-other : (n c : ℕ) → Each n (λ j. lane a (i + j) ≤ c → c < lane a (i + j) + 16 → ⊥) → getD (lows g a t i n) c 0 ≡ getD g c 0
   unfolding lows
   lows-other zero c h = refl
-  lows-other (suc n) c h = low-other (lows g a t n) (lane a n) t c (h n (omega arith)) ∙ lows-other n c (λ j l. h j (omega arith))
+  lows-other (suc n) c h = low-other (lows g a t i n) (lane a (i + n)) t c (h n (omega arith)) ∙ lows-other n c (λ j l. h j (omega arith))
 
   -- in the row at place j, where no other row is
-  pub lows-at : (n j x : ℕ) → j < n → x < 16 → lane a j + 16 ≤ length g → Each n (λ i. (i ≡ j → ⊥) → lane a i ≤ lane a j + x → lane a j + x < lane a i + 16 → ⊥) →
-      getD (lows g a t n) (lane a j + x) 0 ≡ min (getD g (lane a j + x) 0) (lane t x)
+  pub lows-at : (n j x : ℕ) → j < n → x < 16 → lane a (i + j) + 16 ≤ length g →
+      Each n (λ h. (h ≡ j → ⊥) → lane a (i + h) ≤ lane a (i + j) + x → lane a (i + j) + x < lane a (i + h) + 16 → ⊥) →
+      getD (lows g a t i n) (lane a (i + j) + x) 0 ≡ min (getD g (lane a (i + j) + x) 0) (lane t x)
   unfolding lows
   lows-at zero j x lj lx l h = absurd (omega arith)
-  lows-at (suc n) j x lj lx l h = go (decLe n j) (λ b. lows-at n j x b lx l (λ i li. h i (omega arith)))
+  lows-at (suc n) j x lj lx l h = go (decLe n j) (λ b. lows-at n j x b lx l (λ y ly. h y (omega arith)))
     where
-      go : Dec (n ≤ j) → (j < n → getD (lows g a t n) (lane a j + x) 0 ≡ min (getD g (lane a j + x) 0) (lane t x)) →
-          getD (low (lows g a t n) (lane a n) t) (lane a j + x) 0 ≡ min (getD g (lane a j + x) 0) (lane t x)
+      go : Dec (n ≤ j) → (j < n → getD (lows g a t i n) (lane a (i + j) + x) 0 ≡ min (getD g (lane a (i + j) + x) 0) (lane t x)) →
+          getD (low (lows g a t i n) (lane a (i + n)) t) (lane a (i + j) + x) 0 ≡ min (getD g (lane a (i + j) + x) 0) (lane t x)
       go (yes b) ih =
           let e : j ≡ n = omega arith in
-          let same : getD (lows g a t n) (lane a n + x) 0 ≡ getD g (lane a n + x) 0 = lows-other n (lane a n + x) (λ i li c d. h i (omega arith) (λ z. omega arith) (rw e c) (rw e d)) in
-          rw e (low-at (lows g a t n) (lane a n) t x (rw (lows-length n, ← e) l) lx ∙ ap (λ (y : ℕ). min y (lane t x)) same)
-      go (no b) ih = low-other (lows g a t n) (lane a n) t (lane a j + x) (h n (omega arith) (λ e. omega arith)) ∙ ih (omega arith)
+          let same : getD (lows g a t i n) (lane a (i + n) + x) 0 ≡ getD g (lane a (i + n) + x) 0 = lows-other n (lane a (i + n) + x) (λ y ly c d. h y (omega arith) (λ z. omega arith) (rw e c) (rw e d)) in
+          rw e (low-at (lows g a t i n) (lane a (i + n)) t x (rw (lows-length n, ← e) l) lx ∙ ap (λ (y : ℕ). min y (lane t x)) same)
+      go (no b) ih = low-other (lows g a t i n) (lane a (i + n)) t (lane a (i + j) + x) (h n (omega arith) (λ e. omega arith)) ∙ ih (omega arith)
 
   module _ (l : Each 4 (λ j. lane a j + 16 ≤ length g)) (s : Small g) (k : Each 16 (λ x. lane t x < limit)) where
-    pub lows-small : (n : ℕ) → n ≤ 4 → Small (lows g a t n)
+    pub lows-small : (n : ℕ) → i + n ≤ 4 → Small (lows g a t i n)
     unfolding lows
     lows-small zero h = s
-    lows-small (suc n) h = low-small (lows g a t n) (lane a n) t (rw (lows-length n) (l n (omega arith))) (lows-small n (omega arith)) k
+    lows-small (suc n) h = low-small (lows g a t i n) (lane a (i + n)) t (rw (lows-length n) (l (i + n) (omega arith))) (lows-small n (omega arith)) k
+
+    -- what one row more asks
+    pub asks : (n : ℕ) → i + n < 4 → (h : List ℕ) → h ≡ lows g a t i n → (lane a (i + n) + 16 ≤ length h) × (Small h × Each 16 (λ x. lane t x < limit))
+    asks n l4 h e = rw e (rw (lows-length n) (l (i + n) l4), (lows-small n (omega arith), k))
 
 -- the same where marginals are asked for, and else none
-pub marked-length : (g a t : List ℕ) (soft : Bool) {h : List ℕ} → h ≡ cond soft (lows g a t 4) g → length h ≡ length g
-marked-length g a t true e = rw e (lows-length g a t 4)
-marked-length g a t false e = rw e refl
+pub marked-length : (g a t : List ℕ) (i n : ℕ) (soft : Bool) {h : List ℕ} → h ≡ cond soft (lows g a t i n) g → length h ≡ length g
+marked-length g a t i n true e = rw e (lows-length g a t i n)
+marked-length g a t i n false e = rw e refl

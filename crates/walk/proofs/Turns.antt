@@ -1,20 +1,15 @@
--- The turns of the walk: which bit changes, where the rows lie, and what the first k turns leave.
+-- The turns of the walk: which bit changes, where the rows lie, and that the total and the count are kept from turn to turn.
 -- Assumes nothing.
-use Rattle.basics.proofs.Kit.{_≡_, refl, sym, ap, ap₂, _∙_, Bool, true, false, cond, List, ℕ, zero, suc, _+_, _-_, _*_, _/_, _%_, _^_, _≤_, _<_, min, arith, length, getD, eqb}
-use mathlib.Core.Bool.{false≢true}
-use native.Mathlib.Nat.{pow-suc}
-use native.Mathlib.Numerals.{add-one}
+use Rattle.basics.proofs.Kit.{_≡_, refl, sym, ap, _∙_, Bool, true, false, cond, List, [], _∷_, ℕ, zero, suc, _+_, _-_, _*_, _/_, _%_, _^_, _≤_, _<_, arith, length, getD, eqb}
+use native.Mathlib.Nat.{pow-suc, mul-assoc}
 use native.Mathlib.Decide.{decLe, ℕ-discrete}
-use borrow.Author.Tests.{eq-eqb, ne-eqb}
+use lib.Bits.{bitXor}
 use lib.Count.{trailingZeros, under}
-use lib.ListN.{replicate, getD-replicate}
 use Rattle.lanes.specs.Lanes.{lane, limit}
-use Rattle.trellis.specs.Trellis.{leastOf}
-use Rattle.trellis.proofs.Least.{least-cap, least-same}
-use Rattle.walk.specs.Walk.{start, changed-bit, place, spot, total, least-total, Slots, Marginals}
-use Rattle.walk.specs.Turns.{Each, Small, moved, row-sum, lows, Blank}
-use Rattle.walk.proofs.Rows.{lows-length, lows-other, lows-at, lows-small}
-use Rattle.walk.proofs.Leasts.{lane-least, lanes-flat, least-none, least-one}
+use Rattle.walk.specs.declared.At.{At}
+use Rattle.walk.specs.Walk.{sum4, start, step, changed-bit, place, spot, total, change, changes, movers, Slots, Rounds}
+use Rattle.walk.specs.Turns.{Each, Row, row-sum, to, Standing, Movable, Moved, Together, Begins}
+use Rattle.walk.proofs.Shifts.{at-most-one}
 
 -- the bit that changes is one of the first d
 tz-below : (k d n : ℕ) → 0 < n → n < 2 ^ d → d ≤ k → trailingZeros k n < d
@@ -29,17 +24,24 @@ tz-below (suc k) (suc d) n a b l = go (n % 2) refl (λ h i. tz-below k d (n / 2)
         omega (arith, h (omega arith) s)
     go (suc r) e h = omega arith
 
--- the place of slot j at turn k, from the turn before it
-pub place-moved : (sl st : List ℕ) (k j : ℕ) → place sl st k j ≡ moved st k j (place sl st (k - 1) j)
-unfolding place
-place-moved sl st zero j = refl
-place-moved sl st (suc k) j =
-    let e : suc k - 1 ≡ k = omega arith in
-    rw (ne-eqb (suc k) 0 (λ z. omega arith), e) refl
+-- and where the turn does not begin a round of 2^d turns
+tz-within : (k d c z : ℕ) → 0 < z → z < 2 ^ d → d ≤ k → trailingZeros k (c * 2 ^ d + z) < d
+unfolding trailingZeros
+tz-within k zero c z a b l = absurd (omega arith)
+tz-within zero (suc d) c z a b l = absurd (omega arith)
+tz-within (suc k) (suc d) c z a b l = go (n % 2) refl (λ h i. tz-within k d c (z / 2) h i (omega arith))
+  where
+    n : ℕ
+    n = c * 2 ^ suc d + z
 
--- the walk stands at the places of turn k
-pub record Standing (sl st : List ℕ) (k : ℕ) (a : List ℕ) : Type 0 where
-  pub at : Each 4 (λ j. lane a j ≡ place sl st k j)
+    twice : c * 2 ^ suc d ≡ c * 2 ^ d * 2
+    twice = ap (λ (x : ℕ). c * x) (pow-suc 2 d) ∙ sym (mul-assoc c (2 ^ d) 2)
+
+    go : (r : ℕ) → n % 2 ≡ r → (0 < z / 2 → z / 2 < 2 ^ d → trailingZeros k (c * 2 ^ d + z / 2) < d) → under r (trailingZeros k (n / 2)) < suc d
+    go zero e h =
+        let half : n / 2 ≡ c * 2 ^ d + z / 2 = omega (arith, twice) in
+        rw half (omega (arith, h (omega (arith, twice)) (omega (arith, pow-suc 2 d))))
+    go (suc r) e h = omega arith
 
 -- tuple x of turn k: its places, and what it costs
 module _ (sl st : List ℕ) (k x : ℕ) (lx : x < 16) where
@@ -52,50 +54,92 @@ module _ (sl st : List ℕ) (k x : ℕ) (lx : x < 16) where
   pub spot-at : (j : ℕ) → spot sl st (k * 16 + x) j ≡ place sl st k j + x
   spot-at j = rw (turn-of, lane-of) refl
 
-  pub total-at : (f a : List ℕ) → Standing sl st k a → row-sum f a x ≡ total f sl st (k * 16 + x)
+  pub total-at : (f : List ℕ) → sum4 (λ j. getD f (place sl st k j + x) 0) ≡ total f sl st (k * 16 + x)
   unfolding total
-  total-at f a s = rw (turn-of, lane-of, s .at 0 (omega arith), s .at 1 (omega arith), s .at 2 (omega arith), s .at 3 (omega arith)) refl
+  total-at f = rw (turn-of, lane-of) refl
 
--- the marginals of the first k turns
-pub record Marked (cap : ℕ) (f sl st : List ℕ) (k : ℕ) (g : List ℕ) : Type 0 where
-  pub long : length g ≡ length f
-  pub small : Small g
-  pub entries : Marginals k cap f sl st g
-
--- what the first k turns leave
-pub record Walking (soft : Bool) (cap : ℕ) (f sl st : List ℕ) (k : ℕ) (g a m : List ℕ) : Type 0 where
-  pub standing : Standing sl st (k - 1) a
-  pub lanes : Each 16 (λ x. lane m x ≡ lane-least (total f sl st) cap k x)
-  pub marks : soft ≡ true → Marked cap f sl st k g
-
--- the places of turn 0, and those of turn k from those of the turn before it
-pub stands-first : {sl st a : List ℕ} → Each 4 (λ j. lane a j ≡ start sl j) → Standing sl st 0 a
+-- a slot's place at a turn, from that at the turn before
+place-to : (sl st : List ℕ) (k j p : ℕ) → 0 < k → p ≡ place sl st (k - 1) j → to st k j p ≡ place sl st k j
 unfolding place
-stands-first e = record { at = e }
+place-to sl st zero j p l e = absurd (omega arith)
+place-to sl st (suc k) j p l e = let z : suc k - 1 ≡ k = omega arith in ap (λ (q : ℕ). bitXor q (step st (changed-bit (suc k)) j)) (e ∙ ap (λ (i : ℕ). place sl st i j) z)
 
-pub stands : {sl st : List ℕ} {k : ℕ} {a : List ℕ} → Standing sl st (k - 1) a → (b : List ℕ) → Each 4 (λ j. lane b j ≡ moved st k j (lane a j)) → Standing sl st k b
-stands {sl} {st} {k} s b e = record { at = λ j lj. e j lj ∙ ap (moved st k j) (s .at j lj) ∙ sym (place-moved sl st k j) }
+-- turn 0, of any steps
+pub begun : (f sl r0 r1 r2 r3 t : List ℕ) → Row f (start sl 0) r0 → Row f (start sl 1) r1 → Row f (start sl 2) r2 → Row f (start sl 3) r3 →
+    Each 16 (λ x. lane t x ≡ lane r0 x + lane r1 x + lane r2 x + lane r3 x) → (st : List ℕ) →
+    Standing f sl st 0 (record { places = start sl 0 ∷ start sl 1 ∷ start sl 2 ∷ start sl 3 ∷ []; r0 = r0; r1 = r1; r2 = r2; r3 = r3; total = t; adjusted = 0 })
+unfolding place changes
+begun f sl r0 r1 r2 r3 t h0 h1 h2 h3 h st =
+    let sums : Each 16 (λ x. lane t x ≡ getD f (start sl 0 + x) 0 + getD f (start sl 1 + x) 0 + getD f (start sl 2 + x) 0 + getD f (start sl 3 + x) 0) = λ x lx. omega (arith, h x lx, h0 x lx, h1 x lx, h2 x lx, h3 x lx) in
+    record {
+      at = at;
+      summed = record { row0 = h0; row1 = h1; row2 = h2; row3 = h3; lanes = sums };
+      lanes = λ x lx. sums x lx ∙ total-at sl st 0 x lx f;
+      count = refl;
+    }
+  where
+    at : (j : ℕ) → j < 4 → lane (start sl 0 ∷ start sl 1 ∷ start sl 2 ∷ start sl 3 ∷ []) j ≡ place sl st 0 j
+    at zero l = refl
+    at (suc zero) l = refl
+    at (suc (suc zero)) l = refl
+    at (suc (suc (suc zero))) l = refl
+    at (suc (suc (suc (suc j)))) l = absurd (omega arith)
 
--- the lanes' least may be compared, and the least of them is the least total
-pub lanes-small : {soft : Bool} {cap : ℕ} {f sl st : List ℕ} {k : ℕ} {g a m : List ℕ} → Walking soft cap f sl st k g a m → cap < limit → Each 16 (λ x. lane m x < limit)
-lanes-small {soft} {cap} {f} {sl} {st} {k} v small x lx = omega (arith, v .lanes x lx, least-cap (λ i. total f sl st (i * 16 + x)) cap k)
+pub any-steps : {f sl : List ℕ} {a : At} → Standing f sl [] 0 a → (st : List ℕ) → Standing f sl st 0 a
+unfolding place changes
+any-steps {f} {sl} s st = record { at = s .at; summed = s .summed; lanes = λ x lx. s .lanes x lx ∙ sym (total-at sl [] 0 x lx f) ∙ total-at sl st 0 x lx f; count = s .count }
 
-pub walking-end : {soft : Bool} {cap : ℕ} {f sl st : List ℕ} {n : ℕ} {g a m : List ℕ} → Walking soft cap f sl st n g a m → leastOf (lane m) cap 16 ≡ least-total cap f sl st n
-walking-end {soft} {cap} {f} {sl} {st} {n} {g} {a} {m} v = least-same (lane m) (lane-least (total f sl st) cap n) cap 16 (v .lanes) ∙ lanes-flat (total f sl st) cap n
+-- THE RUNNING TOTAL: turn k from the turn before it
+pub stands : {f sl st : List ℕ} (k : ℕ) {a b : At} → 0 < k → Standing f sl st (k - 1) a → Moved f st k a b → Standing f sl st k b
+unfolding changes
+stands zero l s m = absurd (omega arith)
+stands {f} {sl} {st} (suc k) {a} {b} l s m = record {
+  at = at;
+  summed = m .summed;
+  lanes = λ x lx. m .summed .lanes x lx ∙ rw (at 0 (omega arith), at 1 (omega arith), at 2 (omega arith), at 3 (omega arith)) (total-at sl st (suc k) x lx f);
+  count = m .count ∙ rw (at 0 (omega arith), at 1 (omega arith), at 2 (omega arith), at 3 (omega arith), was 0 (omega arith), was 1 (omega arith), was 2 (omega arith), was 3 (omega arith), s .count, z) refl;
+}
+  where
+    z : suc k - 1 ≡ k
+    z = omega arith
 
--- without marginals nothing is asked of g
-pub not-asked : {cap : ℕ} {f g : List ℕ} → Blank false cap f g
-not-asked = record { long = λ z. absurd (false≢true z); all = λ z. absurd (false≢true z) }
+    at : (j : ℕ) → j < 4 → lane (b .places) j ≡ place sl st (suc k) j
+    at j lj = m .at j lj ∙ place-to sl st (suc k) j (lane (a .places) j) l (s .at j lj)
+
+    was : (j : ℕ) → j < 4 → lane (a .places) j ≡ place sl st (suc k - 1) j
+    was j lj = s .at j lj
+
+-- a walk makes few changes
+changes-few : (sl st : List ℕ) (k : ℕ) → changes sl st k ≤ k * 4
+unfolding changes
+changes-few sl st zero = omega arith
+changes-few sl st (suc k) = omega (arith, changes-few sl st k, one 0, one 1, one 2, one 3)
+  where
+    one : (j : ℕ) → change sl st k j ≤ 1
+    one j = at-most-one (eqb (place sl st (suc k) j) (place sl st k j))
+
+pub movers-few : (st : List ℕ) → (2 ≤ movers st) × (movers st ≤ 3)
+movers-few st = go (eqb (step st 0 2) 0)
+  where
+    go : (b : Bool) → (2 ≤ cond b 2 3) × (cond b 2 3 ≤ 3)
+    go true = (omega arith, omega arith)
+    go false = (omega arith, omega arith)
+
+-- a turn within a round
+pub together : {n round : ℕ} {st : List ℕ} → Rounds n round st → (c z : ℕ) → 0 < z → z < round → Together st (c * round + z) (movers st)
+together {n} {round} {st} r c z a b =
+    let l : changed-bit (c * round + z) < r .bits = rw (r .power) (tz-within 64 (r .bits) c z a (rw (r .power) at b) (omega (arith, r .few))) in
+    record { changed = r .changed _ l; same = λ j lj. r .same _ j l lj; still = λ j lj h. r .still _ j l lj h }
 
 module _ {n : ℕ} {f sl st : List ℕ} (w : Slots n f sl st) where
-  pub bit-below : (k : ℕ) → k < n → 0 < k → changed-bit k < 12
+  bit-below : (k : ℕ) → k < n → 0 < k → changed-bit k < 12
   bit-below k l h = tz-below 64 12 k h (omega (arith, w .few)) (omega arith)
 
   -- the slots follow each other, none of them empty
   edge : (j : ℕ) → j < 4 → start sl j + 16 ≤ start sl (suc j)
   edge j l = omega (arith, w .above 0 j (w .some) l, w .below 0 j (w .some) l)
 
-  later : (i j : ℕ) → i < j → j ≤ 4 → start sl (suc i) ≤ start sl j
+  pub later : (i j : ℕ) → i < j → j ≤ 4 → start sl (suc i) ≤ start sl j
   later i zero l lj = absurd (omega arith)
   later i (suc j) l lj = go (ℕ-discrete i j) (λ b. later i j b (omega arith))
     where
@@ -103,108 +147,40 @@ module _ {n : ℕ} {f sl st : List ℕ} (w : Slots n f sl st) where
       go (yes e) h = omega (arith, ap (λ (i : ℕ). start sl (suc i)) e)
       go (no b) h = omega (arith, h (omega arith), edge j (omega arith))
 
-  within : (j p : ℕ) → j < 4 → p < start sl (suc j) → p < length f
+  pub within : (j p : ℕ) → j < 4 → p < start sl (suc j) → p < length f
   within j p lj l = omega (arith, later j 4 lj (omega arith), w .ends)
 
-  -- the row of another slot has no place of slot j
-  apart : (k i j p : ℕ) → k < n → i < 4 → j < 4 → (i ≡ j → ⊥) → start sl j ≤ p → p < start sl (suc j) → place sl st k i ≤ p → p < place sl st k i + 16 → ⊥
-  apart k i j p l li lj n a b c d = go (decLe i j)
-    where
-      go : Dec (i ≤ j) → ⊥
-      go (yes h) =
-          let s : i < j = go' (ℕ-discrete i j) in
-          omega (arith, w .below k i l li, later i j s (omega arith))
-        where
-          go' : Dec (i ≡ j) → i < j
-          go' (yes e) = absurd (n e)
-          go' (no e) = omega arith
-      go (no h) = omega (arith, w .above k i l li, later j i (omega arith) (omega arith))
+  pub row-in : (k j : ℕ) → k < n → j < 4 → place sl st k j + 16 ≤ length f
+  row-in k j l lj = omega (arith, w .below k j l lj, later j 4 lj (omega arith), w .ends)
 
-  -- turn k, at the places a
-  module _ {k : ℕ} {a : List ℕ} (l : k < n) (s : Standing sl st k a) where
-    pub rows-in : Each 4 (λ j. lane a j + 16 ≤ length f)
-    rows-in j lj = omega (arith, s .at j lj, w .below k j l lj, later j 4 lj (omega arith), w .ends)
-
-    pub sums-small : Each 16 (λ x. row-sum f a x < limit)
-    sums-small x lx = omega (arith, total-at sl st k x lx f a s, w .room (k * 16 + x) (omega arith))
-
-    -- its totals t
-    module _ (t : List ℕ) (e : Each 16 (λ x. lane t x ≡ row-sum f a x)) where
-      totals : Each 16 (λ x. lane t x ≡ total f sl st (k * 16 + x))
-      totals x lx = e x lx ∙ total-at sl st k x lx f a s
-
-      pub totals-small : Each 16 (λ x. lane t x < limit)
-      totals-small x lx = omega (arith, e x lx, sums-small x lx)
-
-      -- place p of slot j: what the turn adds to its marginal
-      module _ (cap : ℕ) (g : List ℕ) (long : length g ≡ length f) (j p : ℕ) (lj : j < 4) (from : start sl j ≤ p) (to : p < start sl (suc j)) where
-        abbrev with-p : ℕ → ℕ
-        with-p i = cond (eqb (spot sl st i j) p) (total f sl st i) cap
-
-        hit : (x : ℕ) → x < 16 → place sl st k j + x ≡ p → with-p (k * 16 + x) ≡ total f sl st (k * 16 + x)
-        hit x lx h = rw (eq-eqb (spot sl st (k * 16 + x) j) p (spot-at sl st k x lx j ∙ h)) refl
-
-        miss : (x : ℕ) → x < 16 → (place sl st k j + x ≡ p → ⊥) → cap ≤ with-p (k * 16 + x)
-        miss x lx h = rw (ne-eqb (spot sl st (k * 16 + x) j) p (λ z. h (sym (spot-at sl st k x lx j) ∙ z))) (omega arith)
-
-        -- another slot's row is elsewhere
-        elsewhere : (i : ℕ) → i < 4 → (i ≡ j → ⊥) → lane a i ≤ p → p < lane a i + 16 → ⊥
-        elsewhere i li ne c d = apart k i j p l li lj ne from to (omega (arith, s .at i li)) (omega (arith, s .at i li))
-
-        lowered : getD g p 0 ≡ leastOf with-p cap (k * 16) → getD (lows g a t 4) p 0 ≡ leastOf with-p cap (k * 16 + 16)
-        lowered m = go (decLe (place sl st k j) p) (decLe (place sl st k j + 16) p)
-          where
-            inside : (x : ℕ) → x < 16 → place sl st k j + x ≡ p → getD (lows g a t 4) p 0 ≡ leastOf with-p cap (k * 16 + 16)
-            inside x lx z =
-                let y : lane a j + x ≡ p = omega (arith, s .at j lj) in
-                ap (λ (q : ℕ). getD (lows g a t 4) q 0) (sym y)
-                ∙ lows-at g a t 4 j x lj lx (omega (arith, rows-in j lj)) (λ i li ne c d. elsewhere i li ne (omega arith) (omega arith))
-                ∙ ap₂ min (ap (λ (q : ℕ). getD g q 0) y ∙ m) (totals x lx ∙ sym (hit x lx z))
-                ∙ sym (least-one with-p cap (k * 16) 16 x lx (λ i li ne. miss i li (λ h. ne (omega arith))))
-
-            outside : (place sl st k j ≤ p → p < place sl st k j + 16 → ⊥) → getD (lows g a t 4) p 0 ≡ leastOf with-p cap (k * 16 + 16)
-            outside o =
-                lows-other g a t 4 p (λ i li. away i li (ℕ-discrete i j)) ∙ m
-                ∙ sym (least-none with-p cap (k * 16) 16 (λ x lx. miss x lx (λ z. o (omega arith) (omega arith))))
-              where
-                away : (i : ℕ) → i < 4 → Dec (i ≡ j) → lane a i ≤ p → p < lane a i + 16 → ⊥
-                away i li (yes q) c d =
-                    let h : lane a i ≡ place sl st k j = s .at i li ∙ ap (place sl st k) q in
-                    o (omega arith) (omega arith)
-                away i li (no q) c d = elsewhere i li q c d
-
-            go : Dec (place sl st k j ≤ p) → Dec (place sl st k j + 16 ≤ p) → getD (lows g a t 4) p 0 ≡ leastOf with-p cap (k * 16 + 16)
-            go (yes b) (no c) = inside (p - place sl st k j) (omega arith) (omega arith)
-            go (no b) c = outside (λ h i. omega arith)
-            go (yes b) (yes c) = outside (λ h i. omega arith)
-
-      pub marked-more : {cap : ℕ} {g h : List ℕ} → Marked cap f sl st k g → h ≡ lows g a t 4 → Marked cap f sl st (k + 1) h
-      marked-more {cap} {g} m q =
-          let more : (k + 1) * 16 ≡ k * 16 + 16 = omega arith in
-          rw q (record {
-            long = lows-length g a t 4 ∙ m .long;
-            small = lows-small g a t (λ j lj. omega (arith, rows-in j lj, m .long)) (m .small) totals-small 4 (omega arith);
-            entries = λ j p lj b c. rw more (lowered cap g (m .long) j p lj b c (m .entries j p lj b c));
-          })
-
-      pub walking-more : {soft : Bool} {cap : ℕ} {g h b m : List ℕ} → Walking soft cap f sl st k g b m → h ≡ cond soft (lows g a t 4) g → (m' : List ℕ) → Each 16 (λ x. lane m' x ≡ min (lane m x) (lane t x)) →
-          Walking soft cap f sl st (k + 1) h a m'
-      unfolding leastOf
-      walking-more {soft} {cap} {g} {h} {b} {m} v q m' r =
-          let back : k + 1 - 1 ≡ k = omega arith in record {
-            standing = rw back s;
-            lanes = λ x lx. r x lx ∙ ap₂ min (v .lanes x lx) (totals x lx) ∙ ap (λ (i : ℕ). lane-least (total f sl st) cap i x) (sym (add-one k));
-            marks = λ z. marked-more (v .marks z) (q ∙ ap (λ (y : Bool). cond y (lows g a t 4) g) z);
-          }
-
-  pub walking-start : {soft : Bool} {cap : ℕ} {g : List ℕ} → Blank soft cap f g → cap < limit → (a : List ℕ) → Each 4 (λ j. lane a j ≡ start sl j) → Walking soft cap f sl st 0 g a (replicate 16 cap)
-  unfolding leastOf
-  walking-start {soft} {cap} {g} b small a e = record {
-    standing = stands-first e;
-    lanes = λ x lx. getD-replicate 16 x cap 0 lx;
-    marks = λ z. record {
-      long = b .long z;
-      small = λ i li. rw (b .all z i li) small;
-      entries = λ j p lj c d. b .all z p (omega (arith, b .long z, within j p lj d));
-    };
+  pub begins : Begins f sl
+  unfolding place
+  begins = record {
+    slots = w .slots;
+    inside = λ j lj. row-in 0 j (w .some) lj;
+    room = λ x lx. omega (arith, total-at sl st 0 x lx f, w .room (0 * 16 + x) (omega (arith, w .some)));
   }
+
+  pub movable : {k : ℕ} {a : At} → 0 < k → k < n → Standing f sl st (k - 1) a → Movable f st k a
+  movable {k} {a} l h s = record {
+    steps = w .steps;
+    bit = bit-below k h l;
+    summed = s .summed;
+    inside = λ j lj. rw (at j lj) (row-in k j h lj);
+    old = λ x lx. omega (arith, s .summed .lanes x lx, s .lanes x lx, w .room ((k - 1) * 16 + x) (omega arith));
+    new = λ x lx. rw (at 0 (omega arith), at 1 (omega arith), at 2 (omega arith), at 3 (omega arith)) (omega (arith, total-at sl st k x lx f, w .room (k * 16 + x) (omega arith)));
+    few = omega (arith, s .count, changes-few sl st (k - 1), w .few);
+  }
+    where
+      at : (j : ℕ) → j < 4 → to st k j (lane (a .places) j) ≡ place sl st k j
+      at j lj = place-to sl st k j (lane (a .places) j) l (s .at j lj)
+
+  -- any turn
+  pub arrives : {k : ℕ} {a b : At} → Standing f sl st (k - 1) a → (k ≡ 0 → b ≡ a) → (0 < k → Moved f st k a b) → Standing f sl st k b
+  arrives {k} {a} {b} s h m = go (decLe k 0)
+    where
+      go : Dec (k ≤ 0) → Standing f sl st k b
+      go (yes l) =
+          let e : k ≡ k - 1 = omega arith in
+          rw (h (omega arith), e) s
+      go (no l) = stands k (omega arith) s (m (omega arith))

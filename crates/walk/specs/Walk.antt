@@ -3,7 +3,7 @@
 use mathlib.Core.Path.{_≡_}
 use mathlib.Core.Bool.{cond}
 use mathlib.Core.List.{List}
-use Prim.Native.Nat.{ℕ, zero, suc, _+_, _-_, _*_, _/_, _%_, _^_, _≤_, _<_}
+use Prim.Native.Nat.{ℕ, zero, suc, _+_, _*_, _/_, _%_, _^_, _≤_, _<_}
 use lib.Bits.{bitXor}
 use lib.Count.{trailingZeros}
 use lib.Dec.{eqb}
@@ -80,25 +80,3 @@ pub record Rounds (n round : ℕ) (st : List ℕ) : Type 0 where
 -- g has the least total of each place
 abbrev pub Marginals : (n cap : ℕ) → (f sl st g : List ℕ) → Type 0
 Marginals n cap f sl st g = (j p : ℕ) → j < 4 → start sl j ≤ p → p < start sl (suc j) → getD g p 0 ≡ least-at cap f sl st n j p
-
--- what entry x of a table of keys costs: a key is a cost times 2^16, and a word
-abbrev pub key-cost : (t : List ℕ) → (x : ℕ) → ℕ
-key-cost t x = getD t x 0 / 65536
-
--- what each of the first n places costs, by what an entry costs; gathered where these are all of them
-pub record Priced (cost : ℕ → ℕ) (places : List ℕ) (n : ℕ) (f : List ℕ) : Type 0 where
-  pub long : length f ≡ length places
-  pub costs : (p : ℕ) → p < n → getD f p 0 ≡ cost (getD places p 0)
-
-abbrev pub Gathered : (cost : ℕ → ℕ) → (places f : List ℕ) → Type 0
-Gathered cost places f = Priced cost places (length places) f
-
--- the least that the other layers cost, over those of the first n places that stand for entry x of a table; the table of these, and that over all places
-abbrev pub others : (cap : ℕ) → (f g places : List ℕ) → (n x : ℕ) → ℕ
-others cap f g places n x = leastOf (λ p. cond (eqb (getD places p 0) x) (getD g p 0 - getD f p 0) cap) cap n
-
-pub record Lowered (cap : ℕ) (f g places : List ℕ) (n : ℕ) (a : List ℕ) : Type 0 where
-  pub others : (x : ℕ) → x < length a → getD a x 0 ≡ others cap f g places n x
-
-abbrev pub Scattered : (cap : ℕ) → (f g places a : List ℕ) → Type 0
-Scattered cap f g places a = Lowered cap f g places (length places) a

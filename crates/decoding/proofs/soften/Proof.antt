@@ -2,7 +2,7 @@
 -- Assumes nothing.
 use Rattle.basics.proofs.Kit.{_≡_, refl, _∙_, _*_, _≤_, arith, needs, length, take}
 use lib.Seq.{length-take-le, getD-take}
-use Rattle.search.proofs.Laying.{eights}
+use Rattle.search.proofs.Laying.{sixteens}
 use Rattle.decoding.specs.Within.{Softs}
 use Rattle.decoding.proofs.Finding.{own-le, pass-ok, softs-ok}
 use Rattle.decoding.proofs.Decodings.{rows-ok}
@@ -17,7 +17,7 @@ others-requires : tie.Need-others-requires
 others-requires c κs = let s = c .before .before .before .before .before .before .before .before .before .before .before .before in let p = s .pre in let r = p .1 .1 .1 .1 in record {
   count-g = r .places-g;
   scatter = record {
-    places-in = eights (p .0 .coded) (p .1 .1 .0 .placed) refl;
+    places-in = sixteens (p .0 .coded) (p .1 .1 .0 .placed) refl;
     count = r .places-f;
     states-in = r .states-f;
     length-g = marginals-long s;

@@ -1,18 +1,17 @@
 -- `walk::at_turn` meets its contract.
 -- Assumes nothing.
 use Rattle.basics.proofs.Kit.{refl, arith}
-use borrow.Author.Tests.{eq-eqb, ne-eqb}
 use Rattle.walk.proofs.at_turn.Statement.{statement}
 use Rattle.walk.proofs.at_turn.Tie as tie
 
 returns : tie.Need-returns
-returns c = let a = c .before .before .args in λ j l. rw (eq-eqb (a .k) 0 (omega arith)) refl
+returns c = ((λ e. refl), (λ l. absurd (omega arith)))
 
 next-requires : tie.Need-next-requires
-next-requires c κs = let s = c .before .before in (s .pre .0, s .pre .1 (omega arith))
+next-requires c κs = c .before .before .before .pre (omega arith)
 
 returns-2 : tie.Need-returns-2
-returns-2 c = let a = c .before .before .before .args in λ j l. rw (ne-eqb (a .k) 0 (λ e. omega arith)) (c .next .ensures j l)
+returns-2 c = ((λ e. absurd (omega arith)), (λ l. c .next .ensures))
 
 pub at-turn-spec : {M : Type 1} → statement M
 at-turn-spec =

@@ -1,49 +1,74 @@
 -- `walk::next` meets its contract.
 -- Assumes nothing.
-use Rattle.basics.proofs.Kit.{refl, _+_, _-_, _*_, arith}
-use lib.Bits.{bitXor}
+use Rattle.basics.proofs.Kit.{_+_, _*_, arith}
 use Rattle.lanes.specs.Lanes.{lane}
 use Rattle.walk.specs.Walk.{step, changed-bit}
-use Rattle.walk.proofs.Rows.{Made, made-start, made-more, made-end}
+use Rattle.walk.specs.Turns.{Shifted}
+use Rattle.walk.proofs.Shifts.{asks0, asks1, asks2, asks3, turned}
 use Rattle.walk.proofs.next.Statement.{statement}
 use Rattle.walk.proofs.next.Tie as tie
 
-abbrev Inv-loop : tie.InvT-loop
-Inv-loop st k a b r₀ j₀ r j = Made 4 (λ i. bitXor (lane a i) (step st b i)) j r
+abbrev from : tie.After-shared-slice-known3 → tie.Start
+from c = c .before .before .before .before .before .before .before .before .before
 
-abbrev μ-loop : tie.MeasureT-loop
-μ-loop st k a b r₀ j₀ r j = 4 - j
+cast0 : tie.Need-cast-may-shift
+cast0 c = omega (arith, c .shared-slice-known3 .given (changed-bit (from (c) .args .k) * 4 + 0))
 
-loop-holds : tie.Need-loop-holds Inv-loop μ-loop
-loop-holds c = made-start (omega arith)
+cast1 : tie.Need-cast-may-shift-2
+cast1 c = omega (arith, c .shared-slice-known4 .given (changed-bit (from (c .before .before .before .before) .args .k) * 4 + 1))
 
-cast-r : tie.Need-cast-r Inv-loop μ-loop
-cast-r c = let a = c .before .before .before .args in omega (arith, c .shared-slice-known .given (changed-bit (a .k) * 4 + c .before .before .loop .j))
+cast2 : tie.Need-cast-may-shift-3
+cast2 c = omega (arith, c .shared-slice-known5 .given (changed-bit (from (c .before .before .before .before .before .before .before .before) .args .k) * 4 + 2))
 
-loop-again : tie.Need-loop-again Inv-loop μ-loop
-loop-again c = made-more (c .before .before .loop .inv) (omega arith) refl
+cast3 : tie.Need-cast-may-shift-4
+cast3 c = omega (arith, c .shared-slice-known6 .given (changed-bit (from (c .before .before .before .before .before .before .before .before .before .before .before .before) .args .k) * 4 + 3))
 
-returns : tie.Need-returns Inv-loop μ-loop
-returns c = made-end (c .before .loop .inv) (omega arith)
+requires0 : tie.Need-may-shift-requires
+requires0 c κs = asks0 (from c .pre)
+
+requires1 : tie.Need-may-shift-requires-2
+requires1 c κs = asks1 (from (c .before .before .before .before) .pre) (c .before .before .before .may-shift .ensures)
+
+requires2 : tie.Need-may-shift-requires-3
+requires2 c κs = asks2 (from (c .before .before .before .before .before .before .before .before) .pre) (c .before .before .before .before .before .before .before .may-shift .ensures) (c .before .before .before .may-shift2 .ensures)
+
+requires3 : tie.Need-may-shift-requires-4
+requires3 c κs = asks3 (from (c .before .before .before .before .before .before .before .before .before .before .before .before) .pre) (c .before .before .before .before .before .before .before .before .before .before .before .may-shift .ensures) (c .before .before .before .before .before .before .before .may-shift2 .ensures) (c .before .before .before .may-shift3 .ensures)
+
+returns : tie.Need-returns
+returns c = turned (from (c .before .before .before .before .before .before .before .before .before .before .before .before .before .before .before) .pre) (c .before .before .before .before .before .before .before .before .before .before .before .before .before .before .may-shift .ensures) (c .before .before .before .before .before .before .before .before .before .before .may-shift2 .ensures) (c .before .before .before .before .before .before .may-shift3 .ensures) (c .before .before .may-shift4 .ensures)
 
 pub next-spec : {M : Type 1} → statement M
 next-spec =
     tie.close
     (tie.spec
-    Inv-loop
-    μ-loop
-    (λ c. omega arith)
-    loop-holds
     (λ c. omega arith)
     (λ c. omega arith)
     (λ c. omega arith)
     (λ c. omega arith)
     (λ c. omega arith)
+    cast0
     (λ c. omega arith)
-    cast-r
+    requires0
     (λ c. omega arith)
     (λ c. omega arith)
     (λ c. omega arith)
     (λ c. omega arith)
-    loop-again
+    cast1
+    (λ c. omega arith)
+    requires1
+    (λ c. omega arith)
+    (λ c. omega arith)
+    (λ c. omega arith)
+    (λ c. omega arith)
+    cast2
+    (λ c. omega arith)
+    requires2
+    (λ c. omega (arith, from (c .before .before .before .before .before .before .before .before .before .before .before) .pre .bit))
+    (λ c. omega (arith, from (c .before .before .before .before .before .before .before .before .before .before .before) .pre .bit))
+    (λ c. omega (arith, from (c .before .before .before .before .before .before .before .before .before .before .before) .pre .bit))
+    (λ c. omega (arith, from (c .before .before .before .before .before .before .before .before .before .before .before .before) .pre .bit, from (c .before .before .before .before .before .before .before .before .before .before .before .before) .pre .steps))
+    cast3
+    (λ c. omega arith)
+    requires3
     returns)
