@@ -197,10 +197,10 @@ fn walk_all(shape: Shape, f: &[u16], g: &mut [u16]) -> u16
     let n = spots::turns(shape.m, shape.r);
     if n == 1 {
         let none = [0u16; 48];
-        return walk::walk(f, &sl, &none, 1, g, CAP);
+        return walk::walk(f, &sl, &none, 1, 1, g, CAP);
     }
     let st = spots::steps(shape.m, shape.r);
-    walk::walk(f, &sl, &st, n, g, CAP)
+    walk::walk(f, &sl, &st, n, spots::round(shape.m, shape.r), g, CAP)
 }
 
 // The words of the places that take part in the least total, and whether each slot has one.
@@ -282,10 +282,10 @@ pub fn least_of(shape: Shape, t: &[u16], places: &mut [u16], f: &mut [u16]) -> u
     let n = spots::turns(shape.m, shape.r);
     if n == 1 {
         let none = [0u16; 48];
-        return walk::least_of(f, &sl, &none, 1, CAP);
+        return walk::least_of(f, &sl, &none, 1, 1, CAP);
     }
     let st = spots::steps(shape.m, shape.r);
-    walk::least_of(f, &sl, &st, n, CAP)
+    walk::least_of(f, &sl, &st, n, spots::round(shape.m, shape.r), CAP)
 }
 
 // The bit of a word at a place.

@@ -4,7 +4,8 @@ use Rattle.basics.proofs.Kit.{_≡_, refl, ap, Bool, true, false, List, ℕ, ze
 use native.Mathlib.Decide.{decLe}
 use borrow.Author.Tests.{eqb-true, eqb-false}
 use Rattle.walk.specs.Walk.{total}
-use Rattle.walk.proofs.Turns.{Standing, total-at}
+use Rattle.walk.specs.declared.At.{At}
+use Rattle.walk.specs.Turns.{Standing}
 use Rattle.ties.specs.Ties.{number-of, words, Costs, First-tied}
 use Rattle.ties.specs.Turn.{earlier, meet}
 use Rattle.ties.proofs.Symbols.{last, last-greatest}
@@ -62,18 +63,18 @@ module _ {n : ℕ} {f sl st w : List ℕ} {r : ℕ} where
             rw (keep r (total f sl st i) (words w sl st i) b (λ _. g)) (behind g)
 
   -- a turn
-  module _ {k : ℕ} {a b : List ℕ} (s : Standing sl st k a) (l : k < n) (t : Tied n f sl st w r (k * 16) b) where
-    lanes-met : (x : ℕ) → x ≤ 16 → Tied n f sl st w r (k * 16 + x) (meet f w a r b x)
+  module _ {k : ℕ} {a : At} {b : List ℕ} (s : Standing f sl st k a) (l : k < n) (t : Tied n f sl st w r (k * 16) b) where
+    lanes-met : (x : ℕ) → x ≤ 16 → Tied n f sl st w r (k * 16 + x) (meet (a .total) w (a .places) r b x)
     unfolding meet
     lanes-met zero u =
         let e : k * 16 + 0 ≡ k * 16 = omega arith in
         rw e t
     lanes-met (suc x) u =
-        let h = tied-more (k * 16 + x) (meet f w a r b x) (lanes-met x (omega arith)) (omega arith) in
+        let h = tied-more (k * 16 + x) (meet (a .total) w (a .places) r b x) (lanes-met x (omega arith)) (omega arith) in
         let e : k * 16 + suc x ≡ k * 16 + x + 1 = omega arith in
-        rw e (rw (← total-at sl st k x (omega arith) f a s, lane-words s w x (omega arith)) at h)
+        rw e (rw (← s .lanes x (omega arith), lane-words s w x (omega arith)) at h)
 
-    pub tied-turn : (m : List ℕ) → m ≡ meet f w a r b 16 → Tied n f sl st w r ((k + 1) * 16) m
+    pub tied-turn : (m : List ℕ) → m ≡ meet (a .total) w (a .places) r b 16 → Tied n f sl st w r ((k + 1) * 16) m
     tied-turn m e =
         let q : (k + 1) * 16 ≡ k * 16 + 16 = omega arith in
         rw (q, e) (lanes-met 16 (omega arith))

@@ -1,6 +1,6 @@
 -- A turn of the second walk, lane by lane, and what the turns so far leave.
 -- Assumes nothing.
-use Rattle.basics.proofs.Kit.{_≡_, refl, sym, Bool, true, false, _&&_, not, cond, List, ℕ, zero, suc, _+_, _*_, _/_, _%_, _≤_, _<_, arith, eqb, ltb}
+use Rattle.basics.proofs.Kit.{_≡_, refl, sym, Bool, true, false, _&&_, not, cond, List, ℕ, zero, suc, _+_, _*_, _/_, _%_, _≤_, _<_, arith, eqb, ltb, length}
 use mathlib.Core.Bool.{false≢true}
 use native.Mathlib.Numerals.{add-one}
 use native.Mathlib.Decide.{decLe}
@@ -8,10 +8,11 @@ use borrow.Author.Tests.{eqb-true, eq-eqb, lt-ltb, le-ltb}
 use lib.Bits.{bitOr, or-add-and, and-le-l, and-le-r}
 use Rattle.lanes.specs.Lanes.{lane}
 use Rattle.walk.specs.Walk.{Slots}
-use Rattle.walk.specs.Turns.{Each, row-sum}
-use Rattle.walk.proofs.Turns.{Standing, rows-in, sums-small}
+use Rattle.walk.specs.declared.At.{At}
+use Rattle.walk.specs.Turns.{Each, Standing}
+use Rattle.walk.proofs.Turns.{row-in}
 use Rattle.ties.specs.Ties.{number-of, words}
-use Rattle.ties.specs.Turn.{four, words-at, Rows, earlier, meet, None-costs, Before-all}
+use Rattle.ties.specs.Turn.{four, words-at, Inside, earlier, meet, None-costs, Before-all}
 
 -- what is chosen where two numbers are the same
 pub value-same : (o : ℕ) {a b v r : ℕ} → r ≡ cond (eqb a b) v o → a ≡ b → r ≡ v
@@ -56,31 +57,33 @@ module _ (r t : ℕ) (v b : List ℕ) where
   take-this e h = rw (eq-eqb t r e, le-ltb (number-of b) (number-of v) h) refl
 
 -- LANES of rows, of which the first x are met
-module _ (f w a : List ℕ) (r : ℕ) (b : List ℕ) where
-  pub meet-more : (x : ℕ) → meet f w a r b (x + 1) ≡ earlier r (row-sum f a x) (words-at w a x) (meet f w a r b x)
+module _ (t w a : List ℕ) (r : ℕ) (b : List ℕ) where
+  pub meet-more : (x : ℕ) → meet t w a r b (x + 1) ≡ earlier r (lane t x) (words-at w a x) (meet t w a r b x)
   unfolding meet
   meet-more x = rw (add-one x) refl
 
   -- where b comes before each that counts, none is taken
-  passed : Before-all f w a r b 16 → (x : ℕ) → x ≤ 16 → meet f w a r b x ≡ b
+  passed : Before-all t w a r b 16 → (x : ℕ) → x ≤ 16 → meet t w a r b x ≡ b
   unfolding meet
   passed h zero l = refl
-  passed h (suc x) l = rw (passed h x (omega arith)) (keep r (row-sum f a x) (words-at w a x) b (h x (omega arith)))
+  passed h (suc x) l = rw (passed h x (omega arith)) (keep r (lane t x) (words-at w a x) b (h x (omega arith)))
 
-  pub pass : Before-all f w a r b 16 → b ≡ meet f w a r b 16
+  pub pass : Before-all t w a r b 16 → b ≡ meet t w a r b 16
   pass h = sym (passed h 16 (omega arith))
 
-  pub pass-none : None-costs f a r 16 → b ≡ meet f w a r b 16
+  pub pass-none : None-costs t r 16 → b ≡ meet t w a r b 16
   pass-none h = pass (λ x l e. absurd (h x l e))
 
--- TURN k, at the places a: the words of its lanes, and where its rows lie
-module _ {sl st : List ℕ} {k : ℕ} {a : List ℕ} (s : Standing sl st k a) where
-  pub lane-words : (w : List ℕ) (x : ℕ) → x < 16 → words w sl st (k * 16 + x) ≡ words-at w a x
+-- TURN k: the words of its lanes, and where its rows lie
+module _ {f sl st : List ℕ} {k : ℕ} {a : At} (s : Standing f sl st k a) where
+  pub lane-words : (w : List ℕ) (x : ℕ) → x < 16 → words w sl st (k * 16 + x) ≡ words-at w (a .places) x
   lane-words w x l =
       let d : (k * 16 + x) / 16 ≡ k = omega arith in
       let m : (k * 16 + x) % 16 ≡ x = omega arith in
       rw (s .at 0 (omega arith), s .at 1 (omega arith), s .at 2 (omega arith), s .at 3 (omega arith)) (simp (d, m))
 
-  pub rows-of : {n : ℕ} {f : List ℕ} → Slots n f sl st → k < n → Rows f a
-  rows-of z l = let h = rows-in z l s in
-      record { inside = record { in0 = h 0 (omega arith); in1 = h 1 (omega arith); in2 = h 2 (omega arith); in3 = h 3 (omega arith) }; room = sums-small z l s }
+  pub rows-of : {n len : ℕ} → Slots n f sl st → k < n → len ≡ length f → Inside len (a .places)
+  rows-of {n} {len} z l e = record { in0 = row 0 (omega arith); in1 = row 1 (omega arith); in2 = row 2 (omega arith); in3 = row 3 (omega arith) }
+    where
+      row : (j : ℕ) → j < 4 → lane (a .places) j + 16 ≤ len
+      row j lj = omega (arith, e, s .at j lj, row-in z k j l lj)

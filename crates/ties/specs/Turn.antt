@@ -5,10 +5,10 @@ use mathlib.Core.Bool.{cond, not, _&&_}
 use mathlib.Core.List.{List, [], _∷_}
 use Prim.Native.Nat.{ℕ, zero, suc, _+_, _≤_, _<_}
 use lib.Dec.{eqb, ltb}
-use lib.ListN.{length, getD}
-use Rattle.lanes.specs.Lanes.{lane, lanes, limit}
+use lib.ListN.{getD}
+use Rattle.lanes.specs.Lanes.{lane, lanes}
 use Rattle.walk.specs.Walk.{start}
-use Rattle.walk.specs.Turns.{Each, row-sum}
+use Rattle.walk.specs.Turns.{Each}
 use Rattle.ties.specs.Ties.{number-of, word-at}
 
 -- four numbers as a list
@@ -26,26 +26,21 @@ pub record Inside (len : ℕ) (a : List ℕ) : Type 0 where
   pub in2 : lane a 2 + 16 ≤ len
   pub in3 : lane a 3 + 16 ≤ len
 
--- they lie in f, and no sum is too great
-pub record Rows (f a : List ℕ) : Type 0 where
-  pub inside : Inside (length f) a
-  pub room : Each 16 (λ x. row-sum f a x < limit)
-
 -- v where it costs r and b does not come before it, else b
 unfoldable pub earlier : (r t : ℕ) → (v b : List ℕ) → List ℕ
 earlier r t v b = cond (eqb t r && not (ltb (number-of b) (number-of v))) v b
 
--- what the first x lanes leave of b
-unfoldable pub meet : (f w a : List ℕ) → (r : ℕ) → (b : List ℕ) → (x : ℕ) → List ℕ
-meet f w a r b zero = b
-meet f w a r b (suc x) = earlier r (row-sum f a x) (words-at w a x) (meet f w a r b x)
+-- what the first x lanes leave of b, where the lanes cost t
+unfoldable pub meet : (t w a : List ℕ) → (r : ℕ) → (b : List ℕ) → (x : ℕ) → List ℕ
+meet t w a r b zero = b
+meet t w a r b (suc x) = earlier r (lane t x) (words-at w a x) (meet t w a r b x)
 
 -- none of the first n lanes costs r; b comes before each of them that does
-abbrev pub None-costs : (f a : List ℕ) → (r n : ℕ) → Type 0
-None-costs f a r n = Each n (λ x. row-sum f a x ≡ r → ⊥)
+abbrev pub None-costs : (t : List ℕ) → (r n : ℕ) → Type 0
+None-costs t r n = Each n (λ x. lane t x ≡ r → ⊥)
 
-abbrev pub Before-all : (f w a : List ℕ) → (r : ℕ) → (b : List ℕ) → (n : ℕ) → Type 0
-Before-all f w a r b n = Each n (λ x. row-sum f a x ≡ r → number-of b < number-of (words-at w a x))
+abbrev pub Before-all : (t w a : List ℕ) → (r : ℕ) → (b : List ℕ) → (n : ℕ) → Type 0
+Before-all t w a r b n = Each n (λ x. lane t x ≡ r → number-of b < number-of (words-at w a x))
 
 -- THE SPAN of the entries of those places from a to e whose number in g is r
 abbrev pub Spans : (places g : List ℕ) → (r a e low high : ℕ) → Type 0

@@ -1,15 +1,16 @@
 // Of the tuples that cost the least, the one whose word comes first: where the words of all places that take part agree, these; else a second walk.
 // Its functions are for the crates above; their promises cite specs/Ties.antt.
+use walk::At;
 ghost use mathlib.Core.Path.{_≡_};
 ghost use mathlib.Core.Bool.{true, cond, _&&_};
+ghost use mathlib.Core.List.{[]};
 ghost use Prim.Native.Nat.{ℕ, _+_, _<_, _≤_};
 ghost use lib.Dec.{eqb, ltb};
 ghost use lib.ListN.{length, getD};
-ghost use Rattle.lanes.specs.Lanes.{limit};
 ghost use Rattle.walk.specs.Walk.{start, Slots};
-ghost use Rattle.walk.specs.Turns.{row-sum};
+ghost use Rattle.walk.specs.Turns.{Standing, Movable, Moved, Begins};
 ghost use Rattle.ties.specs.Ties.{number-of, Costs, First-tied, word-at, Agree};
-ghost use Rattle.ties.specs.Turn.{four, words-at, Inside, Rows, earlier, meet, None-costs, Before-all, Spans, One-word};
+ghost use Rattle.ties.specs.Turn.{four, words-at, Inside, earlier, meet, None-costs, Before-all, Spans, One-word};
 
 // v where two numbers are the same, else another.
 fn value_if(a: u16, b: u16, v: u16, other: u16) -> u16
@@ -156,15 +157,6 @@ fn lane_at(f: &[u16], p: usize, x: usize) -> u16
     f[p + x]
 }
 
-// What lane x costs.
-fn cost_of(f: &[u16], a: [usize; 4], x: usize) -> u16
-    requires { ⌜ Inside (length (now f)) a × (x < 16) ⌝ }
-    requires { ⌜ row-sum (now f) a x < limit ⌝ }
-    ensures { λ r. ⌜ r ≡ row-sum (now (f .entry)) a x ⌝ }
-{
-    lane_at(f, a[0], x) + lane_at(f, a[1], x) + lane_at(f, a[2], x) + lane_at(f, a[3], x)
-}
-
 // The words of lane x.
 fn words_of(w: &[u16], a: [usize; 4], x: usize) -> [u16; 4]
     requires { ⌜ Inside (length (now w)) a × (x < 16) ⌝ }
@@ -179,32 +171,28 @@ fn words_of(w: &[u16], a: [usize; 4], x: usize) -> [u16; 4]
 }
 
 // Not 0 where a lane costs the least.
-fn any_costs(f: &[u16], a: [usize; 4], least: u16) -> u16
-    requires { ⌜ Rows (now f) a ⌝ }
-    ensures { λ r. ⌜ (r ≡ 0 → None-costs (now (f .entry)) a least 16) ⌝ }
+fn any_costs(t: [u16; 16], least: u16) -> u16
+    ensures { λ r. ⌜ (r ≡ 0 → None-costs t least 16) ⌝ }
 {
     let mut any = 0;
     let mut x = 0;
     while x < 16 {
-        any |= value_if(cost_of(f, a, x), least, 1, 0);
+        any |= value_if(t[x], least, 1, 0);
         x += 1;
     }
     any
 }
 
-// Not 0 where lane x costs the least and b does not come before it. Its words are taken one by one, so that the loop over the lanes becomes one of
-// vector instructions.
-fn counts(f: &[u16], w: &[u16], a: [usize; 4], x: usize, least: u16, b: [u16; 4]) -> u16
-    requires { ⌜ Inside (length (now f)) a × (x < 16) ⌝ }
-    requires { ⌜ length (now w) ≡ length (now f) ⌝ }
-    requires { ⌜ row-sum (now f) a x < limit ⌝ }
-    ensures { λ r. ⌜ (r ≡ 0 → row-sum (now (f .entry)) a x ≡ least → number-of b < number-of (words-at (now (w .entry)) a x)) ⌝ }
+// Not 0 where lane x, which costs t, costs the least and b does not come before it. Its words are taken one by one, so that the loop over the lanes becomes
+// one of vector instructions.
+fn counts(t: u16, w: &[u16], a: [usize; 4], x: usize, least: u16, b: [u16; 4]) -> u16
+    requires { ⌜ Inside (length (now w)) a × (x < 16) ⌝ }
+    ensures { λ r. ⌜ (r ≡ 0 → t ≡ least → number-of b < number-of (words-at (now (w .entry)) a x)) ⌝ }
 {
     let v0 = lane_at(w, a[0], x);
     let v1 = lane_at(w, a[1], x);
     let v2 = lane_at(w, a[2], x);
     let v3 = lane_at(w, a[3], x);
-    let t = cost_of(f, a, x);
     if comes_before(b[0], b[1], b[2], b[3], v0, v1, v2, v3) {
         0
     } else {
@@ -213,15 +201,14 @@ fn counts(f: &[u16], w: &[u16], a: [usize; 4], x: usize, least: u16, b: [u16; 4]
 }
 
 // Not 0 where a lane costs the least and b does not come before it.
-fn any_counts(f: &[u16], w: &[u16], a: [usize; 4], least: u16, b: [u16; 4]) -> u16
-    requires { ⌜ Rows (now f) a ⌝ }
-    requires { ⌜ length (now w) ≡ length (now f) ⌝ }
-    ensures { λ r. ⌜ (r ≡ 0 → Before-all (now (f .entry)) (now (w .entry)) a least b 16) ⌝ }
+fn any_counts(t: [u16; 16], w: &[u16], a: [usize; 4], least: u16, b: [u16; 4]) -> u16
+    requires { ⌜ Inside (length (now w)) a ⌝ }
+    ensures { λ r. ⌜ (r ≡ 0 → Before-all t (now (w .entry)) a least b 16) ⌝ }
 {
     let mut any = 0;
     let mut x = 0;
     while x < 16 {
-        any |= counts(f, w, a, x, least, b);
+        any |= counts(t[x], w, a, x, least, b);
         x += 1;
     }
     any
@@ -241,16 +228,15 @@ fn earlier_of(least: u16, t: u16, v: [u16; 4], b: [u16; 4]) -> [u16; 4]
 }
 
 // What the sixteen lanes leave of b, one after another.
-fn meet_lanes(f: &[u16], w: &[u16], a: [usize; 4], least: u16, b: [u16; 4]) -> [u16; 4]
-    requires { ⌜ Rows (now f) a ⌝ }
-    requires { ⌜ length (now w) ≡ length (now f) ⌝ }
-    ensures { λ r. ⌜ r ≡ meet (now (f .entry)) (now (w .entry)) a least b 16 ⌝ }
+fn meet_lanes(t: [u16; 16], w: &[u16], a: [usize; 4], least: u16, b: [u16; 4]) -> [u16; 4]
+    requires { ⌜ Inside (length (now w)) a ⌝ }
+    ensures { λ r. ⌜ r ≡ meet t (now (w .entry)) a least b 16 ⌝ }
 {
     let mut r = b;
     let mut x = 0;
     while x < 16 {
         let v = words_of(w, a, x);
-        let m = earlier_of(least, cost_of(f, a, x), v, r);
+        let m = earlier_of(least, t[x], v, r);
         r = m;
         x += 1;
     }
@@ -258,34 +244,108 @@ fn meet_lanes(f: &[u16], w: &[u16], a: [usize; 4], least: u16, b: [u16; 4]) -> [
 }
 
 // One turn. Most have no lane that costs the least; and where many do, most have none that comes before what is found.
-fn meet_turn(f: &[u16], w: &[u16], a: [usize; 4], least: u16, b: [u16; 4]) -> [u16; 4]
-    requires { ⌜ Rows (now f) a ⌝ }
-    requires { ⌜ length (now w) ≡ length (now f) ⌝ }
-    ensures { λ r. ⌜ r ≡ meet (now (f .entry)) (now (w .entry)) a least b 16 ⌝ }
+fn meet_turn(t: [u16; 16], w: &[u16], a: [usize; 4], least: u16, b: [u16; 4]) -> [u16; 4]
+    requires { ⌜ Inside (length (now w)) a ⌝ }
+    ensures { λ r. ⌜ r ≡ meet t (now (w .entry)) a least b 16 ⌝ }
 {
-    if any_costs(f, a, least) == 0 {
+    if any_costs(t, least) == 0 {
         return b;
     }
-    if any_counts(f, w, a, least, b) == 0 {
+    if any_counts(t, w, a, least, b) == 0 {
         return b;
     }
-    meet_lanes(f, w, a, least, b)
+    meet_lanes(t, w, a, least, b)
 }
 
-// Of the tuples that cost the least, the words that come first: the same walk again.
+// THE WALK AGAIN: turn 0, of any steps. These three functions are those of the first walk once more, over the same promises: the compiler puts in line
+// what is called in one place, and the first walk takes a third more instructions where it is not put in line.
+fn first(f: &[u16], sl: &[u16]) -> At
+    requires { ⌜ Begins (now f) (now sl) ⌝ }
+    ensures { λ r. ⌜ Standing (now (f .entry)) (now (sl .entry)) [] 0 r ⌝ }
+{
+    let p0 = sl[0] as usize;
+    let p1 = sl[1] as usize;
+    let p2 = sl[2] as usize;
+    let p3 = sl[3] as usize;
+    let r0 = walk::row_at(f, p0);
+    let r1 = walk::row_at(f, p1);
+    let r2 = walk::row_at(f, p2);
+    let r3 = walk::row_at(f, p3);
+    let total = walk::sum_of(r0, r1, r2, r3);
+    At {
+        places: [p0, p1, p2, p3],
+        r0,
+        r1,
+        r2,
+        r3,
+        total,
+        adjusted: 0,
+    }
+}
+
+// Turn k from the one before it, whatever slots change.
+fn next(f: &[u16], st: &[u16], k: usize, a: At) -> At
+    requires { ⌜ Movable (now f) (now st) k a ⌝ }
+    ensures { λ b. ⌜ Moved (now (f .entry)) (now (st .entry)) k a b ⌝ }
+{
+    let b = usize::trailing_zeros(k) as usize;
+    let places = a.places;
+    let r0 = a.r0;
+    let r1 = a.r1;
+    let r2 = a.r2;
+    let r3 = a.r3;
+    let t = a.total;
+    let s0 = walk::may_shift(f, st[b * 4 + 0] as usize, places[0], r0, t, a.adjusted);
+    let u0 = s0.row;
+    let t0 = s0.total;
+    let s1 = walk::may_shift(f, st[b * 4 + 1] as usize, places[1], r1, t0, s0.adjusted);
+    let u1 = s1.row;
+    let t1 = s1.total;
+    let s2 = walk::may_shift(f, st[b * 4 + 2] as usize, places[2], r2, t1, s1.adjusted);
+    let u2 = s2.row;
+    let t2 = s2.total;
+    let s3 = walk::may_shift(f, st[b * 4 + 3] as usize, places[3], r3, t2, s2.adjusted);
+    let u3 = s3.row;
+    let t3 = s3.total;
+    At {
+        places: [s0.place, s1.place, s2.place, s3.place],
+        r0: u0,
+        r1: u1,
+        r2: u2,
+        r3: u3,
+        total: t3,
+        adjusted: s3.adjusted,
+    }
+}
+
+// Any turn: the first one as it is.
+fn at_turn(f: &[u16], st: &[u16], k: usize, a: At) -> At
+    requires { ⌜ (0 < k → Movable (now f) (now st) k a) ⌝ }
+    ensures { λ b. ⌜ (k ≡ 0 → b ≡ a) ⌝ }
+    ensures { λ b. ⌜ (0 < k → Moved (now (f .entry)) (now (st .entry)) k a b) ⌝ }
+{
+    if k == 0 {
+        return a;
+    }
+    next(f, st, k, a)
+}
+
+// Of the tuples that cost the least, the words that come first: the same walk again, with the same running total.
 pub fn first_tied(f: &[u16], w: &[u16], sl: &[u16], st: &[u16], n: usize, least: u16) -> [u16; 4]
     requires { ⌜ Slots n (now f) (now sl) (now st) ⌝ }
     requires { ⌜ length (now w) ≡ length (now f) ⌝ }
     requires { ⌜ ((i : ℕ) × Costs n (now f) (now sl) (now st) least i) ⌝ }
     ensures { λ r. ⌜ First-tied n (now (f .entry)) (now (sl .entry)) (now (st .entry)) (now (w .entry)) least r ⌝ }
 {
-    let mut a = walk::starts(sl);
+    let mut a = first(f, sl);
     let mut best = [65535u16; 4];
     let mut k = 0;
     while k < n {
-        let b = walk::at_turn(st, k, a);
+        let b = at_turn(f, st, k, a);
         a = b;
-        let m = meet_turn(f, w, a, least, best);
+        let t = a.total;
+        let p = a.places;
+        let m = meet_turn(t, w, p, least, best);
         best = m;
         k += 1;
     }

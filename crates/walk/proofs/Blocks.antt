@@ -125,8 +125,8 @@ module _ {n : ℕ} {f sl st : List ℕ} (w : Slots n f sl st) {k : ℕ} (lk : k 
               ∙ lows-at g a t i c (j - i) x (omega arith) lx (rw here (rows-in j lj)) (λ h lh ne r s. apart (i + h) (omega arith) (λ e. ne (omega arith)) (rw q at r) (rw q at s))
               ∙ ap (λ (y : ℕ). min y (lane t x)) (ap (λ (y : ℕ). getD g y 0) q ∙ m)
               ∙ le-antisymm
-                (all-above (min (leastOf with-p cap (u * 16)) (lane t x)) (omega arith) (λ v y lv ly e. let same : y ≡ x = omega arith in rw same (omega (arith, b .under v x lv lx))))
-                (omega (arith, more, b .over (leastOf with-p cap ((u + d) * 16)) x lx (least-cap with-p cap ((u + d) * 16)) (λ v lv. omega (arith, hit v x lv lx z, least-le with-p cap ((u + d) * 16) ((u + v) * 16 + x) (omega arith)))))
+              (all-above (min (leastOf with-p cap (u * 16)) (lane t x)) (omega arith) (λ v y lv ly e. let same : y ≡ x = omega arith in rw same (omega (arith, b .under v x lv lx))))
+              (omega (arith, more, b .over (leastOf with-p cap ((u + d) * 16)) x lx (least-cap with-p cap ((u + d) * 16)) (λ v lv. omega (arith, hit v x lv lx z, least-le with-p cap ((u + d) * 16) ((u + v) * 16 + x) (omega arith)))))
 
           outside : ((x : ℕ) → x < 16 → place sl st k j + x ≡ p → ⊥) → getD (lows g a t i c) p 0 ≡ leastOf with-p cap ((u + d) * 16)
           outside o =

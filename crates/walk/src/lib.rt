@@ -26,7 +26,7 @@ fn lesser(a: [u16; 16], b: [u16; 16]) -> [u16; 16]
 }
 
 // The row at place p.
-fn row_at(f: &[u16], p: usize) -> [u16; 16]
+pub fn row_at(f: &[u16], p: usize) -> [u16; 16]
     requires { ⌜ p + 16 ≤ length (now f) ⌝ }
     ensures { λ r. ⌜ Row (now (f .entry)) p r ⌝ }
 {
@@ -40,7 +40,7 @@ fn row_at(f: &[u16], p: usize) -> [u16; 16]
 }
 
 // Lane by lane, the sum of four rows.
-fn sum_of(a: [u16; 16], b: [u16; 16], c: [u16; 16], d: [u16; 16]) -> [u16; 16]
+pub fn sum_of(a: [u16; 16], b: [u16; 16], c: [u16; 16], d: [u16; 16]) -> [u16; 16]
     requires { ⌜ Each 16 (λ x. lane a x + lane b x + lane c x + lane d x < limit) ⌝ }
     ensures { λ r. ⌜ Each 16 (λ x. lane r x ≡ lane a x + lane b x + lane c x + lane d x) ⌝ }
 {
@@ -126,7 +126,7 @@ pub struct At {
 }
 
 // Turn 0, of any steps.
-pub fn first(f: &[u16], sl: &[u16]) -> At
+fn first(f: &[u16], sl: &[u16]) -> At
     requires { ⌜ Begins (now f) (now sl) ⌝ }
     ensures { λ r. ⌜ Standing (now (f .entry)) (now (sl .entry)) [] 0 r ⌝ }
 {
@@ -175,7 +175,7 @@ fn shift(f: &[u16], e: usize, p: usize, r: [u16; 16], t: [u16; 16], n: u32) -> S
 }
 
 // A slot that may change.
-fn may_shift(f: &[u16], e: usize, p: usize, r: [u16; 16], t: [u16; 16], n: u32) -> Slot
+pub fn may_shift(f: &[u16], e: usize, p: usize, r: [u16; 16], t: [u16; 16], n: u32) -> Slot
     requires { ⌜ Shift (now f) e p r t n ⌝ }
     ensures { λ s. ⌜ Shifted (now (f .entry)) e p t n s ⌝ }
 {
@@ -226,7 +226,7 @@ fn next(f: &[u16], st: &[u16], k: usize, a: At) -> At
 }
 
 // Any turn: the first one as it is.
-pub fn at_turn(f: &[u16], st: &[u16], k: usize, a: At) -> At
+fn at_turn(f: &[u16], st: &[u16], k: usize, a: At) -> At
     requires { ⌜ (0 < k → Movable (now f) (now st) k a) ⌝ }
     ensures { λ b. ⌜ (k ≡ 0 → b ≡ a) ⌝ }
     ensures { λ b. ⌜ (0 < k → Moved (now (f .entry)) (now (st .entry)) k a b) ⌝ }
