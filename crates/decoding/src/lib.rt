@@ -269,11 +269,11 @@ pub fn decode_accepted(
             );
         }
     }
-    if count <= 400 {
+    if count <= 336 {
         let mut t = [search::CAP as u32; 256];
-        let mut places = [search::CAP; 400];
-        let mut f = [search::CAP; 400];
-        let mut g = [search::CAP; 400];
+        let mut places = [search::CAP; 336];
+        let mut f = [search::CAP; 336];
+        let mut g = [search::CAP; 336];
         return decode_in(
             shape,
             row,

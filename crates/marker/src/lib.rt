@@ -114,10 +114,10 @@ fn excess(shape: Shape, row: &[i16], word: &[u8]) -> u32
             return excess_in(shape, row, &mut t, &mut places, &mut f, word);
         }
     }
-    if count <= 400 {
+    if count <= 336 {
         let mut t = [search::CAP; 256];
-        let mut places = [search::CAP; 400];
-        let mut f = [search::CAP; 400];
+        let mut places = [search::CAP; 336];
+        let mut f = [search::CAP; 336];
         return excess_in(shape, row, &mut t, &mut places, &mut f, word);
     }
     let mut t = [search::CAP; 4096];

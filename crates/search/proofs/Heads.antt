@@ -41,8 +41,8 @@ module _ (m r : ℕ) (a : accepted m r ≡ true) where
   pub states-in : 2 ^ syndrome-long m r * 4 ≤ 4096
   states-in = leb→le _ _ (tested (λ m r. leb (2 ^ syndrome-long m r * 4) 4096) tt m r a)
 
-  -- a code with at most 400 places has at most 64 cosets
-  pub small-in : start (slots m r) 4 ≤ 400 → 2 ^ syndrome-long m r * 4 ≤ 256
+  -- a code with at most 336 places has at most 64 cosets
+  pub small-in : start (slots m r) 4 ≤ 336 → 2 ^ syndrome-long m r * 4 ≤ 256
   unfolding slots slots-from room-from slot-bits place-columns
   small-in h =
-      leb→le _ _ (subst (λ (b : Bool). T (cond b (leb (2 ^ syndrome-long m r * 4) 256) true)) (le-leb _ _ h) (tested (λ m r. cond (leb (start (slots m r) 4) 400) (leb (2 ^ syndrome-long m r * 4) 256) true) tt m r a))
+      leb→le _ _ (subst (λ (b : Bool). T (cond b (leb (2 ^ syndrome-long m r * 4) 256) true)) (le-leb _ _ h) (tested (λ m r. cond (leb (start (slots m r) 4) 336) (leb (2 ^ syndrome-long m r * 4) 256) true) tt m r a))

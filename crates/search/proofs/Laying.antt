@@ -7,16 +7,21 @@ use borrow.Author.Tests.{eq-eqb}
 use lib.ListN.{replicate}
 use Rattle.code.specs.declared.Shape.{Shape}
 use Rattle.code.specs.Within.{Coded}
-use Rattle.spots.specs.Spots.{Placed}
-use Rattle.spots.specs.Promise.{Walkable, Walks}
+use Rattle.spots.specs.Promise.{Walkable, Walks, Walks-in-rounds}
+use Rattle.spots.specs.Spots.{Placed, round}
 use Rattle.spots.proofs.Walks.{walks, no-steps}
+use Rattle.spots.proofs.Rounds.{walks-in-rounds}
 use Rattle.trellis.proofs.Least.{least-le, least-found, least-cap, le-least}
 use Rattle.lanes.specs.Lanes.{lane}
 use Rattle.lanes.proofs.Rows.{four, lanes-at}
 use Rattle.gather.specs.Gather.{key-cost, Sixteens}
-use Rattle.walk.specs.Walk.{start, spot, total, least-total, Slots, Marginals}
+use Rattle.walk.specs.Walk.{start, spot, total, least-total, Slots, Rounds, Marginals}
 use Rattle.ties.specs.Ties.{spaced, number-of, words, First-tied, word-at, Agree}
 use Rattle.search.specs.Within.{cap, Laid, Ties, First-words, Cheap, Walked, slots-of, steps-of, turns-of, words-of}
+
+-- a walk of one turn is one round
+pub one-round : (st : List ℕ) → Rounds 1 1 st
+one-round st = record { bits = 0; few = omega arith; power = refl; whole = refl; changed = λ b l. absurd (omega arith); same = λ b j l. absurd (omega arith); still = λ b j l. absurd (omega arith) }
 
 -- words that are the same in each layer have one number
 pub number-same : (vs ws : List ℕ) → ((j : ℕ) → j < 4 → lane vs j ≡ lane ws j) → number-of vs ≡ number-of ws
@@ -48,6 +53,11 @@ module _ {s : Shape} (z : Coded s) where
 
     pub from-none : P sl (replicate 48 0) 1 → P (slots-of s) (steps-of s) (turns-of s)
     from-none h = subst (P (slots-of s) (steps-of s)) (sym one) (subst (λ (x : List ℕ). P (slots-of s) x 1) none (subst (λ (x : List ℕ). P x (replicate 48 0) 1) e h))
+
+  -- its rounds
+  pub rounds-ok : Rounds (turns-of s) (round (s .m) (s .r)) (steps-of s)
+  unfolding Walks-in-rounds
+  rounds-ok = walks-in-rounds (s .m) (s .r) (z .accepted-is)
 
   -- its places are taken sixteen at a time
   pub sixteens : {places : List ℕ} {n : ℕ} → Placed (s .m) (s .r) (s .size) places → n ≡ s .size * 4 → Sixteens n places

@@ -32,7 +32,7 @@ module _ {s : Shape} (z : Coded s) where
   pub least-rooms : {n : ℕ} (t places f g : List ℕ) → n ≡ start (slots-of s) 4 → n ≤ 64 → s .size ≤ 16 → length t ≡ 64 → length places ≡ 64 → length f ≡ 64 → length g ≡ 64 → Roomy s t places f g
   least-rooms t places f g e h l = rooms t places f g (omega arith) (omega arith) (omega arith)
 
-  pub small-rooms : {n : ℕ} (t places f g : List ℕ) → n ≡ start (slots-of s) 4 → n ≤ 400 → length t ≡ 256 → length places ≡ 400 → length f ≡ 400 → length g ≡ 400 → Roomy s t places f g
+  pub small-rooms : {n : ℕ} (t places f g : List ℕ) → n ≡ start (slots-of s) 4 → n ≤ 336 → length t ≡ 256 → length places ≡ 336 → length f ≡ 336 → length g ≡ 336 → Roomy s t places f g
   small-rooms t places f g e h = rooms t places f g (omega (arith, size-is, H.small-in (s .m) (s .r) (z .accepted-is) (omega arith))) (omega arith) (omega arith)
 
   pub large-rooms : (t places f g : List ℕ) → length t ≡ 4096 → length places ≡ 4096 → length f ≡ 4096 → length g ≡ 4096 → Roomy s t places f g

@@ -197,10 +197,13 @@ fn walk_all(shape: Shape, f: &[u16], g: &mut [u16]) -> u16
     let n = spots::turns(shape.m, shape.r);
     if n == 1 {
         let none = [0u16; 48];
-        return walk::walk(f, &sl, &none, 1, 1, g, CAP);
+        let found = walk::walk(f, &sl, &none, 1, 1, g, CAP);
+        return found.least;
     }
     let st = spots::steps(shape.m, shape.r);
-    walk::walk(f, &sl, &st, n, spots::round(shape.m, shape.r), g, CAP)
+    let round = spots::round(shape.m, shape.r);
+    let found = walk::walk(f, &sl, &st, n, round, g, CAP);
+    found.least
 }
 
 // The words of the places that take part in the least total, and whether each slot has one.
@@ -282,10 +285,13 @@ pub fn least_of(shape: Shape, t: &[u16], places: &mut [u16], f: &mut [u16]) -> u
     let n = spots::turns(shape.m, shape.r);
     if n == 1 {
         let none = [0u16; 48];
-        return walk::least_of(f, &sl, &none, 1, 1, CAP);
+        let found = walk::least_of(f, &sl, &none, 1, 1, CAP);
+        return found.least;
     }
     let st = spots::steps(shape.m, shape.r);
-    walk::least_of(f, &sl, &st, n, spots::round(shape.m, shape.r), CAP)
+    let round = spots::round(shape.m, shape.r);
+    let found = walk::least_of(f, &sl, &st, n, round, CAP);
+    found.least
 }
 
 // The bit of a word at a place.

@@ -1,9 +1,10 @@
 -- What the slots add to a turn, one after the other: a step that is not 0 leads to another place, and each total between is made of old rows and new ones.
 -- Assumes nothing.
-use Rattle.basics.proofs.Kit.{_≡_, refl, sym, ap, _∙_, Bool, true, false, cond, List, [], _∷_, ℕ, zero, suc, _+_, _-_, _*_, _/_, _%_, _^_, _≤_, _<_, arith, eqb, length, getD}
+use Rattle.basics.proofs.Kit.{_≡_, refl, sym, ap, _∙_, Bool, true, false, cond, List, [], _∷_, ℕ, zero, suc, _+_, _-_, _^_, _≤_, _<_, arith, eqb, length, getD}
 use borrow.Author.Tests.{eq-eqb, ne-eqb}
-use lib.Arith.{bin-ind}
-use lib.Bits.{bitXor, differ, xor-step, xor-zero-r}
+use lib.Bits.{bitXor, xor-zero-r}
+use Rattle.field.specs.Field.{xor}
+use Rattle.field.proofs.Xor as X
 use Rattle.lanes.specs.Lanes.{lane}
 use Rattle.walk.specs.declared.At.{At}
 use Rattle.walk.specs.declared.Slot.{Slot}
@@ -12,27 +13,8 @@ use Rattle.walk.specs.Turns.{Each, Row, Shift, Shifted, Movable, Moved}
 
 -- a place is another after any step but 0
 no-step : (e p : ℕ) → bitXor p e ≡ p → e ≡ 0
-no-step = bin-ind (λ (e : ℕ). (p : ℕ) → bitXor p e ≡ p → e ≡ 0) (λ p h. refl) (λ e ih p h. go e ih p h (p % 2) (e % 2) refl refl (xor-step p e))
-  where
-    go : (e : ℕ) → ((p : ℕ) → bitXor p (e / 2) ≡ p → e / 2 ≡ 0) → (p : ℕ) → bitXor p e ≡ p →
-        (a b : ℕ) → p % 2 ≡ a → e % 2 ≡ b → bitXor p e ≡ bitXor (p / 2) (e / 2) * 2 + differ (p % 2) (e % 2) → e ≡ 0
-    go e ih p h zero zero q r s =
-        let d : differ (p % 2) (e % 2) ≡ 0 = rw (q, r) refl in
-        omega (arith, ih (p / 2) (omega arith))
-    go e ih p h zero (suc b) q r s =
-        let d : differ (p % 2) (e % 2) ≡ suc b = rw (q, r) refl in
-        omega arith
-    go e ih p h (suc a) zero q r s =
-        let d : differ (p % 2) (e % 2) ≡ suc a = rw (q, r) refl in
-        omega (arith, ih (p / 2) (omega arith))
-    go e ih p h (suc a) (suc b) q r s =
-        let c : b ≡ a = omega arith in
-        let d : differ (p % 2) (e % 2) ≡ 0 = rw (q, r, c) (same a) in
-        omega arith
-      where
-        same : (n : ℕ) → differ n n ≡ 0
-        same zero = refl
-        same (suc n) = same n
+unfolding xor
+no-step e p h = sym (X.cancel p e) ∙ ap (bitXor p) h ∙ X.self p
 
 pub one-more : (p e n : ℕ) → 0 < e → n + 1 ≡ n + cond (eqb (bitXor p e) p) 0 1
 one-more p e n l = rw (ne-eqb (bitXor p e) p (λ h. omega (arith, no-step e p h))) refl

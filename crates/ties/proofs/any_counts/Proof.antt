@@ -7,14 +7,13 @@ use Rattle.ties.proofs.any_counts.Statement.{statement}
 use Rattle.ties.proofs.any_counts.Tie as tie
 
 abbrev Inv-loop : tie.InvT-loop
-Inv-loop f w a least b any₀ x₀ any x = (x ≤ 16) × (any ≡ 0 → Before-all f w a least b x)
+Inv-loop w a least b t any₀ x₀ any x = (x ≤ 16) × (any ≡ 0 → Before-all t w a least b x)
 
 abbrev μ-loop : tie.MeasureT-loop
-μ-loop f w a least b any₀ x₀ any x = 16 - x
+μ-loop w a least b t any₀ x₀ any x = 16 - x
 
 counts-requires : tie.Need-counts-requires Inv-loop μ-loop
-counts-requires c κs = let s = c .before .before .before .before in
-    ((s .pre .0 .inside, omega arith), (s .pre .1, s .pre .0 .room (c .before .loop .x) (omega arith)))
+counts-requires c κs = (c .before .before .before .pre, omega arith)
 
 loop-again : tie.Need-loop-again Inv-loop μ-loop
 loop-again c = (omega arith, none-more (c .before .before .loop .inv .1) (c .counts .ensures))
@@ -26,6 +25,8 @@ any-counts-spec =
     Inv-loop
     μ-loop
     (λ c. (omega arith, λ e y l. absurd (omega arith)))
+    (λ c. search needs)
+    (λ c. search needs)
     counts-requires
     (λ c. search needs)
     (λ c. search needs)

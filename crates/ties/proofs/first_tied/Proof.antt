@@ -1,7 +1,8 @@
 -- `ties::first_tied` meets its contract.
 -- Assumes nothing.
 use Rattle.basics.proofs.Kit.{_≡_, refl, _+_, _-_, _*_, _≤_, arith}
-use Rattle.walk.proofs.Turns.{Standing, stands-first, stands, bit-below}
+use Rattle.walk.specs.Turns.{Standing}
+use Rattle.walk.proofs.Turns.{begins, any-steps, movable, arrives}
 use Rattle.ties.proofs.Symbols.{last}
 use Rattle.ties.proofs.Turns.{rows-of}
 use Rattle.ties.proofs.Firsts.{Tied, tied-start, tied-turn, tied-end}
@@ -9,7 +10,7 @@ use Rattle.ties.proofs.first_tied.Statement.{statement}
 use Rattle.ties.proofs.first_tied.Tie as tie
 
 abbrev Inv-loop : tie.InvT-loop
-Inv-loop f w sl st n least a₀ best₀ k₀ a best k = (k ≤ n) × Standing sl st (k - 1) a × Tied n f sl st w least (k * 16) best
+Inv-loop f w sl st n least a₀ best₀ k₀ a best k = (k ≤ n) × Standing f sl st (k - 1) a × Tied n f sl st w least (k * 16) best
 
 abbrev μ-loop : tie.MeasureT-loop
 μ-loop f w sl st n least a₀ best₀ k₀ a best k = n - k
@@ -19,20 +20,22 @@ from c = c .before .before .before .before .before .before .before
 
 loop-holds : tie.Need-loop-holds Inv-loop μ-loop
 unfolding last
-loop-holds c = (omega arith, stands-first (c .starts .ensures), tied-start _ refl)
+loop-holds c = (omega arith, any-steps (c .first .ensures) (c .before .before .before .before .before .args .st .now), tied-start _ refl)
 
 at-turn-requires : tie.Need-at-turn-requires Inv-loop μ-loop
-at-turn-requires c κs = let z = from c .pre .0 in (z .steps, bit-below z (c .before .loop .k) (c .loop-test .taken))
+at-turn-requires c κs l = movable (from c .pre .0) l (c .loop-test .taken) (c .before .loop .inv .1)
 
 -- where the walk stands at this turn
-standing : (c : tie.After-at-turn Inv-loop μ-loop) → Standing (from (c .before) .args .sl .now) (from (c .before) .args .st .now) (c .before .before .loop .k) (c .at-turn .result)
-standing c = stands (c .before .before .loop .inv .1) (c .at-turn .result) (c .at-turn .ensures)
+standing : (c : tie.After-at-turn Inv-loop μ-loop) → let a = from (c .before) .args in Standing (a .f .now) (a .sl .now) (a .st .now) (c .before .before .loop .k) (c .at-turn .result)
+standing c = arrives (from (c .before) .pre .0) (c .before .before .loop .inv .1) (c .at-turn .ensures .0) (c .at-turn .ensures .1)
 
 meet-turn-requires : tie.Need-meet-turn-requires Inv-loop μ-loop
-meet-turn-requires c κs = let p = from (c .before) .pre in (rows-of (standing c) (p .0) (c .before .loop-test .taken), p .1 .0)
+meet-turn-requires c κs = let b = c .before .before in
+    let p = from (b .before) .pre in
+    rows-of (standing b) (p .0) (b .before .loop-test .taken) (p .1 .0)
 
 loop-again : tie.Need-loop-again Inv-loop μ-loop
-loop-again c = let b = c .before in
+loop-again c = let b = c .before .before .before in
     let l = b .before .before .loop in
     let e : l .k + 1 - 1 ≡ l .k = omega arith in
     (omega arith, rw e (standing b), tied-turn (standing b) (b .before .loop-test .taken) (l .inv .2) (c .meet-turn .result) (c .meet-turn .ensures))
@@ -49,7 +52,7 @@ first-tied-spec =
     (tie.spec
     Inv-loop
     μ-loop
-    (λ c κs. omega arith)
+    (λ c κs. begins (c .before .before .before .before .pre .0))
     loop-holds
     at-turn-requires
     meet-turn-requires
