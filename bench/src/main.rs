@@ -5,7 +5,8 @@
 //!     bench time WHICH CALL CODE N [ROWS]  nanoseconds a call, the least of five runs of N calls
 //!
 //! WHICH is library, plain or, for codes 1 to 3, wolf; CALL is decode or mark, for library and plain also quantise or receive, for the
-//! library alone list: a listing of the whole pool. ROWS is random, as where none is named, or zero, sparse or small (of -1, 0 and 1).
+//! library alone list, a listing of the whole pool, or paper, one of 200 questions, the pool again and again. ROWS is random, as where none
+//! is named, or zero, sparse or small (of -1, 0 and 1).
 
 mod codes;
 mod front;
@@ -21,6 +22,7 @@ use wolf::Wolf;
 
 /// As many rows are made before any call, so that a call's cost is the difference of two runs.
 const POOL: usize = 32;
+const PAPER: usize = 200;
 
 struct Decoders {
     number: u32,
@@ -173,7 +175,12 @@ fn calls(which: &str, call: &str, decoders: &mut Decoders, pool: &[(Vec<i16>, Ve
     let code = Code::of(decoders.number);
     let mut word = vec![0; code.n];
     let mut soft = vec![0; code.bits()];
-    let sheet = if call == "list" { library::sheet(decoders.number, pool) } else { vec![] };
+    let questions: Vec<_> = match call {
+        "list" => pool.to_vec(),
+        "paper" => pool.iter().cycle().take(PAPER).cloned().collect(),
+        _ => vec![],
+    };
+    let sheet = library::sheet(decoders.number, &questions);
     let mut text = vec![0; library::LISTING];
     let front = Front::new(code.bits());
     for (k, (row, handed)) in pool.iter().cycle().take(n).enumerate() {
@@ -186,7 +193,7 @@ fn calls(which: &str, call: &str, decoders: &mut Decoders, pool: &[(Vec<i16>, Ve
                 front.receive(which, decoders.number, k, &mut soft);
                 black_box(&soft);
             }
-            "list" => {
+            "list" | "paper" => {
                 black_box(library::list(black_box(&sheet), &mut text).expect("a listing"));
             }
             "decode" => {

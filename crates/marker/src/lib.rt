@@ -4,7 +4,6 @@
 use code::Chosen;
 use code::Shape;
 ghost use mathlib.Core.Path.{_≡_};
-ghost use lib.ListN.{length};
 ghost use Rattle.code.specs.Code.{number-refusal, width, roots, is-codeword, parameter-refusal};
 ghost use Rattle.code.specs.Within.{Coded};
 ghost use Rattle.metric.specs.Metric.{Greatest};

@@ -2,7 +2,7 @@
 // functions are for the search; their promises cite specs/Spots.antt and the crate tails.
 ghost use mathlib.Core.Path.{_≡_};
 ghost use mathlib.Core.Bool.{true};
-ghost use Prim.Native.Nat.{_+_, _*_, _^_, _≤_, _<_};
+ghost use Prim.Native.Nat.{_+_, _*_, _^_, _<_};
 ghost use lib.ListN.{length, getD, take};
 ghost use Rattle.code.specs.Code.{accepted, long, syndrome-long};
 ghost use Rattle.tails.specs.Tails.{columns, turns};

@@ -1,6 +1,6 @@
 -- The least total over a block of turns, lane by lane, and what the marginals gain by it: a row that stands still over the block is lowered once.
 -- Assumes nothing.
-use Rattle.basics.proofs.Kit.{_≡_, refl, sym, ap, ap₂, _∙_, Bool, true, cond, List, ℕ, suc, _+_, _-_, _*_, _/_, _%_, _^_, _≤_, _<_, min, arith, length, getD, eqb}
+use Rattle.basics.proofs.Kit.{_≡_, refl, sym, ap, _∙_, cond, List, ℕ, suc, _+_, _-_, _*_, _/_, _%_, _≤_, _<_, min, arith, length, getD, eqb}
 use native.Mathlib.Nat.{le-antisymm}
 use native.Mathlib.Decide.{decLe, ℕ-discrete}
 use borrow.Author.Tests.{eq-eqb, ne-eqb}
@@ -11,7 +11,7 @@ use Rattle.trellis.proofs.Least.{least-cap, least-le, le-least}
 use Rattle.walk.specs.declared.At.{At}
 use Rattle.walk.specs.Walk.{start, place, spot, total, least-total, least-at, Slots}
 use Rattle.walk.specs.Turns.{Each, Small, lows, Standing}
-use Rattle.walk.proofs.Rows.{lows-length, lows-other, lows-at, lows-small}
+use Rattle.walk.proofs.Rows.{lows-other, lows-at}
 use Rattle.walk.proofs.Turns.{spot-at, later, row-in}
 
 -- the least of cap and of the totals of d turns from turn u on

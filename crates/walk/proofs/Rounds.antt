@@ -1,6 +1,6 @@
 -- The rounds of the walk: what the turns of a round leave, one by one, and what a round leaves.
 -- Assumes nothing.
-use Rattle.basics.proofs.Kit.{_≡_, refl, sym, ap, _∙_, Bool, true, false, cond, List, [], ℕ, zero, suc, _+_, _-_, _*_, _/_, _%_, _^_, _≤_, _<_, min, arith, length, getD}
+use Rattle.basics.proofs.Kit.{_≡_, sym, ap, _∙_, Bool, true, false, cond, List, [], ℕ, zero, suc, _+_, _-_, _*_, _/_, _≤_, _<_, min, arith, length, getD}
 use mathlib.Core.Bool.{false≢true}
 use native.Mathlib.Nat.{suc-mul, mul-le-mul-right, div-add-mod'}
 use native.Mathlib.Decide.{decLe}
@@ -10,8 +10,8 @@ use lib.ListN.{replicate}
 use Rattle.lanes.specs.Lanes.{lane, limit}
 use Rattle.trellis.specs.Trellis.{leastOf}
 use Rattle.walk.specs.declared.At.{At}
-use Rattle.walk.specs.Walk.{start, step, changed-bit, place, total, movers, least-at, Slots, Rounds, Marginals}
-use Rattle.walk.specs.Turns.{Each, Small, lows, Blank, Standing, Moved, Together}
+use Rattle.walk.specs.Walk.{step, changed-bit, place, total, movers, least-at, Slots, Rounds, Marginals}
+use Rattle.walk.specs.Turns.{Each, lows, Blank, Standing, Together}
 use Rattle.walk.proofs.Rows.{lows-length, lows-small}
 use Rattle.walk.proofs.Turns.{any-steps, movers-few, together, within}
 use Rattle.walk.proofs.Blocks.{Block, block-none, block-turn, block-join, Marked, rows-in, not-lowered, lowered}

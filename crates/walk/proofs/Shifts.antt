@@ -1,6 +1,6 @@
 -- What the slots add to a turn, one after the other: a step that is not 0 leads to another place, and each total between is made of old rows and new ones.
 -- Assumes nothing.
-use Rattle.basics.proofs.Kit.{_≡_, refl, sym, ap, _∙_, Bool, true, false, cond, List, [], _∷_, ℕ, zero, suc, _+_, _-_, _^_, _≤_, _<_, arith, eqb, length, getD}
+use Rattle.basics.proofs.Kit.{_≡_, refl, sym, ap, _∙_, Bool, true, false, cond, List, [], _∷_, ℕ, zero, suc, _+_, _-_, _^_, _≤_, _<_, arith, eqb}
 use borrow.Author.Tests.{eq-eqb, ne-eqb}
 use lib.Bits.{bitXor, xor-zero-r}
 use Rattle.field.specs.Field.{xor}
@@ -9,7 +9,7 @@ use Rattle.lanes.specs.Lanes.{lane}
 use Rattle.walk.specs.declared.At.{At}
 use Rattle.walk.specs.declared.Slot.{Slot}
 use Rattle.walk.specs.Walk.{step, changed-bit}
-use Rattle.walk.specs.Turns.{Each, Row, Shift, Shifted, Movable, Moved}
+use Rattle.walk.specs.Turns.{Shift, Shifted, Movable, Moved}
 
 -- a place is another after any step but 0
 no-step : (e p : ℕ) → bitXor p e ≡ p → e ≡ 0

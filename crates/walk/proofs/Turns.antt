@@ -5,10 +5,10 @@ use native.Mathlib.Nat.{pow-suc, mul-assoc}
 use native.Mathlib.Decide.{decLe, ℕ-discrete}
 use lib.Bits.{bitXor}
 use lib.Count.{trailingZeros, under}
-use Rattle.lanes.specs.Lanes.{lane, limit}
+use Rattle.lanes.specs.Lanes.{lane}
 use Rattle.walk.specs.declared.At.{At}
 use Rattle.walk.specs.Walk.{sum4, start, step, changed-bit, place, spot, total, change, changes, movers, Slots, Rounds}
-use Rattle.walk.specs.Turns.{Each, Row, row-sum, to, Standing, Movable, Moved, Together, Begins}
+use Rattle.walk.specs.Turns.{Each, Row, to, Standing, Movable, Moved, Together, Begins}
 use Rattle.walk.proofs.Shifts.{at-most-one}
 
 -- the bit that changes is one of the first d

@@ -1,9 +1,7 @@
 -- `ties::next` meets its contract.
 -- Assumes nothing.
 use Rattle.basics.proofs.Kit.{_+_, _*_, arith}
-use Rattle.lanes.specs.Lanes.{lane}
-use Rattle.walk.specs.Walk.{step, changed-bit}
-use Rattle.walk.specs.Turns.{Shifted}
+use Rattle.walk.specs.Walk.{changed-bit}
 use Rattle.walk.proofs.Shifts.{asks0, asks1, asks2, asks3, turned}
 use Rattle.ties.proofs.next.Statement.{statement}
 use Rattle.ties.proofs.next.Tie as tie

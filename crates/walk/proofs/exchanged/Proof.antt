@@ -1,6 +1,6 @@
 -- `walk::exchanged` meets its contract.
 -- Assumes nothing.
-use Rattle.basics.proofs.Kit.{refl, _+_, _-_, _^_, _≤_, _<_, arith}
+use Rattle.basics.proofs.Kit.{refl, _+_, _-_, arith}
 use Rattle.lanes.specs.Lanes.{lane}
 use Rattle.walk.proofs.Rows.{Made, made-start, made-more, made-end}
 use Rattle.walk.proofs.exchanged.Statement.{statement}

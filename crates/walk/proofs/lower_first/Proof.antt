@@ -1,9 +1,9 @@
 -- `walk::lower_first` meets its contract.
 -- Assumes nothing.
-use Rattle.basics.proofs.Kit.{_≡_, refl, sym, ap, ap₂, _∙_, Bool, List, ℕ, cond, arith, needs, length}
+use Rattle.basics.proofs.Kit.{_≡_, sym, ap, ap₂, _∙_, Bool, List, ℕ, cond, arith, needs}
 use Rattle.lanes.specs.Lanes.{lane}
 use Rattle.walk.specs.Turns.{low, lows}
-use Rattle.walk.proofs.Rows.{lows-length, asks}
+use Rattle.walk.proofs.Rows.{asks}
 use Rattle.walk.proofs.lower_first.Statement.{statement}
 use Rattle.walk.proofs.lower_first.Tie as tie
 

@@ -1,6 +1,6 @@
 -- `walk::lower_rest` meets its contract.
 -- Assumes nothing.
-use Rattle.basics.proofs.Kit.{_≡_, refl, sym, ap, ap₂, _∙_, Bool, List, ℕ, _-_, cond, arith, needs, length}
+use Rattle.basics.proofs.Kit.{_≡_, sym, ap, ap₂, _∙_, Bool, List, ℕ, _-_, cond, arith, needs}
 use Rattle.lanes.specs.Lanes.{lane}
 use Rattle.walk.specs.Turns.{low, lows}
 use Rattle.walk.proofs.Rows.{asks}

@@ -1,6 +1,6 @@
 -- `walk::may_shift` meets its contract.
 -- Assumes nothing.
-use Rattle.basics.proofs.Kit.{arith, needs}
+use Rattle.basics.proofs.Kit.{arith}
 use Rattle.walk.proofs.Shifts.{stays}
 use Rattle.walk.proofs.may_shift.Statement.{statement}
 use Rattle.walk.proofs.may_shift.Tie as tie

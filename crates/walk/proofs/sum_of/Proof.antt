@@ -1,7 +1,7 @@
 -- `walk::sum_of` meets its contract.
 -- Assumes nothing.
-use Rattle.basics.proofs.Kit.{refl, _+_, _-_, _<_, arith}
-use Rattle.lanes.specs.Lanes.{lane, limit}
+use Rattle.basics.proofs.Kit.{refl, _+_, _-_, arith}
+use Rattle.lanes.specs.Lanes.{lane}
 use Rattle.walk.proofs.Rows.{Made, made-start, made-more, made-end}
 use Rattle.walk.proofs.sum_of.Statement.{statement}
 use Rattle.walk.proofs.sum_of.Tie as tie

@@ -3,7 +3,7 @@
 use Rattle.basics.proofs.Kit.{_≡_, sym, ℕ, _+_, _*_, _<_, arith}
 use Rattle.lanes.specs.Lanes.{lane}
 use Rattle.walk.specs.Walk.{step, changed-bit}
-use Rattle.walk.specs.Turns.{Shift, Shifted}
+use Rattle.walk.specs.Turns.{Shifted}
 use Rattle.walk.proofs.Shifts.{asks0, asks1, asks2, asks3, stays, turned}
 use Rattle.walk.proofs.turn.Statement.{statement}
 use Rattle.walk.proofs.turn.Tie as tie

@@ -1,13 +1,12 @@
 -- `walk::walk_any` meets its contract.
 -- Assumes nothing.
-use Rattle.basics.proofs.Kit.{_≡_, refl, ap, _∙_, Bool, true, cond, List, ℕ, _+_, _-_, _≤_, _<_, arith, length}
-use Rattle.lanes.specs.Lanes.{limit}
-use Rattle.walk.specs.Walk.{movers, Slots, Rounds}
-use Rattle.walk.specs.Turns.{lows, Standing}
+use Rattle.basics.proofs.Kit.{_≡_, refl, _∙_, true, _+_, _-_, _≤_, _<_, arith, length}
+use Rattle.walk.specs.Walk.{movers}
+use Rattle.walk.specs.Turns.{Standing}
 use Rattle.walk.proofs.Rows.{marked-length}
 use Rattle.walk.proofs.Turns.{begins, movers-few, movable, arrives, stands}
 use Rattle.walk.proofs.Blocks.{Block, Marked, block-least}
-use Rattle.walk.proofs.Rounds.{Walking, Rounding, some-turns, starts, fits, as-one, round-start, places-in, turn-block, lowered-first, least-more, round-more, last-places, lowered-rest, round-end, all-marginals}
+use Rattle.walk.proofs.Rounds.{Walking, Rounding, starts, fits, as-one, round-start, places-in, turn-block, lowered-first, least-more, round-more, last-places, lowered-rest, round-end, all-marginals}
 use Rattle.walk.proofs.walk_any.Statement.{statement}
 use Rattle.walk.proofs.walk_any.Tie as tie
 
