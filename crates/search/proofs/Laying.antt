@@ -101,7 +101,6 @@ module _ {s : Shape} (z : Coded s) where
         ends = sym (l .gathered .long ∙ l .placed .long);
         above = w .above;
         below = w .below;
-        short = omega (arith, l .gathered .long, l .placed .long, w .short);
         room = λ i li. omega (arith, total-le i li);
       }
 

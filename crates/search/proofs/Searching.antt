@@ -1,4 +1,4 @@
--- THE SEARCH AT AN ACCEPTED ROW: what the walk asks, that the least total is the least cost of a codeword, that the words it names are those of the first
+-- THE SEARCH AT AN ACCEPTED ROW: that the least total is the least cost of a codeword, that the words it names are those of the first
 -- such codeword, and that what it leaves for each coset is what the other layers cost.
 -- Assumes nothing.
 use Rattle.basics.proofs.Kit.{_≡_, refl, sym, ap, _∙_, Bool, true, false, cond, List, ℕ, suc, _+_, _-_, _*_, _/_, _%_, _^_, _≤_, _<_, arith, length, getD, eqb, ℤ}
@@ -13,7 +13,7 @@ use Rattle.split.specs.Split.{layer}
 use Rattle.tails.specs.Tails.{added, visited}
 use Rattle.tails.specs.Promise.{Codewords-visited}
 use Rattle.spots.specs.Spots.{slots-from, slots}
-use Rattle.spots.specs.Promise.{Walkable, Walks, Spot-visited, Visited-inside, Visited-high}
+use Rattle.spots.specs.Promise.{Spot-visited, Visited-inside, Visited-high}
 use Rattle.metric.specs.Row.{row-bound}
 use Rattle.metric.specs.Cost.{weight-of, cost, Least}
 use Rattle.metric.proofs.Bounds.{weight-le}
@@ -21,19 +21,19 @@ use Rattle.trellis.specs.Trellis.{back, free, final, leastOf}
 use Rattle.trellis.specs.Rows.{layer as column-of}
 use Rattle.trellis.proofs.Least.{least-same, least-le, least-found}
 use Rattle.lanes.specs.Lanes.{entry}
-use Rattle.lanes.proofs.Rows.{four}
 use Rattle.coset.specs.Coset.{none, least, Keys}
 use Rattle.gather.specs.Gather.{key-cost, Scattered}
-use Rattle.walk.specs.Walk.{start, spot, total, least-total, least-at, Slots, Marginals}
+use Rattle.walk.specs.Walk.{start, spot, total, least-total, least-at, Marginals}
 use Rattle.bridge.specs.Bridge.{Setting}
 use Rattle.bridge.proofs.Engine.{over, Others, part-le}
 use Rattle.bridge.proofs.Bridge.{table}
 use Rattle.bridge.proofs.Found as S
 use Rattle.search.specs.Within.{cap, bound, Input, Layered, Costing, Laid, Cheap, slots-of, steps-of, turns-of}
 use Rattle.tails.proofs.Walk.{codewords-visited}
-use Rattle.spots.proofs.Walks.{walks, spot-visited, visited-inside, visited-high}
+use Rattle.spots.proofs.Walks.{spot-visited, visited-inside, visited-high}
 use Rattle.coset.proofs.Search as C
 use Rattle.tails.proofs.Codewords.{columns-long}
+use Rattle.search.proofs.Laying.{spot-in, spot-long}
 
 module _ {s : Shape} {row : List ℤ} {hs zs os : List ℕ} (z : Input s row) (b : Layered s row hs zs os) where
   abbrev coset : ℕ → ℕ → ℕ
@@ -122,65 +122,20 @@ module _ {s : Shape} {row : List ℤ} {hs zs os : List ℕ} (z : Input s row) (b
       abbrev st : List ℕ
       st = steps-of s
 
-      w : Walkable (s .m) (s .r)
-      unfolding Walks
-      w = walks (s .m) (s .r) (z .coded .accepted-is)
-
       -- where tuple i stands in slot j
       pub stands : (i j : ℕ) → i < tuples → j < 4 → getD places (spot sl st i j) 0 ≡ coset i j * 4 + j
       unfolding Spot-visited
       stands i j li lj = spot-visited (s .m) (s .r) (s .size) i j places (z .coded .accepted-is) (l .placed) li lj
 
-      turn : (i : ℕ) → i < tuples → i / 16 < turns-of s
-      turn i h = omega arith
-
-      spot-in : (i j : ℕ) → i < tuples → j < 4 → (start sl j ≤ spot sl st i j) × (spot sl st i j < start sl (suc j))
-      spot-in i j li lj = (omega (arith, w .above (i / 16) j (turn i li) lj), omega (arith, w .below (i / 16) j (turn i li) lj))
-
-      ordered : (j : ℕ) → j < 4 → start sl j ≤ start sl (suc j)
-      ordered j lj = omega (arith, w .above 0 j (w .some) lj, w .below 0 j (w .some) lj)
-
-      spot-long : (i j : ℕ) → i < tuples → j < 4 → spot sl st i j < length places
-      spot-long i j li lj =
-          four (λ j. spot sl st i j < start sl (suc j) → spot sl st i j < length places)
-          (λ h. omega (arith, ordered 1 (omega arith), ordered 2 (omega arith), ordered 3 (omega arith), l .placed .long))
-          (λ h. omega (arith, ordered 2 (omega arith), ordered 3 (omega arith), l .placed .long))
-          (λ h. omega (arith, ordered 3 (omega arith), l .placed .long))
-          (λ h. omega (arith, l .placed .long)) j lj (spot-in i j li lj .1)
-
       place-cost : (i j : ℕ) → i < tuples → j < 4 → getD f (spot sl st i j) 0 ≡ F j (coset i j)
       place-cost i j li lj =
-          l .gathered .costs (spot sl st i j) (spot-long i j li lj)
+          l .gathered .costs (spot sl st i j) (spot-long (z .coded) l i j li lj)
           ∙ ap cost (stands i j li lj)
           ∙ entry-cost (coset i j) j (coset-in i j lj) lj
 
       pub total-is : (i : ℕ) → i < tuples → total f sl st i ≡ over F (coset i)
       unfolding total
       total-is i li = omega (arith, place-cost i 0 li (omega arith), place-cost i 1 li (omega arith), place-cost i 2 li (omega arith), place-cost i 3 li (omega arith))
-
-      over-le : (i : ℕ) → over F (coset i) ≤ 7620
-      over-le i =
-          omega (
-            arith,
-            F-le 0 (coset i 0) (omega arith) (coset-in i 0 (omega arith)),
-            F-le 1 (coset i 1) (omega arith) (coset-in i 1 (omega arith)),
-            F-le 2 (coset i 2) (omega arith) (coset-in i 2 (omega arith)),
-            F-le 3 (coset i 3) (omega arith) (coset-in i 3 (omega arith)),
-          )
-
-      -- what the walk asks
-      pub slots-ok : Slots (turns-of s) f sl st
-      slots-ok = record {
-        some = w .some;
-        few = w .few;
-        slots = w .slots-long;
-        steps = w .steps-long;
-        ends = sym (l .gathered .long ∙ l .placed .long);
-        above = w .above;
-        below = w .below;
-        short = omega (arith, l .gathered .long, l .placed .long, w .short);
-        room = λ i li. omega (arith, total-is i li, over-le i);
-      }
 
       abbrev best : ℕ
       best = S.best y none cap bound light (omega arith) (omega arith)
@@ -211,7 +166,7 @@ module _ {s : Shape} {row : List ℤ} {hs zs os : List ℕ} (z : Input s row) (b
         at-spot : (i j : ℕ) → i < tuples → j < 4 → getD g (spot sl st i j) 0 ≤ total f sl st i
         at-spot i j li lj =
             let p : ℕ = spot sl st i j in
-            let o = spot-in i j li lj in
+            let o = spot-in (z .coded) i j li lj in
             omega (
               arith,
               mg j p lj (o .0) (o .1),
@@ -229,7 +184,7 @@ module _ {s : Shape} {row : List ℤ} {hs zs os : List ℕ} (z : Input s row) (b
                 omega (
                   arith,
                   sc .others x (omega (arith, coset-in i j lj)),
-                  least-le (λ p. cond (eqb (getD places p 0) x) (getD g p 0 - getD f p 0) cap) cap (length places) p (spot-long i j li lj),
+                  least-le (λ p. cond (eqb (getD places p 0) x) (getD g p 0 - getD f p 0) cap) cap (length places) p (spot-long (z .coded) l i j li lj),
                   ap (λ (y : Bool). cond y (getD g p 0 - getD f p 0) cap) (eq-eqb (getD places p 0) x (stands i j li lj)),
                   at-spot i j li lj,
                   total-is i li,

@@ -49,7 +49,6 @@ module _ (m r : ℕ) (a : accepted m r ≡ true) where
         ends = l;
         above = w .above;
         below = w .below;
-        short = omega (arith, w .short, l);
         room = λ i h. omega (arith, z i 0, z i 1, z i 2, z i 3);
       }
 

@@ -3,7 +3,7 @@
 use walk::At;
 ghost use mathlib.Core.Path.{_≡_};
 ghost use mathlib.Core.Bool.{true, cond, _&&_};
-ghost use mathlib.Core.List.{[]};
+ghost use mathlib.Core.List.{List};
 ghost use Prim.Native.Nat.{ℕ, _+_, _<_, _≤_};
 ghost use lib.Dec.{eqb, ltb};
 ghost use lib.ListN.{length, getD};
@@ -257,11 +257,11 @@ fn meet_turn(t: [u16; 16], w: &[u16], a: [usize; 4], least: u16, b: [u16; 4]) ->
     meet_lanes(t, w, a, least, b)
 }
 
-// THE WALK AGAIN: turn 0, of any steps. These three functions are those of the first walk once more, over the same promises: the compiler puts in line
+// THE WALK AGAIN: turn 0, of any steps. These two functions are those of the first walk once more, over the same promises: the compiler puts in line
 // what is called in one place, and the first walk takes a third more instructions where it is not put in line.
 fn first(f: &[u16], sl: &[u16]) -> At
     requires { ⌜ Begins (now f) (now sl) ⌝ }
-    ensures { λ r. ⌜ Standing (now (f .entry)) (now (sl .entry)) [] 0 r ⌝ }
+    ensures { λ r. ⌜ ((st : List ℕ) → Standing (now (f .entry)) (now (sl .entry)) st 0 r) ⌝ }
 {
     let p0 = sl[0] as usize;
     let p1 = sl[1] as usize;
@@ -318,18 +318,6 @@ fn next(f: &[u16], st: &[u16], k: usize, a: At) -> At
     }
 }
 
-// Any turn: the first one as it is.
-fn at_turn(f: &[u16], st: &[u16], k: usize, a: At) -> At
-    requires { ⌜ (0 < k → Movable (now f) (now st) k a) ⌝ }
-    ensures { λ b. ⌜ (k ≡ 0 → b ≡ a) ⌝ }
-    ensures { λ b. ⌜ (0 < k → Moved (now (f .entry)) (now (st .entry)) k a b) ⌝ }
-{
-    if k == 0 {
-        return a;
-    }
-    next(f, st, k, a)
-}
-
 // Of the tuples that cost the least, the words that come first: the same walk again, with the same running total.
 pub fn first_tied(f: &[u16], w: &[u16], sl: &[u16], st: &[u16], n: usize, least: u16) -> [u16; 4]
     requires { ⌜ Slots n (now f) (now sl) (now st) ⌝ }
@@ -340,14 +328,17 @@ pub fn first_tied(f: &[u16], w: &[u16], sl: &[u16], st: &[u16], n: usize, least:
     let mut a = first(f, sl);
     let mut best = [65535u16; 4];
     let mut k = 0;
-    while k < n {
-        let b = at_turn(f, st, k, a);
-        a = b;
+    loop {
         let t = a.total;
         let p = a.places;
         let m = meet_turn(t, w, p, least, best);
         best = m;
         k += 1;
+        if k == n {
+            break;
+        }
+        let b = next(f, st, k, a);
+        a = b;
     }
     best
 }

@@ -1,6 +1,6 @@
 -- The rounds of the walk: what the turns of a round leave, one by one, and what a round leaves.
 -- Assumes nothing.
-use Rattle.basics.proofs.Kit.{_≡_, sym, ap, _∙_, Bool, true, false, cond, List, [], ℕ, zero, suc, _+_, _-_, _*_, _/_, _≤_, _<_, min, arith, length, getD}
+use Rattle.basics.proofs.Kit.{_≡_, sym, ap, _∙_, Bool, true, false, cond, List, ℕ, zero, suc, _+_, _-_, _*_, _/_, _≤_, _<_, min, arith, length, getD}
 use mathlib.Core.Bool.{false≢true}
 use native.Mathlib.Nat.{suc-mul, mul-le-mul-right, div-add-mod'}
 use native.Mathlib.Decide.{decLe}
@@ -13,7 +13,7 @@ use Rattle.walk.specs.declared.At.{At}
 use Rattle.walk.specs.Walk.{step, changed-bit, place, total, movers, least-at, Slots, Rounds, Marginals}
 use Rattle.walk.specs.Turns.{Each, lows, Blank, Standing, Together}
 use Rattle.walk.proofs.Rows.{lows-length, lows-small}
-use Rattle.walk.proofs.Turns.{any-steps, movers-few, together, within}
+use Rattle.walk.proofs.Turns.{movers-few, together, within}
 use Rattle.walk.proofs.Blocks.{Block, block-none, block-turn, block-join, Marked, rows-in, not-lowered, lowered}
 
 -- what the first k turns leave, which are whole rounds
@@ -41,13 +41,13 @@ module _ {n round : ℕ} {f sl st : List ℕ} (w : Slots n f sl st) (r : Rounds 
   pub some-turns : 0 < round
   some-turns = rw (r .power) (pow-pos (r .bits))
 
-  pub starts : {soft : Bool} {cap : ℕ} {g : List ℕ} {a : At} → cap < limit → Blank soft cap f g → Standing f sl [] 0 a → Walking soft cap f sl st n round 0 g a (replicate 16 cap)
+  pub starts : {soft : Bool} {cap : ℕ} {g : List ℕ} {a : At} → cap < limit → Blank soft cap f g → Standing f sl st 0 a → Walking soft cap f sl st n round 0 g a (replicate 16 cap)
   unfolding leastOf
   starts {soft} {cap} {g} l b s = record {
     upto = omega arith;
     rounds = 0;
     whole = omega arith;
-    standing = any-steps s st;
+    standing = s;
     least = block-none 0 l;
     marks = λ z. record {
       long = b .long z;

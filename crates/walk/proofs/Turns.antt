@@ -85,10 +85,6 @@ begun f sl r0 r1 r2 r3 t h0 h1 h2 h3 h st =
     at (suc (suc (suc zero))) l = refl
     at (suc (suc (suc (suc j)))) l = absurd (omega arith)
 
-pub any-steps : {f sl : List ℕ} {a : At} → Standing f sl [] 0 a → (st : List ℕ) → Standing f sl st 0 a
-unfolding place changes
-any-steps {f} {sl} s st = record { at = s .at; summed = s .summed; lanes = λ x lx. s .lanes x lx ∙ sym (total-at sl [] 0 x lx f) ∙ total-at sl st 0 x lx f; count = s .count }
-
 -- THE RUNNING TOTAL: turn k from the turn before it
 pub stands : {f sl st : List ℕ} (k : ℕ) {a b : At} → 0 < k → Standing f sl st (k - 1) a → Moved f st k a b → Standing f sl st k b
 unfolding changes

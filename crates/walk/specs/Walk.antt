@@ -60,7 +60,6 @@ pub record Slots (n : ℕ) (f sl st : List ℕ) : Type 0 where
   pub ends : start sl 4 ≡ length f
   pub above : (k j : ℕ) → k < n → j < 4 → start sl j ≤ place sl st k j
   pub below : (k j : ℕ) → k < n → j < 4 → place sl st k j + 16 ≤ start sl (suc j)
-  pub short : length f < 2 ^ 16
   pub room : (i : ℕ) → i < n * 16 → total f sl st i < 2 ^ 15
 
 -- how many slots change at a turn within a round: the third does where it takes part in the first step

@@ -3,7 +3,7 @@
 // code. Its functions are for the crates above; their promises cite specs/Walk.antt and specs/Turns.antt.
 ghost use mathlib.Core.Path.{_≡_};
 ghost use mathlib.Core.Bool.{true, cond};
-ghost use mathlib.Core.List.{[]};
+ghost use mathlib.Core.List.{List};
 ghost use Prim.Native.Nat.{ℕ, _+_, _-_, _^_, _<_, _≤_, min};
 ghost use lib.ListN.{length, getD};
 ghost use Rattle.lanes.specs.Lanes.{lane, limit};
@@ -128,7 +128,7 @@ pub struct At {
 // Turn 0, of any steps.
 fn first(f: &[u16], sl: &[u16]) -> At
     requires { ⌜ Begins (now f) (now sl) ⌝ }
-    ensures { λ r. ⌜ Standing (now (f .entry)) (now (sl .entry)) [] 0 r ⌝ }
+    ensures { λ r. ⌜ ((st : List ℕ) → Standing (now (f .entry)) (now (sl .entry)) st 0 r) ⌝ }
 {
     let p0 = sl[0] as usize;
     let p1 = sl[1] as usize;

@@ -34,7 +34,8 @@ moving : (c : tie.At-loop2 Inv-loop2 μ-loop2 Inv-loop μ-loop) → c .before .b
 moving c = c .before .before .before .before .before .movers-of .ensures
 
 loop-holds : tie.Need-loop-holds Inv-loop2 μ-loop2 Inv-loop μ-loop
-loop-holds c = let s = c .before .before .before .before .before .before .pre in (refl, starts (s .0 .0) (s .0 .1) (s .1 .0) (s .1 .1) (c .first .ensures))
+loop-holds c = let s = c .before .before .before .before .before .before in
+    (refl, starts (s .pre .0 .0) (s .pre .0 .1) (s .pre .1 .0) (s .pre .1 .1) (c .first .ensures (s .args .st .now)))
 
 at-turn-requires : tie.Need-at-turn-requires Inv-loop2 μ-loop2 Inv-loop μ-loop
 at-turn-requires c κs l = movable (from c .pre .0 .0) l (c .loop-test .taken) (c .before .loop .inv .1 .standing)
