@@ -5,7 +5,8 @@
  * the call, and changes no output then. crates/tugzeck/src/lib.rt has the promises.
  *
  * What no proof covers, and a caller must see to:
- *   - A pointer is valid for as many elements as the count behind it says: outputs and scratches to be written, all others to be read.
+ *   - A pointer is valid for as many elements as the count behind it says: outputs and scratches to be written, all others to be read. One to a
+ *     configuration has no count, and is valid for four numbers to be read.
  *   - A pointer is aligned for its type and never null, even where its count is 0.
  *   - An output or a scratch overlaps nothing else that the call is handed; nobody else reads or writes it, and nobody writes an input, while the
  *     call runs.
@@ -65,7 +66,7 @@ extern "C" {
 enum tugzeck_refusal {
     TUGZECK_CODE = 1,         /* the code is not 1 to 5, or m is not 3 or 4 */
     TUGZECK_ROW_LENGTH = 2,   /* a row is not n*m long */
-    TUGZECK_WORD_LENGTH = 3,  /* a word is not n, or a message not k, long */
+    TUGZECK_WORD_LENGTH = 3,  /* a word is not n, a message not k, or BCH words end to end not n*m, long */
     TUGZECK_OUTPUT = 4,       /* an output has not exactly its length */
     TUGZECK_RELIABILITY = 5,  /* a reliability is outside -127..127 */
     TUGZECK_SYMBOL = 6,       /* a symbol is not below 2^m */
@@ -79,7 +80,9 @@ enum tugzeck_refusal {
     TUGZECK_SYMBOL_KIND = 14, /* a received symbol's kind is above 3 */
     TUGZECK_FILL = 15,        /* received symbols and samples do not fill the row exactly */
     TUGZECK_ROOTS = 16,       /* with this m, a code of r roots may not be chosen */
-    TUGZECK_SCRATCH_LENGTH = 17 /* a scratch is not TUGZECK_SCRATCH long */
+    TUGZECK_SCRATCH_LENGTH = 17, /* a scratch is not TUGZECK_SCRATCH long */
+    TUGZECK_NO_BCH_WORD = 18, /* a layer has a value other than 0 and 1, or is no BCH word */
+    TUGZECK_CONFIGURATION = 19 /* a configuration is not valid: no codeword has it */
 };
 
 /* The kinds of received symbols, a byte each. */
@@ -149,6 +152,15 @@ uint32_t tugzeck_check_word_by(uint32_t m, uint32_t r, const uint8_t *word, size
  * alpha^5, where 0, 1, 6, 7 are numbered 0 to 3. Refuses by 1, 3, 4, 6, 8. */
 struct tugzeck_splitting tugzeck_split(uint32_t code, const uint8_t *word, size_t word_count, uint8_t *bch, size_t bch_count);
 struct tugzeck_splitting tugzeck_split_by(uint32_t m, uint32_t r, const uint8_t *word, size_t word_count, uint8_t *bch, size_t bch_count);
+
+/* Joins what was split, edited or not: writes into the n places of `output` the codeword whose layer j is BCH word j with the leader of the coset of
+ * syndrome j added. `bch` has m BCH words of n values end to end, layer 1 first. `configuration` points to the first of exactly four numbers, as
+ * s.configuration of a struct tugzeck_splitting s does; with m = 3 the fourth is 0. Splitting what was joined gives the same parts, and joining the parts
+ * of a codeword gives that codeword. Answers 0, or refuses by 1, 3 (`bch`), 4, 18, 19 (a place that is no syndrome, with m = 3 a fourth other than 0, or
+ * syndromes that no codeword has together). */
+uint32_t tugzeck_join(uint32_t code, const uint16_t configuration[4], const uint8_t *bch, size_t bch_count, uint8_t *output, size_t output_count);
+uint32_t tugzeck_join_by(uint32_t m, uint32_t r, const uint16_t configuration[4], const uint8_t *bch, size_t bch_count, uint8_t *output,
+                         size_t output_count);
 
 /* ROWS. Entry i*m + (j-1) of a row, and of soft outputs, belongs to layer j, the bit of weight 2^(j-1), at position i. A positive reliability
  * favours 0. */

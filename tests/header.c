@@ -76,6 +76,14 @@ int main(void) {
     SAME(b.configuration[3], 238);
     SAME(bch[0], 1);
     SAME(bch[1], 0);
+    memset(word, 0, sizeof word);
+    SAME(tugzeck_join_by(4, 4, b.configuration, bch, TUGZECK_ROW_BY(4), word, TUGZECK_WORD_BY(4)), 0);
+    SAME(memcmp(word, by_four, 15), 0);
+    SAME(tugzeck_join_by(5, 4, b.configuration, bch, 60, word, 15), TUGZECK_CODE);
+    SAME(tugzeck_join_by(4, 3, b.configuration, bch, 60, word, 15), TUGZECK_ROOTS);
+    SAME(tugzeck_join_by(4, 6, b.configuration, bch, 60, word, 15), TUGZECK_NO_BCH_WORD);
+    SAME(tugzeck_join_by(4, 2, b.configuration, bch, 60, word, 15), TUGZECK_CONFIGURATION);
+    SAME(memcmp(word, by_four, 15), 0);
     b = tugzeck_split_by(4, 5, by_four, 15, bch, 60);
     SAME(b.number, TUGZECK_ROOTS);
     SAME(b.configuration[0] | b.configuration[1] | b.configuration[2] | b.configuration[3], 0);
@@ -90,6 +98,28 @@ int main(void) {
     SAME(s.configuration[1], 3);
     SAME(s.configuration[2], 2);
     SAME(s.configuration[3], 0);
+    memset(word, 9, sizeof word);
+    SAME(tugzeck_join(6, s.configuration, bch, 20, word, 6), TUGZECK_CODE);
+    SAME(tugzeck_join(1, s.configuration, bch, 20, word, 6), TUGZECK_WORD_LENGTH);
+    SAME(tugzeck_join(1, s.configuration, bch, 21, word, 6), TUGZECK_OUTPUT);
+    s.configuration[3] = 1;
+    bch[20] = 2;
+    SAME(tugzeck_join(1, s.configuration, bch, 21, word, 7), TUGZECK_NO_BCH_WORD);
+    bch[20] = 1;
+    SAME(tugzeck_join(1, s.configuration, bch, 21, word, 7), TUGZECK_NO_BCH_WORD);
+    bch[20] = 0;
+    SAME(tugzeck_join(1, s.configuration, bch, 21, word, 7), TUGZECK_CONFIGURATION);
+    s.configuration[3] = 0;
+    s.configuration[2] = 3;
+    SAME(tugzeck_join(1, s.configuration, bch, 21, word, 7), TUGZECK_CONFIGURATION);
+    s.configuration[2] = 8 + 2;
+    SAME(tugzeck_join(1, s.configuration, bch, 21, word, 7), TUGZECK_CONFIGURATION);
+    for (int i = 0; i < TUGZECK_MOST_WORD; i++)
+        SAME(word[i], 9);
+    s.configuration[2] = 2;
+    SAME(tugzeck_join(1, s.configuration, bch, 21, word, 7), 0);
+    SAME(memcmp(word, codeword, 7), 0);
+    SAME(word[7], 9);
     s = tugzeck_split(1, other, 7, bch, 21);
     SAME(s.number, TUGZECK_NO_CODEWORD);
     SAME(s.configuration[0] | s.configuration[1] | s.configuration[2] | s.configuration[3], 0);
@@ -264,6 +294,6 @@ int main(void) {
     SAME(l.number, TUGZECK_OUTPUT);
     SAME(l.length, 0);
 
-    printf("compared: %u answers of all twenty calls through the header\n", compared);
+    printf("compared: %u answers of all twenty-two calls through the header\n", compared);
     return 0;
 }

@@ -2,7 +2,8 @@
 //! proved for every input. One function a call; a call takes any input, refuses bad input by the first [`Refusal`] in the order stated, and
 //! changes no output then. Outputs are lent, each with exactly its length. Nothing is allocated, and there is no global state.
 //!
-//! What the proofs do not cover is this package: that it declares the calls as they are, and hands slices over as pointers and counts.
+//! What the proofs do not cover is this package: that it declares the calls as they are, and hands slices over as pointers and counts and a
+//! configuration as a pointer.
 //! Its tests compare every call with independent Rust.
 //!
 //! The codes are numbered 1 to 5: (7, 5), (7, 3), (15, 13), (15, 11) and (15, 9). A word has [`word_length`] symbols (n) of m bits, a row
@@ -117,7 +118,7 @@ pub enum Refusal {
     Code = 1,
     /// A row is not n·m long.
     RowLength = 2,
-    /// A word is not n, or a message not k, long.
+    /// A word is not n, a message not k, or BCH words end to end not n·m, long.
     WordLength = 3,
     /// An output has not exactly its length.
     Output = 4,
@@ -147,11 +148,15 @@ pub enum Refusal {
     Roots = 16,
     /// A scratch is not [`SCRATCH`] long.
     Scratch = 17,
+    /// A layer has a value other than 0 and 1, or is no BCH word.
+    NoBchWord = 18,
+    /// A configuration is not valid: no codeword has it.
+    Configuration = 19,
 }
 
 impl Refusal {
     /// Every refusal, by its number.
-    pub const ALL: [Refusal; 17] = [
+    pub const ALL: [Refusal; 19] = [
         Refusal::Code,
         Refusal::RowLength,
         Refusal::WordLength,
@@ -169,6 +174,8 @@ impl Refusal {
         Refusal::Fill,
         Refusal::Roots,
         Refusal::Scratch,
+        Refusal::NoBchWord,
+        Refusal::Configuration,
     ];
 
     /// The number that the library answers.
@@ -182,7 +189,7 @@ impl fmt::Display for Refusal {
         let met = match self {
             Refusal::Code => "no such code",
             Refusal::RowLength => "a row of another length",
-            Refusal::WordLength => "a word or a message of another length",
+            Refusal::WordLength => "a word, a message or BCH words of another length",
             Refusal::Output => "an output of another length",
             Refusal::Reliability => "a reliability outside -127..127",
             Refusal::Symbol => "a symbol that does not fit",
@@ -197,6 +204,8 @@ impl fmt::Display for Refusal {
             Refusal::Fill => "received symbols that do not fill the row exactly",
             Refusal::Roots => "no code with so many roots",
             Refusal::Scratch => "a scratch of the wrong length",
+            Refusal::NoBchWord => "a layer that is no BCH word",
+            Refusal::Configuration => "a configuration that is not valid",
         };
         write!(f, "refused by {}: {met}", self.number())
     }
@@ -298,6 +307,35 @@ pub fn split_by(m: u32, r: u32, word: &[u8], bch: &mut [u8]) -> Result<[u16; 4],
     // SAFETY: both are slices, and the output is borrowed alone.
     let s = unsafe { raw::tugzeck_split_by(m, r, word.as_ptr(), word.len(), bch.as_mut_ptr(), bch.len()) };
     unless_refused(s.number, s.configuration)
+}
+
+/// Joins what was split, edited or not: writes into n places the codeword whose layer j is BCH word j with the leader of the coset of syndrome j added.
+/// The configuration is as [`split`] answers it; the m BCH words of n values stand end to end, layer 1 first. Splitting what was joined gives the same
+/// parts, and joining the parts of a codeword gives that codeword. Refuses by 1, 3 (BCH words), 4, 18, 19 (a place that is no syndrome, with m = 3 a
+/// fourth other than 0, or syndromes that no codeword has together).
+///
+/// ```
+/// let (mut bch, mut word) = ([0u8; 21], [0u8; 7]);
+/// let configuration = tugzeck::split(1, &[3, 6, 1, 0, 0, 0, 0], &mut bch)?;
+/// // A lecturer's edit: another BCH word in layer 2.
+/// bch[7..14].copy_from_slice(&[1, 1, 0, 1, 0, 0, 0]);
+/// tugzeck::join(1, configuration, &bch, &mut word)?;
+/// assert_eq!(tugzeck::check_word(1, &word), Ok(true));
+/// bch[7] = 0;
+/// assert_eq!(tugzeck::join(1, configuration, &bch, &mut word), Err(tugzeck::Refusal::NoBchWord));
+/// # Ok::<(), tugzeck::Refusal>(())
+/// ```
+pub fn join(code: u32, configuration: [u16; 4], bch: &[u8], output: &mut [u8]) -> Result<(), Refusal> {
+    // SAFETY: the configuration has four numbers, the others are slices, and the output is borrowed alone.
+    let number = unsafe { raw::tugzeck_join(code, &configuration, bch.as_ptr(), bch.len(), output.as_mut_ptr(), output.len()) };
+    unless_refused(number, ())
+}
+
+/// [`join`], by m and r. Refuses by 1, 16, 3 (BCH words), 4, 18, 19.
+pub fn join_by(m: u32, r: u32, configuration: [u16; 4], bch: &[u8], output: &mut [u8]) -> Result<(), Refusal> {
+    // SAFETY: the configuration has four numbers, the others are slices, and the output is borrowed alone.
+    let number = unsafe { raw::tugzeck_join_by(m, r, &configuration, bch.as_ptr(), bch.len(), output.as_mut_ptr(), output.len()) };
+    unless_refused(number, ())
 }
 
 /// Turns the n·m samples of a row into reliabilities: each the nearest whole number to 32 times the sample, halves away from zero, clipped to

@@ -1,4 +1,4 @@
-//! The calls as the static library has them (include/tugzeck.h): a slice is a pointer and a count.
+//! The calls as the static library has them (include/tugzeck.h): a slice is a pointer and a count, a configuration a pointer.
 
 #[repr(C)]
 pub struct Splitting {
@@ -48,6 +48,23 @@ extern "C" {
     pub fn tugzeck_check_word_by(m: u32, r: u32, word: *const u8, word_count: usize) -> u32;
     pub fn tugzeck_split(code: u32, word: *const u8, word_count: usize, bch: *mut u8, bch_count: usize) -> Splitting;
     pub fn tugzeck_split_by(m: u32, r: u32, word: *const u8, word_count: usize, bch: *mut u8, bch_count: usize) -> Splitting;
+    pub fn tugzeck_join(
+        code: u32,
+        configuration: *const [u16; 4],
+        bch: *const u8,
+        bch_count: usize,
+        output: *mut u8,
+        output_count: usize,
+    ) -> u32;
+    pub fn tugzeck_join_by(
+        m: u32,
+        r: u32,
+        configuration: *const [u16; 4],
+        bch: *const u8,
+        bch_count: usize,
+        output: *mut u8,
+        output_count: usize,
+    ) -> u32;
     pub fn tugzeck_quantise(code: u32, samples: *const f32, samples_count: usize, row: *mut i16, row_count: usize) -> u32;
     pub fn tugzeck_quantise_by(m: u32, r: u32, samples: *const f32, samples_count: usize, row: *mut i16, row_count: usize) -> u32;
     pub fn tugzeck_receive(

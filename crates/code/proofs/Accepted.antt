@@ -85,6 +85,10 @@ roots-few c = accepted-parts (width c) (roots c) (number-accepted c) .few
 pub width-small : (m : ℕ) → width-good m ≡ true → m ≤ 4
 width-small = widths (λ (m : ℕ). m ≤ 4) (lit≤ tt) (lit≤ tt)
 
+-- a symbol fits a byte
+pub narrow : {m : ℕ} → width-good m ≡ true → m < 8
+narrow {m} w = omega (arith, width-small m w)
+
 -- a layer's syndrome has ten bits at most
 pub syndrome-short : (m r : ℕ) → width-good m ≡ true → syndrome-long m r < 64
 syndrome-short m r w = go (leb 3 r) (leb 5 r && eqb m 4)

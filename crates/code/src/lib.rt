@@ -294,10 +294,10 @@ fn row_long_of(m: u32) -> usize
 
 // Whether every symbol is below 2^m.
 pub fn symbols_good(m: u32, word: &[u8]) -> bool
-    requires { ⌜ width-good m ≡ true ⌝ }
+    requires { ⌜ m < 8 ⌝ }
     ensures { λ x. ⌜ x ≡ symbols-good m (now (word .entry)) ⌝ }
 {
-    let top = field::size(m);
+    let top = 1u8 << m;
     let mut i: usize = 0;
     while i < word.len() {
         if top <= word[i] {
@@ -367,7 +367,7 @@ pub fn is_codeword(m: u32, r: u32, word: &[u8]) -> bool
 }
 
 // A copy.
-fn copy(from: &[u8], to: &mut [u8])
+pub fn copy(from: &[u8], to: &mut [u8])
     requires { ⌜ length (now from) ≡ length (now to) ⌝ }
     ensures { λ x. ⌜ now (to .exit) ≡ now (from .entry) ⌝ }
 {

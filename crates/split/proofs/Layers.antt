@@ -74,7 +74,7 @@ pub width-small : (m : ℕ) → width-good m ≡ true → m ≤ 4
 width-small = widths (λ (m : ℕ). m ≤ 4) (lit≤ tt) (lit≤ tt)
 
 -- BITS: those of a symbol are the layers' at its position
-at-bits : (k j x : ℕ) → j < k → getD (bits-of k x) j 0 ≡ x / 2 ^ j % 2
+pub at-bits : (k j x : ℕ) → j < k → getD (bits-of k x) j 0 ≡ x / 2 ^ j % 2
 unfolding bits-of
 at-bits zero j x h = absurd (not-suc-le-zero h)
 at-bits (suc k) zero x h = sym (ap (λ (y : ℕ). y % 2) (div-one x))

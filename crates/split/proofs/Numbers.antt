@@ -71,6 +71,13 @@ sum-cancel [] (d ∷ ds) e = absurd (omega arith)
 sum-cancel (b ∷ bs) [] e = absurd (omega arith)
 sum-cancel (b ∷ bs) (d ∷ ds) e = ap₂ (λ (x : ℕ) (y : List ℕ). x ∷ y) (X.cancel b d) (sum-cancel bs ds (omega arith))
 
+pub sum-uncancel : (bs ds : List ℕ) → length bs ≡ length ds → sum (sum bs ds) ds ≡ bs
+unfolding sum
+sum-uncancel [] [] e = refl
+sum-uncancel [] (d ∷ ds) e = absurd (omega arith)
+sum-uncancel (b ∷ bs) [] e = absurd (omega arith)
+sum-uncancel (b ∷ bs) (d ∷ ds) e = ap₂ (λ (x : ℕ) (y : List ℕ). x ∷ y) (X.uncancel b d) (sum-uncancel bs ds (omega arith))
+
 pub drop-sum : (q : ℕ) (bs ds : List ℕ) → length bs ≡ length ds → drop q (sum bs ds) ≡ sum (drop q bs) (drop q ds)
 unfolding sum
 drop-sum zero bs ds e = refl

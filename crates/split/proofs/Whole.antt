@@ -130,7 +130,7 @@ module _ (m r : ℕ) (ws tuple out : List ℕ) (n : length ws ≡ long m) (p : S
       let k : length (p .leaders j) ≡ length ws = p .lead j h .binary .count ∙ sym n in
       L.sum-length (layer j ws) (p .leaders j) (L.layer-length j ws ∙ sym k) ∙ k
 
-  part : (j : ℕ) → j < m → take (long m) (drop (j * long m) out) ≡ sum (layer j ws) (p .leaders j)
+  pub part : (j : ℕ) → j < m → take (long m) (drop (j * long m) out) ≡ sum (layer j ws) (p .leaders j)
   part j h = rw (← n, p .left) (piece-at m (p .leaders) ws part-length j h)
 
   part-binary : (j : ℕ) → j < m → Binary m (sum (layer j ws) (p .leaders j))

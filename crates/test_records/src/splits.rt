@@ -8,7 +8,7 @@ use test_tally::tally::Tally;
 use test_tally::words;
 
 // (7), layer by layer, and the layers of the other word on record.
-const SUM_7: [u8; 21] = [
+pub const SUM_7: [u8; 21] = [
     1,
     0,
     1,
@@ -32,7 +32,7 @@ const SUM_7: [u8; 21] = [
     0,
 ];
 
-const SUM_OTHER: [u8; 21] = [
+pub const SUM_OTHER: [u8; 21] = [
     1,
     1,
     1,
@@ -84,14 +84,7 @@ fn by_parameters(tally: Tally) -> Tally {
         [74, 17, 125, 238],
         [2077, 0, 2077, 17422],
     );
-    t = parted(
-        t,
-        4,
-        0x585238d27c16b05,
-        0,
-        [46, 116, 113, 45],
-        [21989, 5016, 19287, 627],
-    );
+    t = parted_as(t, other_of_four());
     t = parted(
         t,
         6,
@@ -100,16 +93,41 @@ fn by_parameters(tally: Tally) -> Tally {
         [449, 60, 451, 676],
         [0, 0, 0, 1335],
     );
-    t = parted(
-        t,
-        6,
-        0x39b24838d27c16b,
-        0,
-        [607, 72, 610, 841],
-        [22087, 24909, 10680, 19906],
-    );
+    t = parted_as(t, other_of_six());
     t = parted(t, 6, 0x78cd10000000000, 8, [0u16; 4], [0u16; 4]);
     parted(t, 3, 0x78cd10000000000, 16, [0u16; 4], [0u16; 4])
+}
+
+// A word of m = 4 and r with its parts.
+pub struct Parts {
+    pub r: u32,
+    pub word: u64,
+    pub configuration: [u16; 4],
+    pub layers: [u16; 4],
+}
+
+pub fn other_of_four() -> Parts {
+    Parts {
+        r: 4,
+        word: 0x585238d27c16b05,
+        configuration: [46, 116, 113, 45],
+        layers: [21989, 5016, 19287, 627],
+    }
+}
+
+pub fn other_of_six() -> Parts {
+    Parts {
+        r: 6,
+        word: 0x39b24838d27c16b,
+        configuration: [607, 72, 610, 841],
+        layers: [22087, 24909, 10680, 19906],
+    }
+}
+
+fn parted_as(t: Tally, p: Parts) -> Tally {
+    let configuration = p.configuration;
+    let layers = p.layers;
+    parted(t, p.r, p.word, 0, configuration, layers)
 }
 
 // Splitting 15 symbols answers a number and a configuration, and leaves these layers, or zeros where it is refused.
@@ -134,7 +152,7 @@ fn parted(
 }
 
 // The bits of four numbers, in 15 places each.
-fn layers_of(layers: [u16; 4]) -> [u8; 60] {
+pub fn layers_of(layers: [u16; 4]) -> [u8; 60] {
     let mut all = [0u8; 60];
     let mut a = layers[0];
     let mut b = layers[1];
@@ -217,7 +235,7 @@ fn element(a: u16) -> Element {
 }
 
 // Splitting n symbols into so many nines answers a number and a configuration, and leaves an output.
-fn gives(
+pub fn gives(
     t: Tally,
     code: u32,
     n: usize,

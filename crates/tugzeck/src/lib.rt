@@ -1,6 +1,7 @@
 // The calls for programs in C and Rust, under names that begin with `tugzeck_`; include/tugzeck.h declares them. Each takes any input, has
 // no `requires` and promises the whole of what the call that it stands for promises: specs/Calls.antt of that call's crate, and of this
-// one where a result is a struct of numbers. A slice is a pointer and a length; a result is a number or a struct of numbers.
+// one where a result is a struct of numbers. A slice is a pointer and a length, and a configuration that is handed over a pointer to four numbers; a result
+// is a number or a struct of numbers.
 // Nothing here covers what a caller hands over: pointers valid for their lengths, and outputs that overlap nothing.
 use code::Membership;
 use decoder::Decoding;
@@ -12,6 +13,7 @@ ghost use mathlib.Core.Path.{_≡_};
 ghost use Rattle.code.specs.Code.{number-refusal, width, roots, parameter-refusal};
 ghost use Rattle.code.specs.Calls.{Encode-says, Read-says, checked, number-of};
 ghost use Rattle.split.specs.Calls.{Split-says};
+ghost use Rattle.join.specs.Calls.{Join-says};
 ghost use Rattle.decoder.specs.Calls.{Decode-says};
 ghost use Rattle.marker.specs.Calls.{Mark-says};
 ghost use Rattle.quantiser.specs.Calls.{Quantise-says};
@@ -110,6 +112,34 @@ pub extern "C" fn tugzeck_split_by(m: u32, r: u32, word: &[u8], bch: &mut [u8]) 
     ensures { λ a. ⌜ Split-says (parameter-refusal m r) m r (now (word .entry)) a (now (bch .entry)) (now (bch .exit)) ⌝ }
 {
     split::split_by(m, r, word, bch)
+}
+
+// Joins a configuration, read from four numbers, and BCH words of n·m values to the codeword that splits into them, in n places. Answers 0, or refuses by 1, 3,
+// 4, 18 or 19 and writes nothing.
+#[no_mangle]
+pub extern "C" fn tugzeck_join(
+    code: u32,
+    configuration: &[u16; 4],
+    bch: &[u8],
+    output: &mut [u8],
+) -> u32
+    ensures { λ x. ⌜ Join-says (number-refusal code) (width code) (roots code) (now (configuration .entry)) (now (bch .entry)) x (now (output .entry)) (now (output .exit)) ⌝ }
+{
+    join::join(code, *configuration, bch, output)
+}
+
+// The same, by m and r: refuses by 16 too, after 1.
+#[no_mangle]
+pub extern "C" fn tugzeck_join_by(
+    m: u32,
+    r: u32,
+    configuration: &[u16; 4],
+    bch: &[u8],
+    output: &mut [u8],
+) -> u32
+    ensures { λ x. ⌜ Join-says (parameter-refusal m r) m r (now (configuration .entry)) (now (bch .entry)) x (now (output .entry)) (now (output .exit)) ⌝ }
+{
+    join::join_by(m, r, *configuration, bch, output)
 }
 
 // Decodes a row of n·m reliabilities: 0 with the best metric, the first best word in n places and the soft outputs in n·m; the scratch, 16,384 numbers,

@@ -3,7 +3,8 @@
 
 use crate::codes::Code;
 use crate::draw::Draw;
-use crate::parameters::{code_of, encoded, refusal, syndrome, NUMBERED, TEN};
+use crate::named::{names, Named};
+use crate::parameters::{code_of, cosets, encoded, refusal, syndrome, NUMBERED, TEN};
 use crate::{number, scratch, Output, CODES, NO_CODES};
 use tugzeck::{Refusal, Verdict};
 
@@ -24,10 +25,9 @@ struct Tables {
 
 impl Search {
     pub fn new(code: Code) -> Search {
-        let columns: Vec<usize> =
-            (0..code.n).map(|i| syndrome(&code, &(0..code.n).map(|k| u8::from(k == i)).collect::<Vec<u8>>())).collect();
-        let q = columns.iter().map(|c| usize::BITS - c.leading_zeros()).max().expect("a column") as usize;
-        let cosets = (0..1usize << code.n).map(|w| (0..code.n).filter(|i| w >> i & 1 == 1).fold(0, |s, i| s ^ columns[i])).collect();
+        let cosets = cosets(&code);
+        let size = cosets.iter().max().expect("a word") + 1;
+        let q = size.ilog2() as usize;
         let free = q - code.roots;
         let configurations = (0..1usize << (free * code.m))
             .map(|k| {
@@ -43,7 +43,7 @@ impl Search {
                 tuple
             })
             .collect();
-        Search { code, cosets, size: 1 << q, configurations }
+        Search { code, cosets, size, configurations }
     }
 
     fn tables(&self, row: &[i16]) -> Tables {
@@ -112,35 +112,6 @@ fn against(r: i16, bit: usize) -> u32 {
 
 fn metric(code: &Code, row: &[i16], word: &[u8]) -> i32 {
     (0..code.bits()).map(|b| if word[b / code.m] >> (b % code.m) & 1 == 0 { i32::from(row[b]) } else { -i32::from(row[b]) }).sum()
-}
-
-/// How a code is named to decoder and marker.
-#[derive(Clone, Copy, Debug)]
-enum Named {
-    By(u32, u32),
-    Number(u32),
-}
-
-impl Named {
-    fn decode(self, row: &[i16], word: &mut [u8], soft: &mut [i16], scratch: &mut [i32]) -> Result<i32, Refusal> {
-        match self {
-            Named::By(m, r) => tugzeck::decode_by(m, r, row, word, soft, scratch),
-            Named::Number(code) => tugzeck::decode(code, row, word, soft, scratch),
-        }
-    }
-
-    fn mark(self, row: &[i16], word: &[u8], scratch: &mut [i32]) -> Result<Verdict, Refusal> {
-        match self {
-            Named::By(m, r) => tugzeck::mark_by(m, r, row, word, scratch),
-            Named::Number(code) => tugzeck::mark(code, row, word, scratch),
-        }
-    }
-}
-
-/// The parameters, and the number where there is one.
-fn names(m: u32, r: u32) -> Vec<Named> {
-    let number = (1..).zip(NUMBERED).find(|(_, by)| *by == (m, r)).map(|(code, _)| Named::Number(code));
-    [Named::By(m, r)].into_iter().chain(number).collect()
 }
 
 #[test]

@@ -1,9 +1,10 @@
 //! Compares every call of the library with independent Rust, written from the paper on the codes and not from the library: every codeword of
-//! codes 1 and 2, a Wolf trellis of the whole of code 3 (shared with the bench), a search over the configurations of every code, a judge and a
-//! writer of sheets, plain f64 arithmetic, received symbols read from the end.
+//! codes 1 and 2, a Wolf trellis of the whole of code 3 (shared with the bench), a search over the configurations of every code, layers joined bit by
+//! bit, a judge and a writer of sheets, plain f64 arithmetic, received symbols read from the end.
 //! Each test prints what it compared; `cargo test -- --nocapture` shows it.
 
 #[path = "../../../../bench/src/codes.rs"]
+#[allow(dead_code)]
 #[rustfmt::skip]
 mod codes;
 #[path = "../../../../bench/src/wolf.rs"]
@@ -14,6 +15,8 @@ mod wolf;
 mod configured;
 mod draw;
 mod every;
+mod joins;
+mod named;
 mod order;
 mod paper;
 mod parameters;

@@ -4,7 +4,9 @@
 use crate::codes::Code;
 use crate::draw::Draw;
 use crate::every::is_codeword;
-use crate::parameters::numbered;
+use crate::joins::Joiner;
+use crate::named::Named;
+use crate::parameters::{code_of, numbered, refusal, TEN};
 use crate::{number, Output, CODES, NO_CODES};
 
 /// The first condition that is met.
@@ -137,6 +139,41 @@ fn first_refusals_of_words() {
         }
     }
     println!("compared: the first refusal of {} calls on words, {} of them refused", counts.calls, counts.refused);
+}
+
+#[test]
+fn first_refusals_of_joins() {
+    let mut draw = Draw::new(42);
+    let mut counts = Counts::default();
+    let numbers = codes().into_iter().map(|(c, code)| (Named::Number(c), u32::from(!is_code(c)), code));
+    let chosen = TEN.into_iter().map(|(m, r)| (Named::By(m, r), 0, code_of(m, r)));
+    let refused = [(0, 0), (2, 2), (5, 4), (260, 4), (3, 0), (3, 7), (4, 3), (4, 5), (4, 260)];
+    let not_chosen = refused.into_iter().flat_map(|(m, r)| CODES.map(|like| (Named::By(m, r), refusal(m, r), numbered(like))));
+    for (name, choice, code) in numbers.chain(chosen).chain(not_chosen) {
+        let joiner = Joiner::new(code);
+        let (n, long) = (joiner.code.n, joiner.code.bits());
+        let (own, bch) = joiner.drawn(&mut draw);
+        let with = |j: usize, s: u16| std::array::from_fn(|i| if i == j { s } else { own[i] });
+        let size = joiner.size() as u16;
+        let tuples = [own, [0; 4], with(0, size), with(1, own[1] ^ 1), with(2, u16::MAX), with(3, own[3] ^ 1)];
+        for count in lengths(long) {
+            let good: Vec<u8> = bch.iter().copied().cycle().take(count).collect();
+            let at = |i: usize, value: u8| good.iter().enumerate().map(|(k, b)| if k == i { value } else { *b }).collect::<Vec<u8>>();
+            for layers in [good.clone(), vec![0; count], at(0, 2), at(long - 1, 255), at(n, bch[n] ^ 1)] {
+                for output in lengths(n) {
+                    for tuple in tuples {
+                        let lengths = [(choice, choice != 0), (3, count != long), (4, output != n)];
+                        let expected = first(&[&lengths[..], &[(18, !joiner.all_bch(&layers)), (19, !joiner.is_valid(tuple))]].concat());
+                        let mut to = Output::new(output);
+                        if counts.met(name.join(tuple, &layers, to.lent()), expected, "join") {
+                            to.kept();
+                        }
+                    }
+                }
+            }
+        }
+    }
+    println!("compared: the first refusal of {} joins, {} of them refused", counts.calls, counts.refused);
 }
 
 #[test]

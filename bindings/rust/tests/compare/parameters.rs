@@ -78,16 +78,33 @@ pub fn syndrome(code: &Code, layer: &[u8]) -> usize {
     s
 }
 
+/// The coset of every binary word, position i weighing 2^i.
+pub fn cosets(code: &Code) -> Vec<usize> {
+    let columns: Vec<usize> = (0..code.n).map(|i| syndrome(code, &bits(code.n, 1 << i))).collect();
+    (0..1u32 << code.n).map(|word| (0..code.n).filter(|i| word >> i & 1 == 1).fold(0, |s, i| s ^ columns[i])).collect()
+}
+
 /// The leader of every coset with its weight, of all binary words: least weight, then the smallest number.
 pub fn leaders(code: &Code) -> Vec<(u32, u32)> {
-    let columns: Vec<usize> = (0..code.n).map(|i| syndrome(code, &bits(code.n, 1 << i))).collect();
-    let size = 1 << columns.iter().map(|c| usize::BITS - c.leading_zeros()).max().expect("a column");
-    let mut least = vec![(u32::MAX, 0); size];
-    for word in 0..1u32 << code.n {
-        let s = (0..code.n).filter(|i| word >> i & 1 == 1).fold(0, |s, i| s ^ columns[i]);
+    let cosets = cosets(code);
+    let mut least = vec![(u32::MAX, 0); cosets.iter().max().expect("a word") + 1];
+    for (word, s) in (0u32..).zip(cosets) {
         least[s] = least[s].min((word.count_ones(), word));
     }
     least
+}
+
+/// The parts of a word: the syndromes of its layers, and what is left of each layer when its leader is added, layer 1 first.
+pub fn parts(code: &Code, leaders: &[(u32, u32)], word: &[u8]) -> ([u16; 4], Vec<u8>) {
+    let mut tuple = [0u16; 4];
+    let mut left = Vec::new();
+    for (j, place) in tuple.iter_mut().enumerate().take(code.m) {
+        let layer: Vec<u8> = word.iter().map(|c| c >> j & 1).collect();
+        let s = syndrome(code, &layer);
+        *place = s as u16;
+        left.extend(layer.iter().zip(bits(code.n, leaders[s].1)).map(|(a, b)| a ^ b));
+    }
+    (tuple, left)
 }
 
 pub fn bits(n: usize, word: u32) -> Vec<u8> {
@@ -119,14 +136,7 @@ fn words_and_splits() {
 
             let mut bch = Output::new(code.bits());
             let configuration = tugzeck::split_by(m, r, &expected, bch.lent()).expect("a codeword");
-            let mut tuple = [0u16; 4];
-            let mut left = Vec::new();
-            for (j, place) in tuple.iter_mut().enumerate().take(code.m) {
-                let layer: Vec<u8> = expected.iter().map(|c| c >> j & 1).collect();
-                let s = syndrome(&code, &layer);
-                *place = s as u16;
-                left.extend(layer.iter().zip(bits(code.n, leaders[s].1)).map(|(a, b)| a ^ b));
-            }
+            let (tuple, left) = parts(&code, &leaders, &expected);
             assert_eq!(configuration, tuple, "({m}, {r}), {expected:?}");
             assert_eq!(bch.left(), left, "({m}, {r}), {expected:?}");
             count += 1;
@@ -191,11 +201,12 @@ fn choices() {
         let samples = vec![0.0f32; code.bits()];
         let kinds = vec![tugzeck::SINGLE; code.bits()];
         let (mut a, mut b, mut c) = (Output::new(code.n), Output::new(message.len()), Output::new(code.bits()));
-        let (mut d, mut e) = (Output::<i16>::new(code.bits()), Output::<i16>::new(code.bits()));
+        let (mut d, mut e, mut f) = (Output::<i16>::new(code.bits()), Output::<i16>::new(code.bits()), Output::new(code.n));
         assert_eq!(number(tugzeck::encode_by(m, r, &message, a.lent())), expected, "({m}, {r})");
         assert_eq!(number(tugzeck::read_word_by(m, r, &word, b.lent())), expected, "({m}, {r})");
         assert_eq!(number(tugzeck::check_word_by(m, r, &word)), expected, "({m}, {r})");
         assert_eq!(number(tugzeck::split_by(m, r, &word, c.lent())), expected, "({m}, {r})");
+        assert_eq!(number(tugzeck::join_by(m, r, [0; 4], &vec![0; code.bits()], f.lent())), expected, "({m}, {r})");
         assert_eq!(number(tugzeck::quantise_by(m, r, &samples, d.lent())), expected, "({m}, {r})");
         assert_eq!(number(tugzeck::receive_by(m, r, &kinds, &samples, e.lent())), expected, "({m}, {r})");
         // The choice is refused before anything else is looked at.
@@ -205,6 +216,7 @@ fn choices() {
         assert_eq!(number(tugzeck::read_word_by(m, r, &[255; 20], none.lent())), first(3));
         assert_eq!(number(tugzeck::check_word_by(m, r, &[255; 20])), first(3));
         assert_eq!(number(tugzeck::split_by(m, r, &[255; 20], none.lent())), first(3));
+        assert_eq!(number(tugzeck::join_by(m, r, [u16::MAX; 4], &[255; 20], none.lent())), first(3));
         let mut row = Output::<i16>::new(1);
         assert_eq!(number(tugzeck::quantise_by(m, r, &[f32::NAN; 20], row.lent())), first(2));
         assert_eq!(number(tugzeck::receive_by(m, r, &[4; 20], &[f32::NAN; 20], row.lent())), first(4));
@@ -219,6 +231,7 @@ fn choices() {
             c.kept();
             d.kept();
             e.kept();
+            f.kept();
         }
     }
     assert_eq!(taken, TEN);
@@ -273,7 +286,14 @@ fn both_forms() {
             assert_eq!(tugzeck::read_word(code, &word, a.lent()), tugzeck::read_word_by(m, r, &word, b.lent()));
             assert_eq!(a.left(), b.left());
             let (mut a, mut b) = (Output::new(long), Output::new(long));
-            assert_eq!(tugzeck::split(code, &word, a.lent()), tugzeck::split_by(m, r, &word, b.lent()));
+            let split = tugzeck::split(code, &word, a.lent());
+            assert_eq!(split, tugzeck::split_by(m, r, &word, b.lent()));
+            assert_eq!(a.left(), b.left());
+            let mut configuration = split.unwrap_or_default();
+            configuration[0] ^= u16::from(i % 5 == 0);
+            let (bch, mut a, mut b) = (a.left(), Output::new(n), Output::new(n));
+            let joined = tugzeck::join(code, configuration, bch, a.lent());
+            assert_eq!(joined, tugzeck::join_by(m, r, configuration, bch, b.lent()));
             assert_eq!(a.left(), b.left());
             assert_eq!(tugzeck::check_word(code, &word), tugzeck::check_word_by(m, r, &word));
 

@@ -33,6 +33,9 @@ fn results_by(seed: u64) -> Vec<String> {
                 tugzeck::mark_by(m, r, &row, &word, &mut scratch),
             );
             assert!(answers.0.is_ok() && answers.2.is_ok() && answers.7 == Ok(tugzeck::Verdict::Best));
+            let mut joined = vec![0; n];
+            assert_eq!(answers.6.and_then(|configuration| tugzeck::join_by(m, r, configuration, &bch, &mut joined)), Ok(()));
+            assert_eq!(joined, word);
             format!("{answers:?} {row:?} {word:?} {soft:?} {message:?} {bch:?}")
         })
         .collect()
@@ -65,6 +68,9 @@ fn results(seed: u64) -> (Vec<String>, Vec<Vec<u8>>) {
             );
             assert!(answers.0.is_ok() && answers.2.is_ok() && answers.7 == Ok(tugzeck::Verdict::Best));
             assert_eq!(answers.10, Ok(Some(tugzeck::Question { code, number: k })));
+            let mut joined = vec![0; n];
+            assert_eq!(answers.6.and_then(|configuration| tugzeck::join(code, configuration, &bch, &mut joined)), Ok(()));
+            assert_eq!(joined, word);
             (format!("{answers:?} {row:?} {word:?} {soft:?} {message:?} {bch:?} {sheet:?}"), sheet)
         })
         .unzip()

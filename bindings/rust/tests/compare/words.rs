@@ -3,7 +3,7 @@
 use crate::codes::Code;
 use crate::draw::Draw;
 use crate::every::{is_codeword, unpacked, Every};
-use crate::parameters::{bits, leaders, numbered, syndrome};
+use crate::parameters::{leaders, numbered, parts};
 use crate::{Output, CODES};
 use tugzeck::Refusal;
 
@@ -119,14 +119,7 @@ fn splits() {
         for word in words {
             let mut bch = Output::new(code.bits());
             let configuration = tugzeck::split(number, &word, bch.lent()).expect("a codeword");
-            let mut expected = [0u16; 4];
-            let mut left = Vec::new();
-            for (j, place) in expected.iter_mut().enumerate().take(code.m) {
-                let layer: Vec<u8> = word.iter().map(|c| c >> j & 1).collect();
-                let s = syndrome(&code, &layer);
-                *place = s as u16;
-                left.extend(layer.iter().zip(bits(code.n, leaders[s].1)).map(|(a, b)| a ^ b));
-            }
+            let (expected, left) = parts(&code, &leaders, &word);
             assert_eq!(configuration, expected, "code {number}, {word:?}");
             assert_eq!(bch.left(), left, "code {number}, {word:?}");
             count += 1;

@@ -3,7 +3,7 @@
 use Rattle.basics.proofs.Kit.{_≡_, refl, sym, ap, _∙_, needs, eqb}
 use Rattle.refusal.proofs.Tests.{link, first-refuses, first-passes}
 use Rattle.code.specs.Calls.{word-refusal, member-refusal}
-use Rattle.code.proofs.Accepted.{word-accepts}
+use Rattle.code.proofs.Accepted.{narrow, word-accepts}
 use Rattle.code.proofs.member_refusal.Statement.{statement}
 use Rattle.code.proofs.member_refusal.Tie as tie
 
@@ -33,7 +33,7 @@ pub member-refusal-spec : {M : Type 1} → statement M
 member-refusal-spec =
     tie.close
     (tie.spec
-    (λ c κs. search needs)
+    (λ c κs. narrow (c .before .pre .width-is))
     (λ c κs. search needs)
     (λ c κs. search needs)
     (λ c κs. search needs)

@@ -2,6 +2,7 @@
 -- Assumes nothing.
 use Rattle.basics.proofs.Kit.{refl, ap, needs, eqb}
 use Rattle.refusal.proofs.Tests.{link}
+use Rattle.code.proofs.Accepted.{narrow}
 use Rattle.marker.specs.Calls.{mark-refusal}
 use Rattle.marker.proofs.mark_refusal.Statement.{statement}
 use Rattle.marker.proofs.mark_refusal.Tie as tie
@@ -17,7 +18,7 @@ pub mark-refusal-spec : {M : Type 1} → statement M
 mark-refusal-spec =
     tie.close
     (tie.spec
-    (λ c κs. search needs)
+    (λ c κs. narrow (c .before .pre .width-is))
     (λ c κs. search needs)
     (λ c κs. search needs)
     (λ c κs. search needs)

@@ -3,6 +3,7 @@
 use Rattle.basics.proofs.Kit.{sym, ap, _∙_, arith, needs, now}
 use lib.Seq.{length-take-le}
 use Rattle.code.specs.Code.{symbols-good}
+use Rattle.code.proofs.Accepted.{narrow}
 use Rattle.metric.specs.Row.{row-good}
 use Rattle.sheet.specs.Sheet.{sheet-bound}
 use Rattle.sheet_writer.specs.Calls.{fits}
@@ -34,7 +35,7 @@ refused-parts-spec =
     (tie.spec
     (λ c κs. search needs)
     slice-aggregate-symbols-good
-    (λ c κs. search needs)
+    (λ c κs. narrow (c .before .before .before .pre .1 .width-is))
     (λ c κs. search needs)
     (λ c κs. search needs)
     (λ c. search needs)
