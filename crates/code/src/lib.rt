@@ -367,7 +367,7 @@ pub fn is_codeword(m: u32, r: u32, word: &[u8]) -> bool
 }
 
 // A copy.
-pub fn copy(from: &[u8], to: &mut [u8])
+fn copy(from: &[u8], to: &mut [u8])
     requires { ⌜ length (now from) ≡ length (now to) ⌝ }
     ensures { λ x. ⌜ now (to .exit) ≡ now (from .entry) ⌝ }
 {

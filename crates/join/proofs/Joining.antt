@@ -14,13 +14,13 @@ use Rattle.code.specs.declared.Chosen.{Chosen}
 use Rattle.code.specs.Within.{Chosen-says}
 use Rattle.code.proofs.Promise.{as-chosen}
 use Rattle.code.proofs.Accepted.{accepted-parts, width-small}
-use Rattle.code.proofs.Words.{Below, good}
+use Rattle.code.proofs.Words.{Below, below, good, widen}
 use Rattle.split.specs.Split.{layer, syndrome, syndromes, cosets, valid, all-below, Binary, Leader, sum}
 use Rattle.split.specs.Promise.{Glued-right, One-leader}
 use Rattle.split.proofs.Layers as L
 use Rattle.split.proofs.Glue.{glued-right}
 use Rattle.split.proofs.Columns.{syndrome-sum}
-use Rattle.split.proofs.Syndromes.{place-at, places}
+use Rattle.split.proofs.Syndromes.{size-small, place-at, places}
 use Rattle.split.proofs.Leaders.{the-leader, the-leader-leads, one-leader}
 use Rattle.join.specs.Calls.{part, all-bch, in-range, Join-says}
 use Rattle.join.specs.Within.{with-layer, Joined}
@@ -108,6 +108,10 @@ module _ (m r : ℕ) (ss bs : List ℕ) (a : accepted m r ≡ true) (l : length 
         codeword-is = valid-is m r ss bs ws (λ j. the-leader m r (getD ss j 0)) w (v .count) (omega (arith, width-small m w)) each lead (v .layers) (accepted-parts m r a .six) g;
         right = λ c. record { codeword = c; leaders = λ j. the-leader m r (getD ss j 0); lead = lead; layers = v .layers };
       }
+
+-- symbols fit four bits
+pub symbols-small : (m : ℕ) (ws : List ℕ) → width-good m ≡ true → symbols-good m ws ≡ true → all-below 16 ws ≡ true
+symbols-small m ws w g = L.all-of 16 ws (widen (size-small m w) ws (below m ws (to-T g)))
 
 pub none-written : (m r : ℕ) (ss bs ws : List ℕ) → length ws ≡ long m → all-below 1 ws ≡ true → Written m r ss bs ws 0
 none-written m r ss bs ws n z = record { count = n; small = L.below 1 ws (to-T z); layers = λ j h. absurd (not-suc-le-zero h) }

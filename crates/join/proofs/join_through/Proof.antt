@@ -7,6 +7,7 @@ use Rattle.refusal.specs.Refusal.{unless}
 use Rattle.refusal.proofs.Outcomes.{outcome-done, outcome-refused}
 use Rattle.split.specs.Split.{valid}
 use Rattle.join.specs.Calls.{Join-right}
+use Rattle.join.proofs.Joining.{symbols-small}
 use Rattle.join.proofs.join_through.Statement.{statement}
 use Rattle.join.proofs.join_through.Tie as tie
 
@@ -35,11 +36,15 @@ is-codeword-requires c κs = let w = c .before .before .before in let z = start 
 returns : tie.Need-returns
 returns c = outcome-refused _ _ _ _ (refused _ (decided (c .before) ∙ not-true _ (c .if1 .taken))) (λ z. absurd (omega (arith, z))) refl
 
+hand-over-requires : tie.Need-hand-over-requires
+hand-over-requires c κs = let w = written (c .before .before .before) in let s = start w in let e = w .write-word .ensures in
+    (e .count ∙ sym (s .pre .1), symbols-small (s .args .shape .m) _ (s .pre .0 .coded .width-is) (e .symbols))
+
 returns-2 : tie.Need-returns-2
 returns-2 c = let k = c .before .before in let e = k .before .before .before in let w = e .before in let a = start (written w) .args in
     let y : w .is-codeword .result ≡ true = not-false _ (e .if1 .left) in
     outcome-done _ _ _ _ (taken _ (decided w ∙ y)) refl
-    (subst (Join-right (a .shape .m) (a .shape .r) (a .configuration) (a .bch .now)) (sym (k .copy .ensures)) (written w .write-word .ensures .right (sym (w .is-codeword .ensures) ∙ y)))
+    (subst (Join-right (a .shape .m) (a .shape .r) (a .configuration) (a .bch .now)) (sym (k .hand-over .ensures)) (written w .write-word .ensures .right (sym (w .is-codeword .ensures) ∙ y)))
 
 pub join-through-spec : {M : Type 1} → statement M
 join-through-spec =
@@ -49,7 +54,7 @@ join-through-spec =
     is-codeword-requires
     (λ c. search needs)
     returns
-    (λ c κs. search needs)
+    hand-over-requires
     (λ c. search needs)
     (λ c. search needs)
     returns-2)
