@@ -1,18 +1,18 @@
 -- Each coset has one leader. The heads give a member of it and the rows every BCH word, so that their sums are all its members: the least of them
 -- by weight and number leads, and no other can.
 -- Assumes nothing.
-use Rattle.basics.proofs.Kit.{_≡_, refl, sym, ap, ap₂, _∙_, Bool, true, false, _&&_, cond, List, [], _∷_, ℕ, zero, suc, _+_, _-_, _*_, _/_, _%_, _^_, _≤_, _<_, arith, length, drop, eqb, ltb}
+use Rattle.basics.proofs.Kit.{_≡_, refl, sym, ap, ap₂, _∙_, Bool, true, false, _&&_, cond, List, [], _∷_, ℕ, zero, suc, _+_, _-_, _*_, _/_, _%_, _^_, _≤_, _<_, arith, length, getD, drop, eqb, leb, ltb}
 use native.Mathlib.Nat.{not-suc-le-zero, le-refl, le-trans, le-antisymm, eq-or-lt-of-le, le-of-suc-le-suc, lt-of-lt-of-le, div-eq-of-lt}
 use lib.Pow.{pow-mono, shr-lt}
 use mathlib.Core.List.{map}
 use mathlib.Core.Logic.{_⊎_, inl, inr}
 use lib.Bits as B
-use lib.Count.{ones}
-use lib.Dec.{T, lit≤}
+use lib.Count.{ones, onesIn}
+use lib.Dec.{T, lit≤, eqb→eq, leb→le, ltb→lt}
 use lib.ListN.{replicate, length-drop, length-map}
-use borrow.Author.Tests.{ltb-true, ltb-false}
+use borrow.Author.Tests.{ltb-true, ltb-false, eq-eqb}
 use Rattle.field.specs.Field.{width-good, xor, times, times-from, doubled, alpha}
-use Rattle.field.proofs.Tests.{widths, and-l, and-r}
+use Rattle.field.proofs.Tests.{widths, all, at, and-l, and-r}
 use Rattle.field.proofs.Xor as X
 use Rattle.code.specs.Code.{long, message-long, value-from, value-at, syndrome-long, bch-dimension, configuration-long, roots-good, accepted}
 use Rattle.code.specs.Bits.{bits-of}
@@ -24,7 +24,7 @@ use Rattle.split.specs.Within.{Coset}
 use Rattle.split.specs.Members.{picked, rank, lower, least-rank, foremost}
 use Rattle.split.specs.Promise.{Bch-dimension, Sum-is-bch, Leader-there, One-leader}
 use Rattle.split.proofs.Layers as L
-use Rattle.split.proofs.Numbers.{bits-binary, bits-number, number-lt, number-bits, weight-ones, bits-xor, drop-bits, sum-cancel, drop-sum}
+use Rattle.split.proofs.Numbers.{bits-binary, bits-number, number-lt, number-bits, ones-none, ones-one, weight-ones, bits-xor, drop-bits, sum-cancel, drop-sum}
 use Rattle.split.proofs.Sums.{picked-zeros, picked-lt, powers, powers-long, same, same-is, picked-map, picked-back}
 use Rattle.split.proofs.Columns.{syndrome-sum}
 use Rattle.split.proofs.Cosets.{sum-is-bch}
@@ -81,6 +81,26 @@ good-tables m r = good-heads m r (syndrome-long m r) && good-rows m r (syndrome-
 tables-good : (m r : ℕ) → accepted m r ≡ true → T (good-tables m r)
 unfolding heads rows all-below same powers syndrome-at accepted roots-good configuration-long bch-dimension message-long long width-good number syndrome value-from value-at xor times times-from doubled alpha bits-of
 tables-good = at-each good-tables tt tt
+
+-- where a syndrome has m bits: a leader for each coset, of weight 1 or 0, and each such word leads its own
+unfoldable pub singles : (m : ℕ) → List ℕ
+singles m =
+    cond (eqb m 3) (0 ∷ 1 ∷ 2 ∷ 8 ∷ 4 ∷ 64 ∷ 16 ∷ 32 ∷ [])
+    (0 ∷ 1 ∷ 2 ∷ 16 ∷ 4 ∷ 256 ∷ 32 ∷ 1024 ∷ 8 ∷ 16384 ∷ 512 ∷ 128 ∷ 64 ∷ 8192 ∷ 2048 ∷ 4096 ∷ [])
+
+abbrev leads-one : (m r x : ℕ) → Bool
+leads-one m r x = eqb (getD (singles m) (syndrome-at m r x) 0) x
+
+abbrev good-single : (m r s : ℕ) → Bool
+good-single m r s =
+    ltb (getD (singles m) s 0) (2 ^ long m) && (eqb (syndrome-at m r (getD (singles m) s 0)) s && leb (ones (getD (singles m) s 0)) 1)
+
+abbrev good-singles : (m r : ℕ) → Bool
+good-singles m r = all (2 ^ m) (good-single m r) && (leads-one m r 0 && all (long m) (λ j. leads-one m r (2 ^ j)))
+
+singles-good : (m r : ℕ) → accepted m r ≡ true → T (cond (eqb (syndrome-long m r) m) (good-singles m r) true)
+unfolding singles syndrome-at accepted roots-good configuration-long bch-dimension message-long long width-good number syndrome value-from value-at xor times times-from doubled alpha bits-of ones onesIn
+singles-good = at-each (λ m r. cond (eqb (syndrome-long m r) m) (good-singles m r) true) tt tt
 
 -- THE LEAST RANK is that of one of the words, and no more than any of theirs
 lower-l : (a b : ℕ) → lower a b ≤ a
@@ -216,7 +236,34 @@ module _ (m r : ℕ) (a : accepted m r ≡ true) where
         (drop-bits q (long m) y fits ∙ ap (bits-of (long m - q)) (member-ends k few) ∙ sym (drop-bits q (long m) x fits)) in
         (k, few, sym (number-bits (long m) x small) ∙ ap word-number (sym equal) ∙ number-bits (long m) y (member-of k .small))
 
-    -- THE FIRST of them leads
+    -- OF LEAST RANK leads
+    top : 2 ^ long m ≤ 32768
+    top = unfold long in widths (λ m. 2 ^ long m ≤ 32768) (lit≤ tt) (lit≤ tt) m w
+
+    abbrev Below-all : (x : ℕ) → Type 0
+    Below-all x = (ds : List ℕ) → Binary m ds → syndrome m r ds ≡ s → 32768 * ones x + x ≤ 32768 * ones (word-number ds) + word-number ds
+
+    ranked : (z : ℕ) → Of-coset z → Below-all z → Leader m r s (bits-of (long m) z)
+    unfolding syndrome-at
+    ranked z of before = record {
+      binary = bits-binary m z;
+      of-coset = of .coset;
+      least = λ ds b f. rw (weight-ones (long m) z (of .small), weight-is ds b) (omega (arith, before ds b f, small, number-small ds b));
+      first = λ ds b f g. rw (number-bits (long m) z (of .small))
+          (omega (arith, before ds b f, small, number-small ds b, sym (weight-is ds b) ∙ g ∙ weight-ones (long m) z (of .small)));
+    }
+      where
+        small : z < 32768
+        small = lt-of-lt-of-le (of .small) top
+
+        number-small : (ds : List ℕ) → Binary m ds → word-number ds < 32768
+        number-small ds b = lt-of-lt-of-le (rw (← b .count) (number-lt ds (L.bits m ds b))) top
+
+        weight-is : (ds : List ℕ) → Binary m ds → weight ds ≡ ones (word-number ds)
+        weight-is ds b =
+            ap weight (sym (bits-number ds (L.bits m ds b))) ∙ weight-ones (length ds) (word-number ds) (number-lt ds (L.bits m ds b))
+
+    -- so does the first of the members
     record Least (l : ℕ) : Type 0 where
       word : ℕ
       of : Of-coset word
@@ -228,41 +275,76 @@ module _ (m r : ℕ) (a : accepted m r ≡ true) where
         (λ k. record { word = xor base (picked rs k); of = member-of k; is = refl }) (2 ^ length rs)
 
     pub leads : (x : ℕ) → x ≡ foremost hs rs s → Leader m r s (bits-of (long m) x)
-    unfolding foremost rank base syndrome-at
-    leads x e = rw first-is (record {
-      binary = bits-binary m z;
-      of-coset = least .of .coset;
-      least = λ ds b f. rw (weight-ones (long m) z small, weight-is ds b) (omega (arith, before ds b f, small-15, number-small ds b));
-      first = λ ds b f g. rw (number-bits (long m) z small)
-          (omega (arith, before ds b f, small-15, number-small ds b, sym (weight-is ds b) ∙ g ∙ weight-ones (long m) z small));
-    })
+    unfolding foremost rank base
+    leads x e = rw first-is (ranked z (least .of) before)
       where
         z : ℕ
         z = least .word
 
-        small : z < 2 ^ long m
-        small = least .of .small
-
-        top : 2 ^ long m ≤ 32768
-        top = unfold long in widths (λ m. 2 ^ long m ≤ 32768) (lit≤ tt) (lit≤ tt) m w
-
-        small-15 : z < 32768
-        small-15 = lt-of-lt-of-le small top
-
         first-is : x ≡ z
-        first-is = e ∙ ap (λ (l : ℕ). l % 32768) (least .is) ∙ omega (arith, small-15)
+        first-is = let h : z < 32768 = lt-of-lt-of-le (least .of .small) top in e ∙ ap (λ (l : ℕ). l % 32768) (least .is) ∙ omega (arith, h)
 
-        number-small : (ds : List ℕ) → Binary m ds → word-number ds < 32768
-        number-small ds b = lt-of-lt-of-le (rw (← b .count) (number-lt ds (L.bits m ds b))) top
-
-        weight-is : (ds : List ℕ) → Binary m ds → weight ds ≡ ones (word-number ds)
-        weight-is ds b =
-            ap weight (sym (bits-number ds (L.bits m ds b))) ∙ weight-ones (length ds) (word-number ds) (number-lt ds (L.bits m ds b))
-
-        before : (ds : List ℕ) → Binary m ds → syndrome m r ds ≡ s → 32768 * ones z + z ≤ 32768 * ones (word-number ds) + word-number ds
+        before : Below-all z
         before ds b f =
             let k = among ds b f in
             rw (← least .is, k .2) (least-le rs base (2 ^ length rs) (k .0) (rw rows-many (k .1)))
+
+    -- and so does a word of weight 1 or 0, where a syndrome has m bits
+    module _ (few : q ≡ m) where
+      single : ℕ
+      single = getD (singles m) s 0
+
+      tests : T (good-singles m r)
+      tests = let t = singles-good m r a in rw (eq-eqb q m few) at t
+
+      its : T (good-single m r s)
+      its = at (2 ^ m) (good-single m r) (and-l (all (2 ^ m) (good-single m r)) _ tests) s (rw few at inside)
+
+      single-light : ones single ≤ 1
+      unfolding single
+      single-light = leb→le _ 1 (and-r (eqb (syndrome-at m r (getD (singles m) s 0)) s) _ (and-r (ltb (getD (singles m) s 0) (2 ^ long m)) _ its))
+
+      single-of : Of-coset single
+      unfolding single
+      single-of = record {
+        small = ltb→lt _ _ (and-l (ltb (getD (singles m) s 0) (2 ^ long m)) _ its);
+        coset = eqb→eq _ s (and-l (eqb (syndrome-at m r (getD (singles m) s 0)) s) _ (and-r (ltb (getD (singles m) s 0) (2 ^ long m)) _ its));
+      }
+
+      others : T (leads-one m r 0 && all (long m) (λ j. leads-one m r (2 ^ j)))
+      others = and-r (all (2 ^ m) (good-single m r)) _ tests
+
+      -- a word of weight 1 or 0 in the coset is this one
+      is-single : (y : ℕ) → syndrome-at m r y ≡ s → T (leads-one m r y) → y ≡ single
+      unfolding single
+      is-single y e t = sym (eqb→eq _ y t) ∙ ap (λ (k : ℕ). getD (singles m) k 0) e
+
+      before : Below-all single
+      unfolding syndrome-at
+      before ds b f = go (ones y) refl
+        where
+          y : ℕ
+          y = word-number ds
+
+          small : y < 2 ^ long m
+          small = rw (← b .count) (number-lt ds (L.bits m ds b))
+
+          of : syndrome-at m r y ≡ s
+          of = ap (syndrome m r) (rw (← b .count) (bits-number ds (L.bits m ds b))) ∙ f
+
+          same : y ≡ single → 32768 * ones single + single ≤ 32768 * ones y + y
+          same e = rw e (le-refl (32768 * ones single + single))
+
+          go : (k : ℕ) → ones y ≡ k → 32768 * ones single + single ≤ 32768 * ones y + y
+          go zero e = let z = ones-none (long m) y small e in same (is-single y of (rw z (and-l (leads-one m r 0) _ others)))
+          go (suc zero) e =
+              let p = ones-one (long m) y small e in
+              same (is-single y of (rw (p .2) (at (long m) (λ j. leads-one m r (2 ^ j)) (and-r (leads-one m r 0) _ others) (p .0) (p .1))))
+          go (suc (suc k)) e = omega (arith, single-light, lt-of-lt-of-le (single-of .small) top)
+
+      pub single-leads : Leader m r s (bits-of (long m) (getD (singles m) s 0))
+      unfolding single
+      single-leads = ranked single single-of before
 
 -- THE leader of a coset
 unfoldable pub the-leader : (m r s : ℕ) → List ℕ
@@ -282,6 +364,12 @@ found {h} {s} z x e =
     let c = z .coded in
     let i : s < 2 ^ syndrome-long (h .m) (h .r) = rw (← c .q-is, ← c .size-is) (z .inside) in
     leads (h .m) (h .r) (c .accepted-is) s i x (rw (← c .q-is) e)
+
+pub found-single : {h : Shape} {s : ℕ} → Coset h s → h .q ≡ h .m → (x : ℕ) → x ≡ getD (singles (h .m)) s 0 → Leader (h .m) (h .r) s (bits-of (long (h .m)) x)
+found-single {h} {s} z e x f =
+    let c = z .coded in
+    let i : s < 2 ^ syndrome-long (h .m) (h .r) = rw (← c .q-is, ← c .size-is) (z .inside) in
+    rw f (single-leads (h .m) (h .r) (c .accepted-is) s i (sym (c .q-is) ∙ e))
 
 -- AND NO OTHER: of two leaders each has the least weight, and then the smallest number
 pub one-leader : One-leader

@@ -3,7 +3,7 @@
 use Rattle.basics.proofs.Kit.{_≡_, refl, sym, ap, ap₂, _∙_, List, [], _∷_, ℕ, zero, suc, _+_, _-_, _*_, _/_, _%_, _^_, _≤_, _<_, arith, length, drop}
 use native.Mathlib.Nat.{div-one, pow-suc, pow-succ', div-div-eq-div-mul}
 use lib.Bits as B
-use lib.Count.{ones, onesIn, ones-step}
+use lib.Count.{ones, onesIn, ones-step, ones-le}
 use Rattle.field.specs.Field.{xor}
 use Rattle.field.proofs.Xor as X
 use Rattle.code.specs.Code.{long}
@@ -47,6 +47,21 @@ pub weight-ones : (n x : ℕ) → x < 2 ^ n → weight (bits-of n x) ≡ ones x
 unfolding bits-of weight ones onesIn
 weight-ones zero x h = let e : x ≡ 0 = omega arith in rw e refl
 weight-ones (suc n) x h = ap (λ (k : ℕ). x % 2 + k) (weight-ones n (x / 2) (half-lt n x h)) ∙ sym (ones-step x)
+
+-- a number with one 1 bit, or none
+pub ones-none : (n x : ℕ) → x < 2 ^ n → ones x ≡ 0 → x ≡ 0
+ones-none zero x h e = omega arith
+ones-none (suc n) x h e =
+    let half : x / 2 ≡ 0 = ones-none n (x / 2) (half-lt n x h) (omega (arith, ones-step x)) in
+    omega (arith, ones-step x)
+
+pub ones-one : (n x : ℕ) → x < 2 ^ n → ones x ≡ 1 → (j : ℕ) × (j < n) × (x ≡ 2 ^ j)
+ones-one zero x h e = let z : x ≡ 0 = omega arith in absurd (omega (arith, e, ones-le 0 x h))
+ones-one (suc n) x h e = go (x % 2) refl (ones-one n (x / 2) (half-lt n x h))
+  where
+    go : (b : ℕ) → x % 2 ≡ b → (ones (x / 2) ≡ 1 → (j : ℕ) × (j < n) × (x / 2 ≡ 2 ^ j)) → (j : ℕ) × (j < suc n) × (x ≡ 2 ^ j)
+    go zero l rest = let t = rest (omega (arith, ones-step x)) in (suc (t .0), omega (arith, t .1), omega (arith, t .2, pow-suc 2 (t .0)))
+    go (suc b) l rest = let z : x / 2 ≡ 0 = ones-none n (x / 2) (half-lt n x h) (omega (arith, ones-step x)) in (0, omega arith, omega arith)
 
 -- the word of a sum
 pub bits-xor : (n a b : ℕ) → bits-of n (xor a b) ≡ sum (bits-of n a) (bits-of n b)

@@ -6,16 +6,14 @@ mod tables;
 
 use code::Chosen;
 use code::Shape;
-use tables::HEADS_3_3;
 use tables::HEADS_3_6;
-use tables::HEADS_4_4;
 use tables::HEADS_4_8;
 use tables::HEADS_4_10;
-use tables::ROWS_3_3;
 use tables::ROWS_3_6;
-use tables::ROWS_4_4;
 use tables::ROWS_4_8;
 use tables::ROWS_4_10;
+use tables::SINGLES_3;
+use tables::SINGLES_4;
 ghost use mathlib.Core.Path.{_≡_};
 ghost use mathlib.Core.Bool.{_&&_, cond};
 ghost use Prim.Native.Nat.{_/_, _%_, _^_, _≤_, _<_};
@@ -36,19 +34,19 @@ pub struct Splitting {
     pub configuration: [u16; 4],
 }
 
-// The leader of a coset, bit i at position i.
+// The leader of a coset, bit i at position i. Where a syndrome has m bits, the words of weight 1 or 0 have each coset once, and lead.
 pub fn leader(shape: Shape, s: u16) -> u16
     requires { ⌜ Coset shape s ⌝ }
     ensures { λ x. ⌜ Leader (shape .m) (shape .r) s (bits-of (long (shape .m)) x) ⌝ }
 {
     if shape.m == 3 {
         if shape.q == 3 {
-            return foremost(&HEADS_3_3, &ROWS_3_3, s);
+            return SINGLES_3[s as usize];
         }
         return foremost(&HEADS_3_6, &ROWS_3_6, s);
     }
     if shape.q == 4 {
-        return foremost(&HEADS_4_4, &ROWS_4_4, s);
+        return SINGLES_4[s as usize];
     }
     if shape.q == 8 {
         return foremost(&HEADS_4_8, &ROWS_4_8, s);

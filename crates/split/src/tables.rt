@@ -1,16 +1,30 @@
-// For each m and number q of a syndrome's bits, words as numbers, bit i at position i: the word 0 from position q on with each syndrome of a single bit,
-// and the BCH word with each single 1 from position q on.
-pub const HEADS_3_3: [u16; 3] = [1, 2, 4];
+// Where a syndrome has m bits, the leader of each coset, by its number, bit i at position i: the zero word, and the words of weight 1.
+pub const SINGLES_3: [u16; 8] = [0, 1, 2, 8, 4, 64, 16, 32];
 
-pub const ROWS_3_3: [u16; 4] = [11, 22, 39, 69];
+pub const SINGLES_4: [u16; 16] = [
+    0,
+    1,
+    2,
+    16,
+    4,
+    256,
+    32,
+    1024,
+    8,
+    16384,
+    512,
+    128,
+    64,
+    8192,
+    2048,
+    4096,
+];
 
+// For each m and each greater number q of a syndrome's bits, words as numbers, bit i at position i: the word 0 from position q on with each syndrome of a
+// single bit, and the BCH word with each single 1 from position q on.
 pub const HEADS_3_6: [u16; 6] = [23, 46, 35, 22, 58, 49];
 
 pub const ROWS_3_6: [u16; 1] = [127];
-
-pub const HEADS_4_4: [u16; 4] = [1, 2, 4, 8];
-
-pub const ROWS_4_4: [u16; 11] = [19, 38, 76, 139, 261, 522, 1031, 2062, 4111, 8205, 16393];
 
 pub const HEADS_4_8: [u16; 8] = [198, 93, 186, 165, 199, 242, 225, 95];
 
