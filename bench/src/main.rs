@@ -4,17 +4,19 @@
 //!     bench call WHICH CALL CODE N [ROWS]  N calls on rows of one pool, for a count of instructions
 //!     bench time WHICH CALL CODE N [ROWS]  nanoseconds a call, the least of five runs of N calls
 //!
-//! WHICH is library, plain or, for codes 1 to 3, wolf; CALL is decode or mark, for library and plain also quantise or receive, for the
-//! library alone list, a listing of the whole pool, or paper, one of 200 questions, the pool again and again. ROWS is random, as where none
+//! WHICH is library, plain or, for codes 1 to 3, wolf; CALL is decode or mark, for library and plain also quantise, receive, split or join, for
+//! the library alone list, a listing of the whole pool, or paper, one of 200 questions, the pool again and again. ROWS is random, as where none
 //! is named, or zero, sparse or small (of -1, 0 and 1).
 
 mod codes;
 mod front;
 mod library;
+mod parts;
 mod plain;
 mod wolf;
 
 use codes::Code;
+use parts::Parts;
 use plain::Plain;
 use std::hint::black_box;
 use std::time::Instant;
@@ -94,6 +96,44 @@ impl Front {
             _ => usage(),
         };
         done.expect("symbols of a row");
+    }
+}
+
+/// The words to mark, and what they split into.
+struct Layers {
+    parts: Parts,
+    words: Vec<(Vec<u8>, [u16; 4], Vec<u8>)>,
+}
+
+impl Layers {
+    fn new(number: u32, pool: &[(Vec<i16>, Vec<u8>)]) -> Layers {
+        let parts = Parts::new(Code::of(number));
+        let part = |word: &Vec<u8>| {
+            let mut bch = vec![0; Code::of(number).bits()];
+            (word.clone(), parts.split(word, &mut bch).expect("a codeword"), bch)
+        };
+        let words = pool.iter().map(|(_, word)| part(word)).collect();
+        Layers { parts, words }
+    }
+
+    fn split(&self, which: &str, code: u32, k: usize, bch: &mut [u8]) -> [u16; 4] {
+        let word = black_box(&self.words[k % POOL].0);
+        let found = match which {
+            "library" => library::split(code, word, bch).ok(),
+            "plain" => self.parts.split(word, bch),
+            _ => usage(),
+        };
+        found.expect("a codeword")
+    }
+
+    fn join(&self, which: &str, code: u32, k: usize, word: &mut [u8]) {
+        let (_, configuration, bch) = black_box(&self.words[k % POOL]);
+        let done = match which {
+            "library" => library::join(code, *configuration, bch, word).ok(),
+            "plain" => self.parts.join(*configuration, bch, word),
+            _ => usage(),
+        };
+        done.expect("the parts of a codeword");
     }
 }
 
@@ -183,24 +223,34 @@ fn calls(which: &str, call: &str, decoders: &mut Decoders, pool: &[(Vec<i16>, Ve
     let sheet = library::sheet(decoders.number, &questions);
     let mut text = vec![0; library::LISTING];
     let front = Front::new(code.bits());
+    let layers = matches!(call, "split" | "join").then(|| Layers::new(decoders.number, pool));
+    let mut bch = vec![0; code.bits()];
     for (k, (row, handed)) in pool.iter().cycle().take(n).enumerate() {
-        match call {
-            "quantise" => {
+        match (call, &layers) {
+            ("split", Some(layers)) => {
+                black_box(layers.split(which, decoders.number, k, &mut bch));
+                black_box(&bch);
+            }
+            ("join", Some(layers)) => {
+                layers.join(which, decoders.number, k, &mut word);
+                black_box(&word);
+            }
+            ("quantise", _) => {
                 front.quantise(which, decoders.number, k, &mut soft);
                 black_box(&soft);
             }
-            "receive" => {
+            ("receive", _) => {
                 front.receive(which, decoders.number, k, &mut soft);
                 black_box(&soft);
             }
-            "list" | "paper" => {
+            ("list" | "paper", _) => {
                 black_box(library::list(black_box(&sheet), &mut text).expect("a listing"));
             }
-            "decode" => {
+            ("decode", _) => {
                 black_box(decoders.decode(which, black_box(row), &mut word, &mut soft));
                 black_box((&word, &soft));
             }
-            "mark" => {
+            ("mark", _) => {
                 black_box(decoders.mark(which, black_box(row), black_box(handed)));
             }
             _ => usage(),
@@ -250,6 +300,17 @@ fn check(number: u32, count: usize) {
             (quantised, received)
         });
         assert_eq!(rows[0], rows[1], "quantised and received, row {k}");
+    }
+    let words = pool(number, "random");
+    let layers = Layers::new(number, &words);
+    for (k, (_, word)) in words.iter().enumerate() {
+        for which in ["library", "plain"] {
+            let (mut bch, mut joined) = (vec![0; code.bits()], vec![0; code.n]);
+            let configuration = layers.split(which, number, k, &mut bch);
+            layers.join(which, number, k, &mut joined);
+            assert_eq!((word.clone(), configuration, bch), layers.words[k], "{which}: the parts of word {k}");
+            assert_eq!(joined, *word, "{which}: word {k} joined");
+        }
     }
     let [none, short, best] = verdicts;
     print!("code {number}: {} agree on {count} rows, {ties} with another tied word, ", all.join(", "));
