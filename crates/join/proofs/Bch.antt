@@ -1,15 +1,15 @@
 -- A binary word is a BCH word, with syndrome 0, exactly when it is a codeword: a syndrome is 0 exactly when the value at every root is. Then the words of
 -- all layers, end to end.
 -- Assumes nothing.
-use Rattle.basics.proofs.Kit.{_≡_, refl, sym, ap, ap₂, _∙_, Bool, true, false, _&&_, cond, List, [], _∷_, ℕ, zero, suc, _+_, _≤_, _<_, arith, length, eqb, leb, ltb}
-use native.Mathlib.Nat.{mul-zero, not-suc-le-zero, add-zero, add-suc, suc-add, le-of-suc-le-suc}
+use Rattle.basics.proofs.Kit.{_≡_, refl, sym, ap, ap₂, _∙_, Bool, true, false, _&&_, cond, List, [], _∷_, ℕ, zero, suc, _+_, _%_, _≤_, _<_, arith, length, eqb, leb, ltb}
+use native.Mathlib.Nat.{div-one, mod-eq-of-lt, mul-zero, not-suc-le-zero, add-zero, add-suc, suc-add, le-of-suc-le-suc}
 use lib.Dec.{T, eqb→eq, leb→le}
 use Rattle.field.specs.Field.{width-good, times, times-from, doubled, square, xor}
 use Rattle.field.proofs.Tests.{widths, all, at, and-l, and-r, to-T, from-T}
 use Rattle.code.specs.Code.{long, value-at, symbols-good, is-codeword}
 use Rattle.code.proofs.Accepted.{accepted-parts}
-use Rattle.code.proofs.Words.{codeword-parts, parts-codeword, eqb-true}
-use Rattle.split.specs.Split.{number, numbered, syndrome, layer-value, all-below, Binary}
+use Rattle.code.proofs.Words.{Below, codeword-parts, parts-codeword, eqb-true}
+use Rattle.split.specs.Split.{layer, number, numbered, syndrome, layer-value, all-below, Binary}
 use Rattle.split.proofs.Layers as L
 use Rattle.split.proofs.Glue as G
 use Rattle.join.specs.Calls.{part, is-bch, all-bch}
@@ -20,6 +20,15 @@ pub two-is : (bs : List ℕ) → symbols-good 1 bs ≡ all-below 2 bs
 unfolding symbols-good all-below
 two-is [] = refl
 two-is (b ∷ bs) = ap (λ (x : Bool). ltb b 2 && x) (two-is bs)
+
+-- a binary word is its own first layer
+pub layer-zero : (bs : List ℕ) → all-below 2 bs ≡ true → layer 0 bs ≡ bs
+unfolding layer
+layer-zero bs e = go bs (L.below 2 bs (to-T e))
+  where
+    go : (bs : List ℕ) → Below 2 bs → layer 0 bs ≡ bs
+    go [] p = refl
+    go (b ∷ bs) p = ap₂ _∷_ (ap (λ (x : ℕ). x % 2) (div-one b) ∙ mod-eq-of-lt (p .0)) (go bs (p .1))
 
 -- two tests that hold together
 pub both-ways : (a b : Bool) → (a ≡ true → b ≡ true) → (b ≡ true → a ≡ true) → a ≡ b

@@ -1,6 +1,6 @@
 // BCH words and a configuration, as the split of a codeword leaves them, joined to the codeword again.
 // `join`, with a code's number, and `join_by`, with its m and r, are offered to callers: they take any input and promise what specs/Calls.antt says.
-// The layers' leaders are the crate `split`'s, and the codeword test is the crate `code`'s: with every syndrome in range, a configuration is valid exactly
+// Syndromes and leaders are the crate `split`'s, and the codeword test is the crate `code`'s: with every syndrome in range, a configuration is valid exactly
 // where what is joined by it is a codeword.
 use code::Chosen;
 use code::Shape;
@@ -103,13 +103,13 @@ fn all_bch(shape: Shape, bch: &[u8]) -> bool
     true
 }
 
-// Whether n values are a BCH word: 0 and 1 alone, and a word of the code.
+// Whether n values are a BCH word: 0 and 1 alone, with syndrome 0.
 fn is_bch(shape: Shape, values: &[u8]) -> bool
     requires { ⌜ Word-of shape (now values) ⌝ }
     ensures { λ x. ⌜ x ≡ is-bch (shape .m) (shape .r) (now (values .entry)) ⌝ }
 {
     if code::symbols_good(1, values) {
-        return code::is_codeword(shape.m, shape.r, values);
+        return split::syndrome_of(shape, 0, values) == 0;
     }
     false
 }

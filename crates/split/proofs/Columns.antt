@@ -1,17 +1,23 @@
 -- The syndrome of a binary word is the sum of the columns of its 1 bits: values add, and a syndrome's parts are digits. So the syndrome of
 -- a sum is the sum of the syndromes.
 -- Assumes nothing.
-use Rattle.basics.proofs.Kit.{_≡_, refl, sym, ap, ap₂, _∙_, Bool, true, false, _&&_, cond, List, [], _∷_, ℕ, zero, suc, _+_, _*_, _^_, _≤_, _<_, arith, length, eqb, leb}
-use native.Mathlib.Nat.{mul-comm, mul-zero, add-comm}
+use Rattle.basics.proofs.Kit.{_≡_, refl, sym, ap, ap₂, _∙_, Bool, true, false, _&&_, cond, List, [], _∷_, ℕ, zero, suc, _+_, _*_, _/_, _%_, _^_, _≤_, _<_, arith, length, getD, drop, eqb, leb}
+use native.Mathlib.Nat.{mul-comm, mul-zero, add-comm, zero-mod}
+use native.Mathlib.Numerals.{add-one}
+use lib.Dec.{eqb→eq}
+use lib.ListN.{drop-of-length-le}
+use lib.Seq.{drop-cons}
 use lib.Bits as B
 use lib.Pow.{pow-pos}
-use Rattle.field.specs.Field.{xor, times, alpha, width-good}
-use Rattle.code.specs.Code.{value-from, value-at}
-use Rattle.split.specs.Split.{number, syndrome, column, columns-from, Binary, sum}
+use Rattle.field.specs.Field.{xor, times, doubled, alpha, width-good}
+use Rattle.code.specs.Code.{long, message-long, value-from, value-at, syndrome-long, bch-dimension, configuration-long, roots-good, accepted}
+use Rattle.split.specs.Split.{layer, number, syndrome, column, columns-from, Binary, sum}
+use Rattle.split.specs.Members.{where-odd}
 use Rattle.split.specs.Promise.{Syndrome-columns}
-use Rattle.field.proofs.Tests.{eq-below}
+use Rattle.field.proofs.Tests.{all, at, eq-below}
 use Rattle.field.proofs.Xor as X
 use Rattle.field.proofs.Field as F
+use Rattle.code.proofs.Accepted.{at-each}
 use Rattle.code.proofs.Words.{Below}
 use Rattle.split.proofs.Layers as L
 use Rattle.split.proofs.Syndromes.{size-small}
@@ -124,3 +130,34 @@ syndrome-sum m r bs ds w p q =
     syndrome-columns m r (sum bs ds) w (L.sum-binary m bs ds p q)
     ∙ columns-add m r 0 bs ds (p .count ∙ sym (q .count)) (L.bits m bs p) (L.bits m ds q)
     ∙ ap₂ xor (sym (syndrome-columns m r bs w p)) (sym (syndrome-columns m r ds w q))
+
+-- FEWER ROOTS: the lowest bits of the columns of six, and of their sum
+masked-column : (m r i : ℕ) → accepted m r ≡ true → i < long m → column m 6 i % 2 ^ syndrome-long m r ≡ column m r i
+unfolding column number alpha doubled xor accepted roots-good configuration-long bch-dimension message-long long width-good
+masked-column m r i a h =
+    let test : ℕ → ℕ → Bool = λ m r. all (long m) (λ i. eqb (column m 6 i % 2 ^ syndrome-long m r) (column m r i)) in
+    eqb→eq _ _ (at (long m) (λ i. eqb (column m 6 i % 2 ^ syndrome-long m r) (column m r i)) (at-each test tt tt m r a) i h)
+
+masked-bit : (b : Bool) (x y n : ℕ) → x % n ≡ y → cond b 0 x % n ≡ cond b 0 y
+masked-bit true x y n e = zero-mod n
+masked-bit false x y n e = e
+
+pub masked : (m r i : ℕ) (bs : List ℕ) → accepted m r ≡ true → i + length bs ≤ long m → columns-from m 6 i bs % 2 ^ syndrome-long m r ≡ columns-from m r i bs
+unfolding columns-from xor
+masked m r i [] a h = zero-mod (2 ^ syndrome-long m r)
+masked m r i (b ∷ bs) a h =
+    B.xor-mod (cond (eqb b 0) 0 (column m 6 i)) (columns-from m 6 (suc i) bs) (syndrome-long m r)
+    ∙ ap₂ B.bitXor (masked-bit (eqb b 0) (column m 6 i) (column m r i) (2 ^ syndrome-long m r) (masked-column m r i a (omega arith))) (masked m r (suc i) bs a (omega arith))
+
+-- as a loop over the positions has it
+pub column-step : (m j i x h : ℕ) (ws : List ℕ) → i < length ws → h ≡ column m 6 i →
+    xor (xor x (where-odd (getD ws i 0 / 2 ^ j % 2) h)) (columns-from m 6 (i + 1) (drop (i + 1) (layer j ws))) ≡ xor x (columns-from m 6 i (drop i (layer j ws)))
+unfolding columns-from
+column-step m j i x h ws l e =
+    let k : i < length (layer j ws) = rw (L.layer-length j ws) l in
+    let b : getD ws i 0 / 2 ^ j % 2 % 2 ≡ getD (layer j ws) i 0 = omega (arith, L.layer-at j ws i l) in
+    rw (drop-cons (layer j ws) i 0 k, add-one i, e, b) (X.assoc x _ _)
+
+pub column-end : (m i x : ℕ) (bs : List ℕ) → length bs ≤ i → xor x (columns-from m 6 i (drop i bs)) ≡ x
+unfolding columns-from
+column-end m i x bs h = rw (drop-of-length-le bs h) (X.zero-r x)

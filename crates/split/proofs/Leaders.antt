@@ -1,5 +1,5 @@
 -- Each coset has one leader. The heads give a member of it and the rows every BCH word, so that their sums are all its members: the least of them
--- by weight and number leads, and no other can.
+-- by weight and number leads, and no other can. Where a syndrome has m bits, the words of weight 1 or 0 have each coset once, and lead.
 -- Assumes nothing.
 use Rattle.basics.proofs.Kit.{_≡_, refl, sym, ap, ap₂, _∙_, Bool, true, false, _&&_, cond, List, [], _∷_, ℕ, zero, suc, _+_, _-_, _*_, _/_, _%_, _^_, _≤_, _<_, arith, length, getD, drop, eqb, leb, ltb}
 use native.Mathlib.Nat.{not-suc-le-zero, le-refl, le-trans, le-antisymm, eq-or-lt-of-le, le-of-suc-le-suc, lt-of-lt-of-le, div-eq-of-lt}

@@ -1,11 +1,13 @@
 // A word as m binary layers: their syndromes, the leaders of their cosets, and the split of a codeword.
 // `split`, with a code's number, and `split_by`, with its m and r, are offered to callers: they take any input and promise what specs/Calls.antt says,
-// by the definitions of specs/Split.antt. `leader` and `syndromes_of` are for the crates above. Which configurations are valid, and all of them by
+// by the definitions of specs/Split.antt. `leader` and `syndrome_of` are for the crates above. Which configurations are valid, and all of them by
 // number, is left to the crate `configurations`; words and codes are the crate `code`'s.
 mod tables;
 
 use code::Chosen;
 use code::Shape;
+use tables::COLUMNS_3;
+use tables::COLUMNS_4;
 use tables::HEADS_3_6;
 use tables::HEADS_4_8;
 use tables::HEADS_4_10;
@@ -15,16 +17,16 @@ use tables::ROWS_4_10;
 use tables::SINGLES_3;
 use tables::SINGLES_4;
 ghost use mathlib.Core.Path.{_≡_};
-ghost use mathlib.Core.Bool.{_&&_, cond};
+ghost use mathlib.Core.Bool.{true};
 ghost use Prim.Native.Nat.{_/_, _%_, _^_, _≤_, _<_};
-ghost use lib.Dec.{leb, eqb};
 ghost use lib.ListN.{length};
-ghost use Rattle.code.specs.Code.{long, value-at, number-refusal, width, roots, parameter-refusal};
+ghost use Rattle.field.specs.Field.{width-good};
+ghost use Rattle.code.specs.Code.{long, number-refusal, width, roots, parameter-refusal};
 ghost use Rattle.code.specs.Bits.{bits-of};
 ghost use Rattle.code.specs.Within.{Coded};
-ghost use Rattle.split.specs.Split.{layer, number, syndrome, syndromes, padded, Leader, sum};
+ghost use Rattle.split.specs.Split.{layer, syndrome, syndromes, padded, Leader, sum};
 ghost use Rattle.split.specs.Members.{where-odd, picked, rank, lower, least-rank, foremost};
-ghost use Rattle.split.specs.Within.{Coset, Layer-of, Layers-of, Layered};
+ghost use Rattle.split.specs.Within.{Columns, Coset, Layer-of, Layers-of, Layered};
 ghost use Rattle.split.specs.Calls.{Split-right, Split-says};
 
 // The number of a refusal, or 0 with the configuration of the word.
@@ -122,80 +124,41 @@ fn bit(c: u8, j: u32) -> u8
     (c >> j) % 2
 }
 
-// The value at α^t of layer j of a word.
-fn layer_value(m: u32, t: u32, j: u32, word: &[u8]) -> u8
-    requires { ⌜ (t < 6) × Layer-of m j (now word) ⌝ }
-    ensures { λ x. ⌜ x ≡ value-at m t (layer j (now (word .entry))) ⌝ }
+// The columns of a layer's parity checks with six roots.
+fn columns_of(m: u32) -> [u16; 15]
+    requires { ⌜ width-good m ≡ true ⌝ }
+    ensures { λ x. ⌜ Columns m x ⌝ }
 {
-    let mut sum: u8 = 0;
-    let mut e: u32 = 0;
+    if m == 3 {
+        return COLUMNS_3;
+    }
+    COLUMNS_4
+}
+
+// The syndrome of layer j of a word: the sum of the columns of its 1 bits, as far as the roots go.
+pub fn syndrome_of(shape: Shape, j: u32, word: &[u8]) -> u16
+    requires { ⌜ Layer-of shape j (now word) ⌝ }
+    ensures { λ x. ⌜ x ≡ syndrome (shape .m) (shape .r) (layer j (now (word .entry))) ⌝ }
+{
+    let columns = columns_of(shape.m);
+    let mut sum: u16 = 0;
     let mut i: usize = 0;
     while i < word.len() {
-        sum = field::add(sum, field::multiply(m, bit(word[i], j), field::power(m, e)));
-        e += t;
+        sum = sum ^ where_odd(bit(word[i], j) as u32, columns[i]);
         i += 1;
     }
-    sum
-}
-
-// An element's number as a syndrome's.
-fn wide(x: u8) -> u16
-    ensures { λ r. ⌜ r ≡ x ⌝ }
-{
-    x as u16
-}
-
-// The second part of a syndrome: the value at α^3, from three roots on.
-fn third(m: u32, r: u32, j: u32, word: &[u8]) -> u16
-    requires { ⌜ Layer-of m j (now word) ⌝ }
-    ensures { λ x. ⌜ x ≡ cond (leb 3 r) (value-at m 3 (layer j (now (word .entry)))) 0 ⌝ }
-{
-    if r < 3 {
-        return 0;
-    }
-    wide(layer_value(m, 3, j, word))
-}
-
-// The last part of a syndrome: for m = 4 the number of the value at α^5, from five roots on.
-fn fifth(m: u32, r: u32, j: u32, word: &[u8]) -> u16
-    requires { ⌜ Layer-of m j (now word) ⌝ }
-    ensures { λ x. ⌜ x ≡ cond (leb 5 r && eqb m 4) (number (value-at m 5 (layer j (now (word .entry))))) 0 ⌝ }
-{
-    if r < 5 {
-        return 0;
-    }
-    if m == 4 {
-        return wide(numbered(layer_value(m, 5, j, word)));
-    }
-    0
-}
-
-// The number of a value of the field of 4: 0, 1, 6 and 7 are numbered 0 to 3.
-fn numbered(v: u8) -> u8
-    ensures { λ x. ⌜ x ≡ number v ⌝ }
-{
-    v % 2 + 2 * (v / 4 % 2)
-}
-
-// The syndrome of layer j of a word.
-fn syndrome_of(m: u32, r: u32, j: u32, word: &[u8]) -> u16
-    requires { ⌜ Layer-of m j (now word) ⌝ }
-    ensures { λ x. ⌜ x ≡ syndrome m r (layer j (now (word .entry))) ⌝ }
-{
-    let size = wide(field::size(m));
-    let first = wide(layer_value(m, 1, j, word));
-    first + size * (third(m, r, j, word) + size * fifth(m, r, j, word))
+    sum % (shape.size as u16)
 }
 
 // The configuration of a word: the syndromes of its layers; with m = 3 the fourth place is 0.
-pub fn syndromes_of(m: u32, r: u32, word: &[u8]) -> [u16; 4]
-    requires { ⌜ Layers-of m (now word) ⌝ }
-    ensures { λ x. ⌜ x ≡ padded (syndromes m r (now (word .entry))) ⌝ }
+fn syndromes_of(shape: Shape, word: &[u8]) -> [u16; 4]
+    requires { ⌜ Layers-of shape (now word) ⌝ }
+    ensures { λ x. ⌜ x ≡ padded (syndromes (shape .m) (shape .r) (now (word .entry))) ⌝ }
 {
     let mut to = [0u16; 4];
     let mut j: u32 = 0;
-    while j < m {
-        to[j as usize] = syndrome_of(m, r, j, word);
+    while j < shape.m {
+        to[j as usize] = syndrome_of(shape, j, word);
         j += 1;
     }
     to
@@ -264,7 +227,7 @@ fn split_in(chosen: Chosen, word: &[u8], bch: &mut [u8]) -> Splitting
             configuration: [0u16; 4],
         };
     }
-    let tuple = syndromes_of(shape.m, shape.r, word);
+    let tuple = syndromes_of(shape, word);
     write_layers(shape, word, tuple, bch);
     Splitting {
         number: 0,

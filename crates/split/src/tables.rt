@@ -1,3 +1,24 @@
+// With six roots, what a 1 at a position adds to a layer's syndrome; with fewer it is the lowest bits of that. With m = 3 there are seven positions.
+pub const COLUMNS_3: [u16; 15] = [9, 26, 44, 35, 62, 23, 53, 0, 0, 0, 0, 0, 0, 0, 0];
+
+pub const COLUMNS_4: [u16; 15] = [
+    273,
+    642,
+    964,
+    424,
+    755,
+    790,
+    396,
+    715,
+    933,
+    506,
+    535,
+    910,
+    463,
+    685,
+    1017,
+];
+
 // Where a syndrome has m bits, the leader of each coset, by its number, bit i at position i: the zero word, and the words of weight 1.
 pub const SINGLES_3: [u16; 8] = [0, 1, 2, 8, 4, 64, 16, 32];
 

@@ -43,7 +43,7 @@ split-in-spec =
     (λ c κs. search needs)
     (λ c κs. search needs)
     returns
-    (λ c κs. record { width-is = start (c .before) .pre .width-is; count = member c .count })
+    (λ c κs. record { coded = start (c .before) .pre; count = member c .count })
     write-layers-requires
     (λ c. search needs)
     returns-2)

@@ -1,65 +1,76 @@
--- `split::syndrome_of` meets its contract.
+-- `split::syndrome_of` meets its contract: the sum so far and the columns of the rest of the layer make the sum of all of them.
 -- Assumes nothing.
-use Rattle.basics.proofs.Kit.{refl, Bool, true, false, _&&_, cond, ℕ, _+_, _*_, _≤_, _<_, arith, needs, eqb, leb}
-use Rattle.code.specs.Code.{value-at}
-use Rattle.split.specs.Split.{layer, number, syndrome}
+use Rattle.basics.proofs.Kit.{_≡_, refl, sym, ap, ap₂, _∙_, ℕ, _+_, _-_, _%_, _^_, _≤_, _<_, arith, needs, length, drop}
+use lib.Pow.{pow-pos, pow-mono}
+use Rattle.field.specs.Field.{xor}
+use Rattle.field.proofs.Xor as X
+use Rattle.code.specs.Code.{syndrome-long}
+use Rattle.code.proofs.Accepted.{accepted-parts, syndrome-room}
+use Rattle.code.proofs.Loops.{long-small}
+use Rattle.split.specs.Split.{layer, syndrome, columns-from}
+use Rattle.split.specs.Promise.{Syndrome-columns}
 use Rattle.split.proofs.Layers as L
-use Rattle.split.proofs.Glue.{number-lt}
-use Rattle.split.proofs.Syndromes.{size-small, product-small}
+use Rattle.split.proofs.Columns.{syndrome-columns, masked, column-step, column-end}
 use Rattle.split.proofs.syndrome_of.Statement.{statement}
 use Rattle.split.proofs.syndrome_of.Tie as tie
 
-abbrev start : tie.After-fifth → tie.Start
-start c = c .before .before .before .before .before .before .before
+abbrev Inv-loop : tie.InvT-loop
+Inv-loop shape j word columns sum₀ i₀ sum i =
+    (i ≤ length word) × (xor sum (columns-from (shape .m) 6 i (drop i (layer j word))) ≡ columns-from (shape .m) 6 0 (layer j word))
 
--- the parts of a syndrome, and how great they are
-record Parts (c : tie.After-fifth) : Type 0 where
-  size : c .before .before .before .before .wide .result ≤ 16
-  first : c .before .before .wide2 .result < 16
-  third : c .before .third .result < 16
-  fifth : c .fifth .result ≤ 3
+abbrev μ-loop : tie.MeasureT-loop
+μ-loop shape j word columns sum₀ i₀ sum i = length word - i
 
-if-lt : (b : Bool) (x n : ℕ) → x < n → 0 < n → cond b x 0 < n
-if-lt true x n h l = h
-if-lt false x n h l = l
+abbrev Place : Type 0
+Place = tie.At-loop Inv-loop μ-loop
 
-parts : (c : tie.After-fifth) → Parts c
-parts c =
-    let t = c .before in let f = t .before in let s = f .before .before in let a = start c .args in let w = start c .pre .width-is in
-    let bs = layer (a .j) (a .word .now) in let b = L.layer-below (a .j) (a .word .now) in let sixteen = size-small (a .m) w in
-    let n : number (value-at (a .m) 5 bs) < 4 = number-lt (value-at (a .m) 5 bs) in
-    record {
-      size = rw (s .wide .ensures, s .before .size .ensures) sixteen;
-      first = rw (f .wide2 .ensures, f .before .layer-value .ensures) (omega (arith, sixteen, L.at-lt (a .m) w 1 bs b));
-      third = rw (t .third .ensures) (if-lt (leb 3 (a .r)) (value-at (a .m) 3 bs) 16 (omega (arith, sixteen, L.at-lt (a .m) w 3 bs b)) (omega arith));
-      fifth = rw (c .fifth .ensures) (omega (arith, if-lt (leb 5 (a .r) && eqb (a .m) 4) (number (value-at (a .m) 5 bs)) 4 n (omega arith)));
-    }
+abbrev start : Place → tie.Start Inv-loop μ-loop
+start l = l .before .before .before
 
--- their products
-inner : (c : tie.After-fifth) → c .before .before .before .before .wide .result * c .fifth .result ≤ 48
-inner c = product-small _ _ 16 3 (parts c .size) (parts c .fifth)
+loop-again : tie.Need-loop-again Inv-loop μ-loop
+unfolding xor
+loop-again c = let b = c .before in let i = b .before .before in let l = i .before in let s = start l in let a = s .args in let v = l .loop in
+    let h = l .before .columns-of .ensures .each (v .i) (rw (← s .pre .count) (i .loop-test .taken)) in (
+      search needs,
+      rw (c .where-odd .ensures, b .bit .ensures) (column-step (a .shape .m) (a .j) (v .i) (v .sum) _ (a .word .now) (i .loop-test .taken) h ∙ v .inv .1),
+    )
 
-outer : (c : tie.After-fifth) →
-    c .before .before .before .before .wide .result * (c .before .third .result + c .before .before .before .before .wide .result * c .fifth .result) ≤ 1008
-outer c = product-small _ _ 16 63 (parts c .size) (omega (arith, inner c, parts c .third))
+-- the number of cosets
+size-is : (c : tie.After-struct-known Inv-loop μ-loop) → let h = start (c .before .before) .args .shape in h .size ≡ 2 ^ syndrome-long (h .m) (h .r)
+size-is c = let z = start (c .before .before) .pre .coded in z .size-is ∙ ap (λ (q : ℕ). 2 ^ q) (z .q-is)
 
-returns : tie.Need-returns
-unfolding syndrome
-returns c = let t = c .before in let f = t .before in let s = f .before .before in
-    rw (f .wide2 .ensures, f .before .layer-value .ensures, s .wide .ensures, s .before .size .ensures, t .third .ensures, c .fifth .ensures) refl
+size-small : (c : tie.After-struct-known Inv-loop μ-loop) → start (c .before .before) .args .shape .size ≤ 32768
+size-small c = let s = start (c .before .before) in let h = s .args .shape in let z = s .pre .coded in
+    let six = accepted-parts (h .m) (h .r) (z .accepted-is) .six in
+    let f : syndrome-long (h .m) (h .r) ≤ 15 = omega (arith, syndrome-room (h .m) (h .r) (z .width-is) six .1, long-small (h .m) (z .width-is)) in
+    rw (size-is c) (pow-mono {j = 15} f)
+
+returns : tie.Need-returns Inv-loop μ-loop
+unfolding Syndrome-columns
+returns c = let l = c .before .before in let s = start l in let a = s .args in let h = a .shape in let z = s .pre .coded in let v = l .loop in
+    let bs = layer (a .j) (a .word .now) in
+    let n : length bs ≡ length (a .word .now) = L.layer-length (a .j) (a .word .now) in
+    let sum : v .sum ≡ columns-from (h .m) 6 0 bs = sym (column-end (h .m) (v .i) (v .sum) bs (omega (arith, n, c .before .loop-test .left))) ∙ v .inv .1 in
+    ap₂ (λ (x y : ℕ). x % y) sum (size-is c) ∙ masked (h .m) (h .r) 0 bs (z .accepted-is) (omega (arith, n, s .pre .count))
+    ∙ sym (syndrome-columns (h .m) (h .r) bs (z .width-is) (L.layer-binary (h .m) (a .j) (a .word .now) (s .pre .count)))
 
 pub syndrome-of-spec : {M : Type 1} → statement M
 syndrome-of-spec =
     tie.close
     (tie.spec
+    Inv-loop
+    μ-loop
+    (λ c κs. c .before .pre .coded .width-is)
+    (λ c. (search needs, X.zero-l _))
+    (λ c. search needs)
+    (λ c κs. let s = start (c .before .before) in omega (arith, s .pre .inside, L.width-small _ (s .pre .coded .width-is)))
+    (λ c. search needs)
+    (λ c. search needs)
+    (λ c. let l = c .before .before .before in omega (arith, start l .pre .count, long-small _ (start l .pre .coded .width-is), c .before .before .loop-test .taken))
     (λ c κs. search needs)
-    (λ c κs. search needs)
-    (λ c κs. search needs)
-    (λ c κs. search needs)
-    (λ c κs. search needs)
-    (λ c κs. search needs)
-    (λ c. omega (arith, inner c))
-    (λ c. omega (arith, inner c, parts c .third))
-    (λ c. omega (arith, outer c))
-    (λ c. omega (arith, outer c, parts c .first))
+    (λ c. search needs)
+    (λ c. search needs)
+    loop-again
+    (λ c. omega (arith, size-small c))
+    (λ c. omega (arith, size-is c, pow-pos (syndrome-long (start (c .before .before) .args .shape .m) (start (c .before .before) .args .shape .r))))
     returns)
