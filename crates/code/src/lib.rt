@@ -297,7 +297,7 @@ pub fn symbols_good(m: u32, word: &[u8]) -> bool
     requires { ⌜ m < 8 ⌝ }
     ensures { λ x. ⌜ x ≡ symbols-good m (now (word .entry)) ⌝ }
 {
-    let top = 1u8 << m;
+    let top = (1u32 << m) as u8;
     let mut i: usize = 0;
     while i < word.len() {
         if top <= word[i] {

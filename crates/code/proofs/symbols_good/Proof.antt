@@ -1,6 +1,6 @@
 -- `code::symbols_good` meets its contract: what is left of the word is as good as the whole.
 -- Assumes nothing.
-use Rattle.basics.proofs.Kit.{_≡_, refl, sym, ap, _∙_, ℕ, _-_, _*_, _%_, _^_, _≤_, _<_, needs, length, drop}
+use Rattle.basics.proofs.Kit.{_≡_, refl, sym, ap, _∙_, ℕ, _-_, _*_, _%_, _^_, _≤_, _<_, arith, needs, length, drop}
 use native.Mathlib.Nat.{one-mul, mod-eq-of-lt}
 use lib.Pow.{pow-lt}
 use Rattle.code.specs.Code.{symbols-good}
@@ -15,8 +15,8 @@ abbrev μ-loop : tie.MeasureT-loop
 μ-loop m word top i₀ i = length word - i
 
 -- the bound
-top-is : (m : ℕ) → m < 8 → 1 * 2 ^ m % 256 ≡ 2 ^ m
-top-is m h = ap (λ (x : ℕ). x % 256) (one-mul (2 ^ m)) ∙ mod-eq-of-lt (pow-lt h)
+top-is : (m : ℕ) → m < 8 → 1 * 2 ^ m % 4294967296 ≡ 2 ^ m
+top-is m h = let l : m < 32 = omega arith in ap (λ (x : ℕ). x % 4294967296) (one-mul (2 ^ m)) ∙ mod-eq-of-lt (pow-lt l)
 
 returns : tie.Need-returns Inv-loop μ-loop
 returns c = let s = c .before .before .before in let g = s .before in let a = g .args in
@@ -38,8 +38,8 @@ symbols-good-spec =
     (tie.spec
     Inv-loop
     μ-loop
-    (λ c. search needs)
-    (λ c. search needs)
+    (λ c. omega (arith, c .pre))
+    (λ c. let m = c .args .m in omega (arith, top-is m (c .pre), pow-lt {j = 8} (c .pre)))
     (λ c. (search needs, refl))
     (λ c. search needs)
     returns
