@@ -211,7 +211,25 @@ fn pool(number: u32, kind: &str) -> Vec<(Vec<i16>, Vec<u8>)> {
         .collect()
 }
 
+fn layer_calls(which: &str, call: &str, number: u32, pool: &[(Vec<i16>, Vec<u8>)], n: usize) {
+    let layers = Layers::new(number, pool);
+    let code = Code::of(number);
+    let (mut bch, mut word) = (vec![0; code.bits()], vec![0; code.n]);
+    for k in 0..n {
+        if call == "split" {
+            black_box(layers.split(which, number, k, &mut bch));
+            black_box(&bch);
+        } else {
+            layers.join(which, number, k, &mut word);
+            black_box(&word);
+        }
+    }
+}
+
 fn calls(which: &str, call: &str, decoders: &mut Decoders, pool: &[(Vec<i16>, Vec<u8>)], n: usize) {
+    if matches!(call, "split" | "join") {
+        return layer_calls(which, call, decoders.number, pool, n);
+    }
     let code = Code::of(decoders.number);
     let mut word = vec![0; code.n];
     let mut soft = vec![0; code.bits()];
@@ -223,34 +241,24 @@ fn calls(which: &str, call: &str, decoders: &mut Decoders, pool: &[(Vec<i16>, Ve
     let sheet = library::sheet(decoders.number, &questions);
     let mut text = vec![0; library::LISTING];
     let front = Front::new(code.bits());
-    let layers = matches!(call, "split" | "join").then(|| Layers::new(decoders.number, pool));
-    let mut bch = vec![0; code.bits()];
     for (k, (row, handed)) in pool.iter().cycle().take(n).enumerate() {
-        match (call, &layers) {
-            ("split", Some(layers)) => {
-                black_box(layers.split(which, decoders.number, k, &mut bch));
-                black_box(&bch);
-            }
-            ("join", Some(layers)) => {
-                layers.join(which, decoders.number, k, &mut word);
-                black_box(&word);
-            }
-            ("quantise", _) => {
+        match call {
+            "quantise" => {
                 front.quantise(which, decoders.number, k, &mut soft);
                 black_box(&soft);
             }
-            ("receive", _) => {
+            "receive" => {
                 front.receive(which, decoders.number, k, &mut soft);
                 black_box(&soft);
             }
-            ("list" | "paper", _) => {
+            "list" | "paper" => {
                 black_box(library::list(black_box(&sheet), &mut text).expect("a listing"));
             }
-            ("decode", _) => {
+            "decode" => {
                 black_box(decoders.decode(which, black_box(row), &mut word, &mut soft));
                 black_box((&word, &soft));
             }
-            ("mark", _) => {
+            "mark" => {
                 black_box(decoders.mark(which, black_box(row), black_box(handed)));
             }
             _ => usage(),

@@ -12,7 +12,7 @@ use Rattle.field.specs.Field.{xor, times, alpha, width-good}
 use Rattle.field.proofs.Tests.{to-T, widths}
 use Rattle.field.proofs.Xor as X
 use Rattle.field.proofs.Field as F
-use Rattle.code.specs.Code.{long, symbols-good, value-from, value-at, vanishes, is-codeword}
+use Rattle.code.specs.Code.{long, symbols-good, value-at, vanishes, is-codeword}
 use Rattle.code.specs.Within.{Word-within}
 use Rattle.code.proofs.Words.{below, horner, horner-inside, value-horner}
 
@@ -25,17 +25,9 @@ module _ (m : ℕ) (ws : List ℕ) (i : ℕ) (h : i < length ws) where
   unfolding symbols-good
   symbol-bad l = rw (drop-cons ws i 0 h, le-ltb _ _ l) refl
 
-  pub value-step : (t v : ℕ) → xor (xor v (times m (getD ws i 0) (alpha m (i * t)))) (value-from m t (i + 1) (drop (i + 1) ws)) ≡ xor v (value-from m t i (drop i ws))
-  unfolding value-from
-  value-step t v = rw (drop-cons ws i 0 h, add-one i) (X.assoc v _ _)
-
 pub symbols-none : (m : ℕ) (ws : List ℕ) (i : ℕ) → length ws ≤ i → symbols-good m (drop i ws) ≡ true
 unfolding symbols-good
 symbols-none m ws i h = rw (drop-of-length-le ws h) refl
-
-pub value-none : (m t : ℕ) (ws : List ℕ) (i v : ℕ) → length ws ≤ i → xor v (value-from m t i (drop i ws)) ≡ v
-unfolding value-from
-value-none m t ws i v h = rw (drop-of-length-le ws h) (X.zero-r v)
 
 -- Horner's rule from the top symbol down: v is the value at α^t of what stands from place i on
 pub record Valued (m t : ℕ) (ws : List ℕ) (v i : ℕ) : Type 0 where

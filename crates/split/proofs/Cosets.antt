@@ -1,12 +1,12 @@
 -- Cosets: a syndrome is below their number, as is a column, and two words with the same syndrome have a sum with syndrome 0.
 -- Assumes nothing.
-use Rattle.basics.proofs.Kit.{_≡_, ap, _∙_, Bool, true, false, _&&_, cond, ℕ, _+_, _*_, _^_, _<_, arith, eqb, leb}
+use Rattle.basics.proofs.Kit.{ap, _∙_, Bool, true, false, _&&_, cond, ℕ, _+_, _*_, _^_, _<_, arith, eqb, leb}
 use native.Mathlib.Nat.{mul-le-mul-left, mul-suc}
 use lib.Dec.{T, leb→le, le→leb, lit<}
 use lib.Pow.{pow-add}
-use Rattle.field.specs.Field.{width-good, alpha, xor}
+use Rattle.field.specs.Field.{xor}
 use Rattle.code.specs.Code.{value-at}
-use Rattle.split.specs.Split.{number, syndrome, column, cosets}
+use Rattle.split.specs.Split.{number, syndrome, cosets}
 use Rattle.split.specs.Promise.{Syndrome-inside, Sum-is-bch}
 use Rattle.field.proofs.Tests.{and-l}
 use Rattle.field.proofs.Xor as X
@@ -38,10 +38,6 @@ unfolding cosets
 parts-inside m r x y z hx hy =
     digit m (cond (leb 3 r) m 0 + cond (leb 5 r && eqb m 4) 2 0) x _ hx
     (upper (leb 3 r) (leb 5 r && eqb m 4) m y (number z) (fifth-third r (eqb m 4)) hy (number-lt z))
-
-pub column-inside : (m r i : ℕ) → width-good m ≡ true → column m r i < cosets m r
-unfolding column
-column-inside m r i w = parts-inside m r (alpha m (i * 1)) (alpha m (i * 3)) (alpha m (i * 5)) (F.alpha-lt m w (i * 1)) (F.alpha-lt m w (i * 3))
 
 pub syndrome-inside : Syndrome-inside
 unfolding Syndrome-inside syndrome

@@ -1,7 +1,7 @@
 -- The syndromes of a word as the program computes them.
 -- Assumes nothing.
-use Rattle.basics.proofs.Kit.{_≡_, refl, sym, ap, _∙_, true, List, _++_, ℕ, zero, suc, _+_, _-_, _*_, _^_, _≤_, _<_, arith, length, getD, take, drop}
-use native.Mathlib.Nat.{le-trans, add-zero, zero-add, add-suc, suc-add, mul-le-mul-left, mul-le-mul-right, not-suc-le-zero, le-of-suc-le-suc}
+use Rattle.basics.proofs.Kit.{_≡_, refl, sym, ap, _∙_, true, List, _++_, ℕ, zero, suc, _+_, _-_, _^_, _≤_, _<_, arith, length, getD, take, drop}
+use native.Mathlib.Nat.{add-zero, zero-add, add-suc, suc-add, not-suc-le-zero, le-of-suc-le-suc}
 use lib.Dec.{lit≤}
 use lib.ListN.{replicate}
 use lib.Seq.{take-all}
@@ -12,9 +12,6 @@ use Rattle.field.proofs.Tests.{widths}
 -- a syndrome fits sixteen bits
 pub size-small : (m : ℕ) → width-good m ≡ true → 2 ^ m ≤ 16
 size-small = widths (λ (m : ℕ). 2 ^ m ≤ 16) (lit≤ tt) (lit≤ tt)
-
-pub product-small : (x y a b : ℕ) → x ≤ a → y ≤ b → x * y ≤ a * b
-product-small x y a b h l = le-trans (mul-le-mul-right y h) (mul-le-mul-left a l)
 
 -- THE PLACES of the tuple
 from-at : (k i m r j : ℕ) (ws : List ℕ) → j < k → getD (syndromes-from k i m r ws) j 0 ≡ syndrome m r (layer (i + j) ws)
