@@ -227,9 +227,6 @@ fn layer_calls(which: &str, call: &str, number: u32, pool: &[(Vec<i16>, Vec<u8>)
 }
 
 fn calls(which: &str, call: &str, decoders: &mut Decoders, pool: &[(Vec<i16>, Vec<u8>)], n: usize) {
-    if matches!(call, "split" | "join") {
-        return layer_calls(which, call, decoders.number, pool, n);
-    }
     let code = Code::of(decoders.number);
     let mut word = vec![0; code.n];
     let mut soft = vec![0; code.bits()];
@@ -332,6 +329,10 @@ fn main() {
     let kind = args.get(5).unwrap_or(&"random");
     match args[..] {
         ["check", code, count] => check(number(code), number(count) as usize),
+        ["call", which, call @ ("split" | "join"), code, n] | ["call", which, call @ ("split" | "join"), code, n, _] => {
+            let code = number(code);
+            layer_calls(which, call, code, &pool(code, kind), number(n) as usize);
+        }
         ["call", which, call, code, n] | ["call", which, call, code, n, _] => {
             let code = number(code);
             calls(which, call, &mut Decoders::new(code), &pool(code, kind), number(n) as usize);
