@@ -2,7 +2,7 @@
 //!
 //!     bench check CODE COUNT               all of them agree on that many rows
 //!     bench call WHICH CALL CODE N [ROWS]  N calls on rows of one pool, for a count of instructions
-//!     bench time WHICH CALL CODE N [ROWS]  nanoseconds a call, the least of five runs of N calls
+//!     bench time WHICH CALL CODE N [ROWS]  nanoseconds a call but split and join, the least of five runs of N calls
 //!
 //! WHICH is library, plain or, for codes 1 to 3, wolf; CALL is decode or mark, for library and plain also quantise, receive, split or join, for
 //! the library alone list, a listing of the whole pool, or paper, one of 200 questions, the pool again and again. ROWS is random, as where none

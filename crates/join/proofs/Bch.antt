@@ -2,11 +2,12 @@
 -- all layers, end to end.
 -- Assumes nothing.
 use Rattle.basics.proofs.Kit.{_≡_, refl, sym, ap, ap₂, _∙_, Bool, true, false, _&&_, cond, List, [], _∷_, ℕ, zero, suc, _+_, _%_, _≤_, _<_, arith, length, eqb, leb, ltb}
-use native.Mathlib.Nat.{div-one, mod-eq-of-lt, mul-zero, not-suc-le-zero, add-zero, add-suc, suc-add, le-of-suc-le-suc}
+use native.Mathlib.Nat.{div-one, mod-eq-of-lt, mul-zero, not-suc-le-zero, add-zero, zero-add, add-suc, suc-add, le-of-suc-le-suc}
 use lib.Dec.{T, eqb→eq, leb→le}
 use Rattle.field.specs.Field.{width-good, times, times-from, doubled, square, xor}
 use Rattle.field.proofs.Tests.{widths, all, at, and-l, and-r, to-T, from-T}
 use Rattle.code.specs.Code.{long, value-at, symbols-good, is-codeword}
+use Rattle.code.specs.Bits.{row-long}
 use Rattle.code.proofs.Accepted.{accepted-parts}
 use Rattle.code.proofs.Words.{Below, codeword-parts, parts-codeword, eqb-true}
 use Rattle.split.specs.Split.{layer, number, numbered, syndrome, layer-value, all-below, Binary}
@@ -14,6 +15,7 @@ use Rattle.split.proofs.Layers as L
 use Rattle.split.proofs.Glue as G
 use Rattle.join.specs.Calls.{part, is-bch, all-bch}
 use Rattle.join.specs.Promise.{Bch-codewords}
+use Rattle.join.proofs.Parts.{part-length}
 
 -- the values 0 and 1 are those below 2^1
 pub two-is : (bs : List ℕ) → symbols-good 1 bs ≡ all-below 2 bs
@@ -101,6 +103,10 @@ module _ (m r : ℕ) (bs : List ℕ) where
   bch-each (suc k) j f =
       ap₂ (λ (x y : Bool). x && y) (rw (add-zero j) at (f 0 (omega arith)))
       (bch-each k (suc j) (λ i h. rw (add-suc j i, ← suc-add j i) at (f (suc i) (omega arith))))
+
+-- the word of a layer
+pub word-of : (m r : ℕ) (bs : List ℕ) → length bs ≡ row-long m → all-bch m 0 m r bs ≡ true → (j : ℕ) → j < m → Bch m r (part m j bs)
+word-of m r bs n e j h = bch m r (part m j bs) (part-length m j bs n h) (rw (zero-add j) at (each-bch m r bs m 0 j e h))
 
 pub bch-codewords : Bch-codewords
 unfolding Bch-codewords

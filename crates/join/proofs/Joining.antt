@@ -1,7 +1,7 @@
 -- A word whose layers are BCH words with the leaders of a configuration added has that configuration; so it is a codeword exactly when that is valid.
 -- Assumes nothing.
 use Rattle.basics.proofs.Kit.{_≡_, sym, ap, ap₂, _∙_, true, List, [], _∷_, ℕ, zero, suc, _^_, _≤_, _<_, arith, length, getD, take}
-use native.Mathlib.Nat.{not-suc-le-zero, le-of-suc-le-suc, eq-or-lt-of-le, zero-add}
+use native.Mathlib.Nat.{not-suc-le-zero, le-of-suc-le-suc, eq-or-lt-of-le}
 use mathlib.Core.Logic.{_⊎_, inl, inr}
 use lib.Seq.{ext-getD, getD-take, length-take-le}
 use Rattle.refusal.specs.Refusal.{first, Outcome}
@@ -24,9 +24,8 @@ use Rattle.split.proofs.Syndromes.{size-small, place-at, places}
 use Rattle.split.proofs.Leaders.{the-leader, the-leader-leads, one-leader}
 use Rattle.join.specs.Calls.{part, all-bch, in-range, Join-says}
 use Rattle.join.specs.Within.{with-layer, Joined}
-use Rattle.join.proofs.Parts.{part-length}
 use Rattle.join.proofs.Raising.{raised-length, raised-below, raised-here, raised-others}
-use Rattle.join.proofs.Bch.{Bch, bch, each-bch}
+use Rattle.join.proofs.Bch.{Bch, word-of}
 
 -- a number of a list below a bound
 pub place-below : (n : ℕ) (xs : List ℕ) (i : ℕ) → Below n xs → i < length xs → getD xs i 0 < n
@@ -72,7 +71,7 @@ module _ (m r : ℕ) (ss bs : List ℕ) (a : accepted m r ≡ true) (l : length 
   w = accepted-parts m r a .wide
 
   each : (j : ℕ) → j < m → Bch m r (part m j bs)
-  each j h = bch m r (part m j bs) (part-length m j bs n h) (rw (zero-add j) at (each-bch m r bs m 0 j all h))
+  each = word-of m r bs n all
 
   lead : (j : ℕ) → j < m → Leader m r (getD ss j 0) (the-leader m r (getD ss j 0))
   lead j h = the-leader-leads m r (getD ss j 0) a (coset-of m r ss w l inside j h)

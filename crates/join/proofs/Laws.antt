@@ -27,8 +27,7 @@ use Rattle.split.proofs.Leaders.{one-leader}
 use Rattle.split.proofs.Whole as W
 use Rattle.join.specs.Calls.{part, all-bch, in-range, is-configuration, join-refusal, Join-right, Join-says}
 use Rattle.join.specs.Promise.{Taken-configurations, Joined-one, Joined-codeword, Joined-split, Split-joined, Parts-differ}
-use Rattle.join.proofs.Parts.{part-length}
-use Rattle.join.proofs.Bch.{Bch, bch, is-bch-of, each-bch, bch-each}
+use Rattle.join.proofs.Bch.{Bch, is-bch-of, bch-each, word-of}
 use Rattle.join.proofs.Joining.{syndrome-is, syndromes-are}
 
 -- CONFIGURATIONS
@@ -134,7 +133,7 @@ module _ (m r : ℕ) (ss bs ws : List ℕ) (o : ℕ) (a : accepted m r ≡ true)
   n-is = codeword-parts m r ws (p .codeword) .count
 
   each : (j : ℕ) → j < m → Bch m r (part m j bs)
-  each j h = bch m r (part m j bs) (part-length m j bs (t .count) h) (rw (zero-add j) at (each-bch m r bs m 0 j (t .are-bch) h))
+  each = word-of m r bs (t .count) (t .are-bch)
 
   enough : m ≤ length ss
   enough = omega (arith, width-small m wide)

@@ -32,7 +32,7 @@ Joined-one = (m r : ℕ) (ss bs us ws : List ℕ) → Join-right m r ss bs us �
 unfoldable pub Joined-codeword : Type 0
 Joined-codeword = (z m r : ℕ) (ss bs o ws : List ℕ) → Join-says z m r ss bs 0 o ws → is-codeword m r ws ≡ true
 
--- (Laws) splitting what was joined, by the same choice of a code, gives the configuration and the BCH words back
+-- (Laws) splitting what was joined, by the same choice of a code, gives the configuration, an array of four places, and the BCH words back
 unfoldable pub Joined-split : Type 0
 Joined-split =
     (z m r : ℕ) (ss bs o ws q u : List ℕ) (a : Splitting) → (z ≡ 0 → accepted m r ≡ true) → length ss ≡ 4 → Join-says z m r ss bs 0 o ws →

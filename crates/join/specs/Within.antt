@@ -5,7 +5,7 @@ use mathlib.Core.List.{List, [], _∷_}
 use Prim.Native.Nat.{ℕ, _*_, _%_, _^_}
 use lib.Dec.{eqb}
 use lib.ListN.{length, take}
-use Rattle.refusal.specs.Refusal.{unless}
+use Rattle.refusal.specs.Refusal.{unless, first}
 use Rattle.field.specs.Field.{xor}
 use Rattle.code.specs.declared.Shape.{Shape}
 use Rattle.code.specs.Code.{long, symbols-good, is-codeword}
@@ -14,13 +14,11 @@ use Rattle.code.specs.Within.{Coded}
 use Rattle.split.specs.Split.{valid, all-below}
 use Rattle.join.specs.Calls.{all-bch, in-range, Join-right}
 
--- what is refused before anything is joined
+-- what is refused before anything is joined: by the lengths, then by the contents
 unfoldable pub parts-refusal : (m r : ℕ) → (configuration words : List ℕ) → (output : ℕ) → ℕ
 parts-refusal m r ss bs o =
-    unless (eqb (length bs) (row-long m)) 3
-    (unless (eqb o (long m)) 4
-    (unless (all-bch m 0 m r bs) 18
-    (unless (in-range m r ss) 19 0)))
+    first (unless (eqb (length bs) (row-long m)) 3 (unless (eqb o (long m)) 4 0))
+    (first (unless (all-bch m 0 m r bs) 18 0) (unless (in-range m r ss) 19 0))
 
 -- bits are put in as layer j
 unfoldable pub with-layer : (j : ℕ) → (word bits : List ℕ) → List ℕ
@@ -28,11 +26,7 @@ with-layer j [] bs = []
 with-layer j (c ∷ cs) [] = []
 with-layer j (c ∷ cs) (b ∷ bs) = xor c (b * 2 ^ j % 256) ∷ with-layer j cs bs
 
--- n values, or as many for each layer
-pub record Word-of (shape : Shape) (words : List ℕ) : Type 0 where
-  pub coded : Coded shape
-  pub count : length words ≡ long (shape .m)
-
+-- n values for each layer
 pub record Words-of (shape : Shape) (words : List ℕ) : Type 0 where
   pub coded : Coded shape
   pub count : length words ≡ row-long (shape .m)

@@ -5,17 +5,18 @@
 use code::Chosen;
 use code::Shape;
 ghost use mathlib.Core.Path.{_≡_};
-ghost use mathlib.Core.Bool.{true};
+ghost use mathlib.Core.Bool.{true, cond};
 ghost use Prim.Native.Nat.{_<_};
-ghost use lib.Dec.{ltb};
+ghost use lib.Dec.{ltb, eqb};
 ghost use lib.ListN.{length, take};
 ghost use Rattle.refusal.specs.Refusal.{unless, Outcome};
 ghost use Rattle.code.specs.Code.{long, number-refusal, width, roots, parameter-refusal};
 ghost use Rattle.code.specs.Bits.{bits-of};
 ghost use Rattle.code.specs.Within.{Coded};
 ghost use Rattle.split.specs.Split.{valid, all-below, sum};
+ghost use Rattle.split.specs.Within.{Layers-of};
 ghost use Rattle.join.specs.Calls.{is-bch, all-bch, in-range, Join-right, Join-says};
-ghost use Rattle.join.specs.Within.{parts-refusal, with-layer, Word-of, Words-of, Joinable, Joined};
+ghost use Rattle.join.specs.Within.{parts-refusal, with-layer, Words-of, Joinable, Joined};
 
 // Writes the codeword whose layer j is BCH word j plus the leader of the configuration's place j into an output of n symbols, and answers 0. The BCH words
 // are lent end to end, layer 1 first. Or it answers the number of a refusal and writes nothing.
@@ -105,7 +106,7 @@ fn all_bch(shape: Shape, bch: &[u8]) -> bool
 
 // Whether n values are a BCH word: 0 and 1 alone, with syndrome 0.
 fn is_bch(shape: Shape, values: &[u8]) -> bool
-    requires { ⌜ Word-of shape (now values) ⌝ }
+    requires { ⌜ Layers-of shape (now values) ⌝ }
     ensures { λ x. ⌜ x ≡ is-bch (shape .m) (shape .r) (now (values .entry)) ⌝ }
 {
     if code::symbols_good(1, values) {
@@ -120,19 +121,18 @@ fn in_range(shape: Shape, places: [u16; 4]) -> bool
     ensures { λ x. ⌜ x ≡ in-range (shape .m) (shape .r) places ⌝ }
 {
     let size = shape.size;
-    if !is_below(places[0], size) {
-        return false;
-    }
-    if !is_below(places[1], size) {
-        return false;
-    }
-    if !is_below(places[2], size) {
-        return false;
-    }
-    if shape.m == 3 {
-        return places[3] < 1;
-    }
-    is_below(places[3], size)
+    let last = last_size(shape.m, size);
+    is_below(places[0], size)
+        & is_below(places[1], size)
+        & is_below(places[2], size)
+        & is_below(places[3], last)
+}
+
+// What the fourth place is below: with m = 3 it is 0.
+fn last_size(m: u32, size: usize) -> usize
+    ensures { λ x. ⌜ x ≡ cond (eqb m 3) 1 size ⌝ }
+{
+    if m == 3 { 1 } else { size }
 }
 
 fn is_below(place: u16, size: usize) -> bool

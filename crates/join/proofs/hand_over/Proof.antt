@@ -20,7 +20,7 @@ loop-again : tie.Need-loop-again Inv-loop μ-loop
 loop-again c = let s = c .before .before in let a = s .before .args in let p = s .before .pre in let h = c .before .loop-test .taken in
     let v : getD (a .from .now) (s .loop .i) 0 % 16 ≡ getD (a .from .now) (s .loop .i) 0 = mod-eq-of-lt (place-below 16 (a .from .now) (s .loop .i) (below 16 (a .from .now) (to-T (p .1))) h) in (
       search needs,
-      length-set (s .loop .to) (s .loop .i) (getD (a .from .now) (s .loop .i) 0 % 16) ∙ s .loop .inv .1,
+      simp (length-set) (s .loop .inv .1),
       ap₂ (λ (l : List ℕ) (x : ℕ). set l (s .loop .i) x) (s .loop .inv .2) v ∙ copy-more (a .from .now) (a .to .now) (s .loop .i) (omega (arith, p .0)) h,
     )
 

@@ -5,7 +5,7 @@ use lib.ListN.{replicate}
 use lib.Seq.{length-take-le}
 use borrow.Author.Tests.{eqb-true}
 use Rattle.refusal.specs.Refusal.{unless, first, Outcome}
-use Rattle.refusal.proofs.Tests.{passed, first-none}
+use Rattle.refusal.proofs.Tests.{passed, first-refuses, first-passes, first-none}
 use Rattle.refusal.proofs.Outcomes.{outcome-refused}
 use Rattle.field.proofs.Tests.{widths}
 use Rattle.code.specs.declared.Shape.{Shape}
@@ -21,7 +21,8 @@ use Rattle.join.proofs.join_in.Tie as tie
 
 -- the parts' refusal, and then that of a configuration that is in range
 in-turn : (a b c d e : Bool) →
-    unless a 3 (unless b 4 (unless c 18 (unless (d && e) 19 0))) ≡ first (unless a 3 (unless b 4 (unless c 18 (unless d 19 0)))) (unless e 19 0)
+    unless a 3 (unless b 4 (unless c 18 (unless (d && e) 19 0)))
+    ≡ first (first (unless a 3 (unless b 4 0)) (first (unless c 18 0) (unless d 19 0))) (unless e 19 0)
 unfolding unless first
 in-turn false b c d e = refl
 in-turn true false c d e = refl
@@ -33,15 +34,10 @@ join-refusal-is : (m r : ℕ) (ss bs : List ℕ) (o : ℕ) → join-refusal m r 
 unfolding join-refusal parts-refusal is-configuration
 join-refusal-is m r ss bs o = in-turn (eqb (length bs) (row-long m)) (eqb o (long m)) (all-bch m 0 m r bs) (in-range m r ss) (valid m r (take m ss))
 
-refuses : (z w c : ℕ) → (first z w ≡ 0 → ⊥) → first z w ≡ first z (first w c)
+after-both : (z w c : ℕ) → first (first z w) c ≡ first z (first w c)
 unfolding first
-refuses zero zero c f = absurd (f refl)
-refuses zero (suc w) c f = refl
-refuses (suc z) w c f = refl
-
-passes : (z w c : ℕ) → first z w ≡ 0 → c ≡ first z (first w c)
-unfolding first
-passes z w c e = let n = first-none z w e in rw (n .0, n .1) refl
+after-both zero w c = refl
+after-both (suc z) w c = refl
 
 outcome-as : (m n a : ℕ) (Done Kept : Type 0) → m ≡ n → Outcome m a Done Kept → Outcome n a Done Kept
 outcome-as m n a Done Kept e o = rw e at o
@@ -51,19 +47,19 @@ joinable : (h : Shape) → Coded h → (ss bs : List ℕ) (o : ℕ) → parts-re
     Joinable h ss bs (take (h .n) (replicate 15 0)) × (o ≡ long (h .m))
 unfolding parts-refusal long all-below
 joinable h z ss bs o e =
-    let a = passed (eqb (length bs) (row-long (h .m))) 2 _ e in
-    let b = passed (eqb o (long (h .m))) 3 _ (a .1) in
-    let c = passed (all-bch (h .m) 0 (h .m) (h .r) bs) 17 _ (b .1) in
+    let f = first-none _ _ e in
+    let g = first-none _ _ (f .1) in
+    let a = passed (eqb (length bs) (row-long (h .m))) 2 _ (f .0) in
     let zs : ℕ → List ℕ = λ n. take n (replicate 15 0) in (
       record {
         coded = z;
         count = eqb-true _ _ (a .0);
-        are-bch = c .0;
-        inside = passed (in-range (h .m) (h .r) ss) 18 0 (c .1) .0;
+        are-bch = passed (all-bch (h .m) 0 (h .m) (h .r) bs) 17 0 (g .0) .0;
+        inside = passed (in-range (h .m) (h .r) ss) 18 0 (g .1) .0;
         room = ap (λ (n : ℕ). length (zs n)) (z .n-is) ∙ widths (λ (m : ℕ). length (zs (long m)) ≡ long m) refl refl (h .m) (z .width-is);
         are-zero = ap (λ (n : ℕ). all-below 1 (zs n)) (z .n-is) ∙ widths (λ (m : ℕ). all-below 1 (zs (long m)) ≡ true) refl refl (h .m) (z .width-is);
       },
-      eqb-true _ _ (b .0),
+      eqb-true _ _ (passed (eqb o (long (h .m))) 3 0 (a .1) .0),
     )
 
 abbrev start : tie.After-first → tie.Start
@@ -77,7 +73,7 @@ returns : tie.Need-returns
 unfolding Join-says
 returns c = let a = start (c .before) .args in let h = a .chosen .shape in
     let e = number-is (c .before) in
-    outcome-refused _ _ _ _ (e ∙ refuses _ _ _ (λ z. c .if1 .taken (e ∙ z)) ∙ ap (first _) (sym (join-refusal-is (h .m) (h .r) (a .configuration) (a .bch .now) (length (a .output .now))))) (c .if1 .taken) refl
+    outcome-refused _ _ _ _ (e ∙ first-refuses _ _ (λ z. c .if1 .taken (e ∙ z)) ∙ after-both _ _ _ ∙ ap (first _) (sym (join-refusal-is (h .m) (h .r) (a .configuration) (a .bch .now) (length (a .output .now))))) (c .if1 .taken) refl
 
 join-through-requires : tie.Need-join-through-requires
 join-through-requires c κs = let e = c .before .before .before in let s = start (e .before) in let a = s .args in let h = a .chosen .shape in
@@ -90,7 +86,7 @@ returns-2 : tie.Need-returns-2
 unfolding Join-says
 returns-2 c = let j = c .before .before .before in let e = j .before .before .before .before in let a = start (e .before) .args in let h = a .chosen .shape in
     outcome-as _ _ _ _ _
-    (passes _ _ _ (sym (number-is (e .before)) ∙ e .if1 .left) ∙ ap (first _) (sym (join-refusal-is (h .m) (h .r) (a .configuration) (a .bch .now) (length (a .output .now)))))
+    (first-passes _ _ (sym (number-is (e .before)) ∙ e .if1 .left) ∙ after-both _ _ _ ∙ ap (first _) (sym (join-refusal-is (h .m) (h .r) (a .configuration) (a .bch .now) (length (a .output .now)))))
     (j .join-through .ensures)
 
 pub join-in-spec : {M : Type 1} → statement M

@@ -1,33 +1,14 @@
 -- `join::parts_refusal` meets its contract.
 -- Assumes nothing.
-use Rattle.basics.proofs.Kit.{_≡_, refl, sym, ap, ap₂, _∙_, Bool, true, false, ℕ, arith, needs, length, eqb}
+use Rattle.basics.proofs.Kit.{_≡_, refl, sym, ap, ap₂, _∙_, Bool, needs, length, eqb}
 use borrow.Author.Tests.{eqb-true}
 use Rattle.refusal.specs.Refusal.{unless, first}
-use Rattle.refusal.proofs.Tests.{passed, link}
+use Rattle.refusal.proofs.Tests.{passed, link, first-refuses, first-passes}
 use Rattle.code.specs.Code.{long}
 use Rattle.code.specs.Bits.{row-long}
 use Rattle.join.specs.Within.{parts-refusal}
 use Rattle.join.proofs.parts_refusal.Statement.{statement}
 use Rattle.join.proofs.parts_refusal.Tie as tie
-
--- a length that refuses does so whatever comes after it
-refuses : (a b : Bool) (x : ℕ) → (unless a 3 (unless b 4 0) ≡ 0 → ⊥) → unless a 3 (unless b 4 0) ≡ unless a 3 (unless b 4 x)
-unfolding unless
-refuses false b x f = refl
-refuses true false x f = refl
-refuses true true x f = absurd (f refl)
-
-passes : (a b : Bool) (x y : ℕ) → unless a 3 (unless b 4 0) ≡ 0 → x ≡ y → x ≡ unless a 3 (unless b 4 y)
-unfolding unless
-passes true true x y z e = e
-passes true false x y z e = absurd (omega arith)
-passes false b x y z e = absurd (omega arith)
-
--- what refuses first of two
-either : (a b : Bool) → first (unless a 18 0) (unless b 19 0) ≡ unless a 18 (unless b 19 0)
-unfolding unless first
-either true b = refl
-either false b = refl
 
 abbrev start : tie.After-unless2 → tie.Start
 start c = c .before .before .before .before .before
@@ -39,7 +20,7 @@ lengths c = let z = start c .pre in
 
 returns : tie.Need-returns
 unfolding parts-refusal
-returns c = let e = lengths (c .before) in e ∙ refuses _ _ _ (λ z. c .if1 .taken (e ∙ z))
+returns c = let e = lengths (c .before) in e ∙ first-refuses _ _ (λ z. c .if1 .taken (e ∙ z))
 
 all-bch-requires : tie.Need-all-bch-requires
 all-bch-requires c κs = record { coded = start (c .before) .pre; count = eqb-true _ _ (passed _ _ _ (sym (lengths (c .before)) ∙ c .if1 .left) .0) }
@@ -47,10 +28,9 @@ all-bch-requires c κs = record { coded = start (c .before) .pre; count = eqb-tr
 returns-2 : tie.Need-returns-2
 unfolding parts-refusal
 returns-2 c = let p = c .before in let w = p .before .before in let e = w .before .before in
-    passes _ _ _ _ (sym (lengths (e .before)) ∙ e .if1 .left)
-    (c .first .ensures
+    c .first .ensures
     ∙ ap₂ first (w .unless3 .ensures ∙ ap (λ (b : Bool). unless b 18 0) (w .before .all-bch .ensures)) (p .unless4 .ensures ∙ ap (λ (b : Bool). unless b 19 0) (p .before .in-range .ensures))
-    ∙ either _ _)
+    ∙ first-passes _ _ (sym (lengths (e .before)) ∙ e .if1 .left)
 
 pub parts-refusal-spec : {M : Type 1} → statement M
 parts-refusal-spec =
