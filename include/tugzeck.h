@@ -180,7 +180,9 @@ uint32_t tugzeck_receive_by(uint32_t m, uint32_t r, const uint8_t *kinds, size_t
 
 /* Decodes a row of n*m reliabilities: 0 and the best metric, in the n places of `word` the codeword that has it or, of several, the first when
  * symbols are compared from position 0, and in the n*m places of `soft` the soft outputs: the greatest metric of a codeword with 0 at that bit
- * less the greatest with 1. Refuses by 1, 2, 4 (`word` or `soft`), 17 (`scratch`), 5. */
+ * less the greatest with 1. A bit is decided as 1 where its soft output is negative and as 0 where it is positive, which every codeword with the
+ * best metric then has there; where it is 0 the bit is undecided, and some of them have 0 there and some 1. So no soft output is 0 exactly when one
+ * codeword has the best metric, and the decided bits are then its bits. Refuses by 1, 2, 4 (`word` or `soft`), 17 (`scratch`), 5. */
 struct tugzeck_decoding tugzeck_decode(uint32_t code, const int16_t *row, size_t row_count, uint8_t *word, size_t word_count, int16_t *soft,
                                        size_t soft_count, int32_t *scratch, size_t scratch_count);
 struct tugzeck_decoding tugzeck_decode_by(uint32_t m, uint32_t r, const int16_t *row, size_t row_count, uint8_t *word, size_t word_count,
@@ -213,7 +215,8 @@ uint32_t tugzeck_write_sheet(const uint32_t *codes, size_t codes_count, const ui
                              size_t rows_count, const uint8_t *words, size_t words_count, uint8_t *output, size_t output_count);
 
 /* Writes the listing of a sheet at the start of `output`, which is TUGZECK_LISTING bytes long: 0 and the length of the text; the bytes behind
- * it are kept, and no zero byte is added. The listing of a refused sheet is the line `refused N`. Refuses by 4 alone. */
+ * it are kept, and no zero byte is added. Decided bits show as 0 and 1, undecided ones as a question mark. The listing of a refused sheet is the
+ * line `refused N`. Refuses by 4 alone. */
 struct tugzeck_listed tugzeck_list(const uint8_t *sheet, size_t sheet_count, uint8_t *output, size_t output_count);
 
 #ifdef __cplusplus

@@ -6,12 +6,13 @@
 
 Everything is computed here from documents 01 and 02 alone: field products bit by bit, and every code by the layers of its words,
 over the valid configurations. That is held to the codewords one after another of codes 1 and 2, to a trellis over the values that a
-word can have at its roots (the Wolf trellis) for codes 1 to 3 on every row and for code 4 on two, and in every code to the word that the
-signs of the soft outputs spell where none is 0. A refusal stands beside its sheet, and the reader below must find it too.
+word can have at its roots (the Wolf trellis) for codes 1 to 3 on every row and for code 4 on two, and in every code to the number of best
+words: no soft output is 0 where that is 1, and only there, and their signs then spell the word. A refusal stands beside its sheet, and the reader below must find it too.
 It needs Python alone and takes some 30 seconds.
 """
 import array
 import itertools
+import math
 import os
 import sys
 
@@ -198,10 +199,9 @@ CONFIGURATIONS = {code: configurations(code) for code in CODES}
 assert [len(found) for _, found in CONFIGURATIONS.values()] == [8, 64, 256, 65536, 65536]
 
 
-def layer(code, row):
-    """For each position and bit value: by the syndrome, the greatest metric of a binary word that has it there."""
+def layer_columns(code):
+    """The syndrome of a 1 at each position."""
     n = CODES[code][0]
-    size = CONFIGURATIONS[code][0]
     columns = []
     for i in range(n):
         column, weight = 0, 1
@@ -209,6 +209,14 @@ def layer(code, row):
             column += weight * values.index(power(code, i * t % n))
             weight *= len(values)
         columns.append(column)
+    return columns
+
+
+def layer(code, row):
+    """For each position and bit value: by the syndrome, the greatest metric of a binary word that has it there."""
+    n = CODES[code][0]
+    size = CONFIGURATIONS[code][0]
+    columns = layer_columns(code)
     found = []
     for i in range(n):
         table = [0] + [NONE] * (size - 1)
@@ -240,12 +248,40 @@ def by_layers(code, row):
     return max(pairs[0]), [zero - one for zero, one in pairs]
 
 
+def best_words(code, row):
+    """How many words have the best metric: by the layers, in how many ways each has its greatest metric with a syndrome."""
+    n, _, m, _, _ = CODES[code]
+    size, tuples = CONFIGURATIONS[code]
+    columns = layer_columns(code)
+    layers = []
+    for j in range(m):
+        table = [(0, 1)] + [(NONE, 0)] * (size - 1)
+        for r, c in zip(row[j::m], columns):
+            both = [((table[s][0] + r, table[s][1]), (table[s ^ c][0] - r, table[s ^ c][1])) for s in range(size)]
+            table = [(max(a, b), x * (a >= b) + y * (a <= b)) for (a, x), (b, y) in both]
+        layers.append(table)
+    best, ways = NONE, 0
+    for syndromes in tuples:
+        own = [layers[j][s] for j, s in enumerate(syndromes)]
+        total = sum(value for value, _ in own)
+        if total > best:
+            best, ways = total, 0
+        if total == best:
+            ways += math.prod(count for _, count in own)
+    return ways
+
+
 def decoded(code, row):
     best, soft = found = by_layers(code, row)
+    ways = best_words(code, row)
     if code in EVERY:
         assert found == one_after_another(code, row)
+        total = sum(row)
+        assert ways == sum(total - 2 * sum(r for b, r in enumerate(row) if w >> b & 1) == best for w in EVERY[code])
     if code < 4:
         assert found == trellis(code, row)
+    assert all(soft) == (ways == 1)
+    assert all(soft) or soft.count(0) >= len(FEWEST[code])
     if all(soft):
         m = CODES[code][2]
         word = [sum((s < 0) << j for j, s in enumerate(soft[i : i + m])) for i in range(0, len(soft), m)]
@@ -345,9 +381,9 @@ def line(code, number, row, word):
     if is_codeword(code, word):
         short = best - metric(code, row, word)
         verdict = "short" if short else "best"
-    decided = "".join("1" if s < 0 else "0" for s in soft)
+    shown = "".join("1" if s < 0 else "0" if s > 0 else "?" for s in soft)
     MET.update([(code, verdict), (code, "one best word" if all(soft) else "tied")])
-    return f"{number} {code} {best} {verdict} {short} {decided} {min(abs(s) for s in soft)}\n"
+    return f"{number} {code} {best} {verdict} {short} {shown} {min(abs(s) for s in soft)}\n"
 
 
 def listing(data):
@@ -428,6 +464,33 @@ def ties():
             (code, 10 * code + 3, flat(code, 0), spoilt(code, word)),
             (code, 10 * code + 4, one, same(code, 0)),
         ]
+    return found
+
+
+# the 1 bits of a codeword that has the fewest. Two codewords differ in no fewer bits, so no row has fewer undecided bits, unless it has none: they
+# differ in more symbols than there are roots; of code 2, by all its words
+FEWEST = {1: [0, 3, 9], 2: [0, 1, 7, 12, 15, 19], 3: [0, 4, 16], 4: [0, 4, 8, 36, 52], 5: [0, 4, 8, 16, 20, 32, 40]}
+assert min(bin(w).count("1") for w in EVERY[2] if w) == len(FEWEST[2])
+assert all(len(FEWEST[code]) == CODES[code][3] + 1 for code in CODES if code != 2)
+
+
+def two_best():
+    """For each code a row with two best words, and one in which the first of them is best by 2, the least that can be."""
+    found = []
+    for code in CODES:
+        n, _, m, _, _ = CODES[code]
+        few = FEWEST[code]
+        word = any_word(code) if code > 1 else same(code, 0)
+        other = [s ^ sum(1 << j for j in range(m) if i * m + j in few) for i, s in enumerate(word)]
+        assert is_codeword(code, other)
+        sign = [-1 if b else 1 for b in bits(code, word)]
+        tied = [s * (40 + draw(88)) for s in sign]
+        for i, b in enumerate(few):
+            tied[b] = sign[b] * (7 if i % 2 else -7 if i or len(few) % 2 == 0 else 0)  # in sum for neither word
+        assert [b for b, s in enumerate(decoded(code, tied)[1]) if s == 0] == few
+        decisive = list(tied)
+        decisive[few[0]] += sign[few[0]]
+        found += [(code, 10 * code + i, row, w) for i, (row, w) in enumerate(itertools.product((tied, decisive), (word, other)))]
     return found
 
 
@@ -546,6 +609,7 @@ def cases():
     yield "a_201st_head_before_its_code", as_bytes(sheet_words(ones)[:-1] + [0x16000001, 0xF00000C9]), 12
     yield "a_201st_word_of_another_kind", as_bytes(sheet_words(ones)[:-1] + head[1:]), 10
     yield LONG, sheet(full) + b"\1\2\3\4\5\6", 13  # 19,210 bytes, of which 19,208 are judged; all of them would be refused by 9
+    yield "two_best_words", sheet(two_best()), None
 
 
 LONG = "longer_than_is_read"

@@ -383,6 +383,20 @@ pub fn receive_by(m: u32, r: u32, kinds: &[u8], samples: &[f32], row: &mut [i16]
 /// Decodes a row of n·m reliabilities: answers the best metric, and writes the codeword that has it into n places (of several, the first when
 /// symbols are compared from position 0) and the soft outputs into n·m: the greatest metric of a codeword with 0 at that bit less the greatest
 /// with 1. The scratch has [`SCRATCH`] numbers. Refuses by 1, 2, 4, 17, 5.
+///
+/// A bit is decided as 1 where its soft output is negative and as 0 where it is positive, which every codeword with the best metric then has
+/// there; where it is 0 the bit is undecided, and some of them have 0 there and some 1. So no soft output is 0 exactly when one codeword has the
+/// best metric, and the decided bits are then its bits.
+///
+/// ```
+/// // the zero word and 1 1 0 1 0 0 0 have the best metric, and differ in bits 0, 3 and 9
+/// let mut row = [10; 21];
+/// (row[0], row[3], row[9]) = (2, -1, -1);
+/// let (mut word, mut soft, mut scratch) = ([0u8; 7], [0i16; 21], vec![0i32; tugzeck::SCRATCH]);
+/// assert_eq!(tugzeck::decode(1, &row, &mut word, &mut soft, &mut scratch), Ok(180));
+/// assert_eq!(word, [0; 7]);
+/// assert!((0..21).all(|b| if [0, 3, 9].contains(&b) { soft[b] == 0 } else { soft[b] > 0 }));
+/// ```
 pub fn decode(code: u32, row: &[i16], word: &mut [u8], soft: &mut [i16], scratch: &mut [i32]) -> Result<i32, Refusal> {
     // SAFETY: all are slices, and the outputs and the scratch are borrowed apart.
     let d = unsafe {
@@ -488,8 +502,9 @@ pub fn write_sheet(codes: &[u32], numbers: &[u32], rows: &[i16], words: &[u8], o
     unless_refused(number, ())
 }
 
-/// Writes the listing of a sheet at the start of [`LISTING`] bytes and answers the length of its text; the bytes behind it are kept. The
-/// listing of a refused sheet is the line `refused N`. Refuses by 4 alone.
+/// Writes the listing of a sheet at the start of [`LISTING`] bytes and answers the length of its text; the bytes behind it are kept. Decided
+/// bits (see [`decode`]) show as 0 and 1, undecided ones as a question mark. The listing of a refused sheet is the line `refused N`. Refuses by 4
+/// alone.
 pub fn list(sheet: &[u8], output: &mut [u8]) -> Result<usize, Refusal> {
     // SAFETY: both are slices, and the output is borrowed alone.
     let l = unsafe { raw::tugzeck_list(sheet.as_ptr(), sheet.len(), output.as_mut_ptr(), output.len()) };

@@ -3,24 +3,26 @@
 use Rattle.basics.proofs.Kit.{_≡_, refl, sym, ap, ap₂, _∙_, Bool, true, false, cond, List, [], _∷_, _++_, ℕ, zero, suc, _+_, _-_, _*_, _/_, _≤_, _<_, arith, length, getD, ℤ, pos, negsuc, natAbs, _-ℤ_}
 use mathlib.Core.Logic.{_⊎_, inl, inr}
 use mathlib.Core.Bool.{false≢true}
+use mathlib.Core.List.{map}
+use mathlib.Core.Option.{Option, none, some, Option·some-injective, Option·none-ne-some}
 use native.Mathlib.Nat.{eq-or-lt-of-le}
 use lib.Dec.{lit<}
 use lib.Seq.{ext-getD}
 use Rattle.order.specs.Promise.{Order-antisymmetric}
 use Rattle.order.proofs.Promise.{order-antisymmetric}
-use Rattle.field.proofs.Tests.{widths}
+use Rattle.field.proofs.Tests.{to-T, widths}
 use Rattle.code.specs.Code.{long, is-codeword}
 use Rattle.code.specs.Bits.{bits-of, all-bits, bit-at, row-long}
 use Rattle.code.specs.Promise.{Both-there}
-use Rattle.code.proofs.Words.{good, codeword-parts}
+use Rattle.code.proofs.Words.{below, good, codeword-parts}
 use Rattle.code.proofs.Both.{both-there}
-use Rattle.metric.specs.Metric.{metric, at-most, Greatest, Soft, Decoded, Marked}
+use Rattle.metric.specs.Metric.{metric, at-most, Greatest, Soft, Decoded, Marked, decided}
 use Rattle.metric.specs.Cost.{costZero, costOne, cost, top, Least}
 use Rattle.metric.specs.Right.{Soft-right, Marked-right}
-use Rattle.metric.specs.Promise.{Words-for, Codewords-for, Greatest-there, Greatest-with-there, Decoded-there, Marked-there, Greatest-one, Greatest-with-one, Soft-width, Best-of-two, Decoded-one, Marked-one, Soft-enough, Decoded-enough, Marked-enough}
-use Rattle.metric.proofs.Integers.{same, size, minus-size, le-at-most, at-most-true, at-most-false, at-most-refl, at-most-antisym}
+use Rattle.metric.specs.Promise.{Words-for, Codewords-for, Greatest-there, Greatest-with-there, Decoded-there, Marked-there, Greatest-one, Greatest-with-one, Soft-width, Best-of-two, Decided-right, One-best, Undecided-none, Decoded-one, Marked-one, Soft-enough, Decoded-enough, Marked-enough}
+use Rattle.metric.proofs.Integers.{minus, same, size, minus-size, le-at-most, at-most-true, at-most-false, at-most-refl, at-most-antisym}
 use Rattle.metric.proofs.Bounds.{word-size}
-use Rattle.metric.proofs.Costs.{length-all-bits, greatest, greatest-with, decoded-with}
+use Rattle.metric.proofs.Costs.{length-all-bits, word-one, greatest, greatest-with, decoded-with}
 use Rattle.metric.proofs.Marks.{marked-none, marked-short, marked-best}
 use Rattle.metric.proofs.Finite.{least-there, least-with-there, first-there}
 
@@ -107,6 +109,70 @@ best-of-two m among rs b e g h t p q = go (at-most h g) refl (bit-at m b ws) ref
     go false k zero y z = same e h (omega (arith, h-most, at-most-false h g k, at-most-true e g (rw (t .met .2) at (p .all ws (t .met .1) y))))
     go false k (suc zero) y z = same e h (omega (arith, h-most, at-most-true e h (rw (t .met .2) at (q .all ws (t .met .1) y))))
     go x k (suc (suc v)) y z = absurd (omega arith)
+
+-- A DECIDED BIT: a best word with 0 there has no less than the greatest with 1, and one with 1 no less than the greatest with 0; where they are the same, both
+-- are of best words
+module _ (m : ℕ) (among : List ℕ → Bool) (rs : List ℤ) (b : ℕ) (g s : ℤ) (t : Greatest m among rs g) (z : Soft m among rs b s) where
+  Best-have : (v : ℕ) → Type 0
+  Best-have v = (ws : List ℕ) → among ws ≡ true → metric m rs ws ≡ g → bit-at m b ws ≡ v
+
+  balance : (x : ℤ) → s ≡ x → costOne x + (costZero (z .of-zero) + costOne (z .of-one)) ≡ costZero x + (costOne (z .of-zero) + costZero (z .of-one))
+  balance x e = rw (sym e ∙ z .difference) (minus (z .of-zero) (z .of-one))
+
+  zero-most : costOne (z .of-zero) + costZero g ≤ costOne g + costZero (z .of-zero)
+  zero-most = let w = z .greatest-zero .met in at-most-true (z .of-zero) g (rw (w .3) at (t .all (w .0) (w .1)))
+
+  one-most : costOne (z .of-one) + costZero g ≤ costOne g + costZero (z .of-one)
+  one-most = let w = z .greatest-one .met in at-most-true (z .of-one) g (rw (w .3) at (t .all (w .0) (w .1)))
+
+  zero-least : (ws : List ℕ) → among ws ≡ true → metric m rs ws ≡ g → bit-at m b ws ≡ 0 → costOne g + costZero (z .of-zero) ≤ costOne (z .of-zero) + costZero g
+  zero-least ws c e k = at-most-true g (z .of-zero) (rw e at (z .greatest-zero .all ws c k))
+
+  one-least : (ws : List ℕ) → among ws ≡ true → metric m rs ws ≡ g → bit-at m b ws ≡ 1 → costOne g + costZero (z .of-one) ≤ costOne (z .of-one) + costZero g
+  one-least ws c e k = at-most-true g (z .of-one) (rw e at (z .greatest-one .all ws c k))
+
+  every : (v : ℕ) → decided s ≡ some v → Best-have v
+  unfolding Best-have decided
+  every v d ws c k = go (bit-at m b ws) refl (bit-small m b ws) s refl d
+    where
+      go : (w : ℕ) → bit-at m b ws ≡ w → w < 2 → (x : ℤ) → s ≡ x → decided x ≡ some v → w ≡ v
+      go zero y h (negsuc n) e f = absurd (omega (arith, balance (negsuc n) e, one-most, zero-least ws c k y))
+      go zero y h (pos zero) e f = absurd (Option·none-ne-some v f)
+      go zero y h (pos (suc n)) e f = Option·some-injective 0 v f
+      go (suc zero) y h (negsuc n) e f = Option·some-injective 1 v f
+      go (suc zero) y h (pos zero) e f = absurd (Option·none-ne-some v f)
+      go (suc zero) y h (pos (suc n)) e f = absurd (omega (arith, balance (pos (suc n)) e, zero-most, one-least ws c k y))
+      go (suc (suc w)) y h x e f = absurd (omega arith)
+
+  -- an undecided bit: a best word with 0 there, and one with 1
+  both-best : s ≡ pos 0 → (z .of-zero ≡ g) × (z .of-one ≡ g)
+  both-best e = go (bit-at m b (t .met .0)) refl (bit-small m b (t .met .0))
+    where
+      go : (w : ℕ) → bit-at m b (t .met .0) ≡ w → w < 2 → (z .of-zero ≡ g) × (z .of-one ≡ g)
+      go zero y h = let l = zero-least (t .met .0) (t .met .1) (t .met .2) y in
+          (same (z .of-zero) g (omega (arith, zero-most, l)), same (z .of-one) g (omega (arith, zero-most, l, balance (pos 0) e)))
+      go (suc zero) y h = let l = one-least (t .met .0) (t .met .1) (t .met .2) y in
+          (same (z .of-zero) g (omega (arith, one-most, l, balance (pos 0) e)), same (z .of-one) g (omega (arith, one-most, l)))
+      go (suc (suc w)) y h = absurd (omega arith)
+
+  some-decided : (v : ℕ) → Best-have v → decided s ≡ some v
+  unfolding Best-have decided
+  some-decided v f = go s refl
+    where
+      -- the decision on a best word is what all best words have
+      own : (x : ℤ) → s ≡ x → (u : ℕ) → decided x ≡ some u → decided s ≡ some v
+      own x e u d =
+          let y : decided s ≡ some u = ap decided e ∙ d in y ∙ ap some (sym (every u y (t .met .0) (t .met .1) (t .met .2)) ∙ f (t .met .0) (t .met .1) (t .met .2))
+
+      go : (x : ℤ) → s ≡ x → decided s ≡ some v
+      go (negsuc n) e = own (negsuc n) e 1 refl
+      go (pos zero) e = let p = both-best e in let y = z .greatest-zero .met in let w = z .greatest-one .met in
+          absurd (omega (arith, sym (y .2) ∙ f (y .0) (y .1) (y .3 ∙ p .0), sym (w .2) ∙ f (w .0) (w .1) (w .3 ∙ p .1)))
+      go (pos (suc n)) e = own (pos (suc n)) e 0 refl
+
+pub decided-right : Decided-right
+unfolding Decided-right Best-have
+decided-right m among rs b v g s t z = (every m among rs b g s t z v, some-decided m among rs b g s t z v)
 
 -- WHAT DOCUMENT 03 ASKS: a greatest metric that is given is the one that is named
 pub soft-enough : Soft-enough
@@ -223,3 +289,42 @@ decoded-one m among rs vs ws e g so to p q =
 -- the metric of a decoding is the greatest
 pub decoded-greatest : (m : ℕ) (among : List ℕ → Bool) (rs : List ℤ) (ws : List ℕ) (g : ℤ) (so : List ℤ) → Decoded m among rs ws g so → Greatest m among rs g
 decoded-greatest m among rs ws g so d = record { met = (ws, d .word, sym (d .own)); all = d .most }
+
+-- NO UNDECIDED BIT: best words have what is decided, so all their bits; and of one best word every bit is decided
+decided-as : (so : List ℤ) (bs : List ℕ) → length so ≡ length bs → ((b : ℕ) → b < length so → decided (getD so b (pos 0)) ≡ some (getD bs b 0)) → map decided so ≡ map some bs
+decided-as [] [] l f = refl
+decided-as [] (b ∷ bs) l f = absurd (omega arith)
+decided-as (s ∷ so) [] l f = absurd (omega arith)
+decided-as (s ∷ so) (b ∷ bs) l f = ap₂ _∷_ (f 0 (omega arith)) (decided-as so bs (omega arith) (λ i h. f (suc i) (omega arith)))
+
+pub undecided-none : Undecided-none
+unfolding Undecided-none Decided-right Greatest-one bit-at
+undecided-none m among rs ws best so x d = ((λ f. (ws, only f), λ p b h e. absurd (Option·none-ne-some _ (sym e ∙ spelt (p .0) (p .1) b h))), spelling)
+  where
+    t : Greatest m among rs best
+    t = decoded-greatest m among rs ws best so d
+
+    -- the decision on a bit, where there is one, is what two best words have there
+    agreed : (b : ℕ) → b < length rs → (vs : List ℕ) → among vs ≡ true → metric m rs vs ≡ best → (o : Option ℕ) → decided (getD so b (pos 0)) ≡ o → (o ≡ none → ⊥) → bit-at m b vs ≡ bit-at m b ws
+    agreed b h vs c e none y f = absurd (f refl)
+    agreed b h vs c e (some v) y f =
+        let r = decided-right m among rs b v best (getD so b (pos 0)) t (d .softly b h) .0 y in r vs c e ∙ sym (r ws (d .word) (sym (d .own)))
+
+    only : ((b : ℕ) → b < length rs → decided (getD so b (pos 0)) ≡ none → ⊥) → One-best m among rs ws
+    only f = record {
+      best = rw (← (d .own)) t;
+      only = λ vs c e. word-one m vs ws (x .words vs c .0 ∙ sym (x .words ws (d .word) .0)) (below m vs (to-T (x .words vs c .1))) (below m ws (to-T (x .words ws (d .word) .1)))
+          (ext-getD 0 (all-bits m vs) (all-bits m ws) (filled m among rs x vs c ∙ sym (filled m among rs x ws (d .word)))
+          (λ b h. agreed b (rw (filled m among rs x vs c) at h) vs c (e ∙ sym (d .own)) _ refl (f b (rw (filled m among rs x vs c) at h))));
+    }
+
+    spelt : (vs : List ℕ) → One-best m among rs vs → (b : ℕ) → b < length rs → decided (getD so b (pos 0)) ≡ some (bit-at m b vs)
+    spelt vs p b h =
+        decided-right m among rs b (bit-at m b vs) best (getD so b (pos 0)) t (d .softly b h) .1
+        (λ us c e. ap (bit-at m b) (p .only us c (e ∙ greatest-one m among rs best (metric m rs vs) t (p .best))))
+
+    spelling : (vs : List ℕ) → One-best m among rs vs → map decided so ≡ map some (all-bits m vs)
+    spelling vs p =
+        let w = p .best .met in
+        let l : length (all-bits m vs) ≡ length rs = filled m among rs x vs (rw (p .only (w .0) (w .1) (w .2)) at (w .1)) in
+        decided-as so (all-bits m vs) (d .count ∙ sym l) (λ b h. spelt vs p b (rw (d .count) at h))

@@ -1,11 +1,13 @@
 -- The values on record of document 01 that are of metrics, and the order of the bits, each computed from the definitions.
 -- Assumes nothing.
 use Rattle.basics.proofs.Kit.{_≡_, refl, true, false, List, [], _∷_, _++_, ℕ, ℤ, pos, negsuc}
+use mathlib.Core.List.{map}
+use mathlib.Core.Option.{none, some}
 use lib.ListN.{replicate}
 use Rattle.code.specs.Code.{width, long}
 use Rattle.code.specs.Bits.{bits-of, all-bits, bit-at, row-long}
 use Rattle.metric.specs.Row.{row-bound, reliability-good, row-good}
-use Rattle.metric.specs.Metric.{metric-of, metric, is-neg, decided}
+use Rattle.metric.specs.Metric.{metric-of, metric, decided}
 
 -- a row of one reliability, and a word of one symbol, of a code
 abbrev row : (code : ℕ) → ℤ → List ℤ
@@ -47,7 +49,7 @@ pub edges :
 unfolding reliability-good row-good width long row-long
 edges = (refl, refl, refl, refl, refl, refl)
 
--- a soft output of 0 decides for 0
-pub decisions : decided (pos 60 ∷ negsuc 59 ∷ pos 0 ∷ negsuc 0 ∷ []) ≡ 0 ∷ 1 ∷ 0 ∷ 1 ∷ []
-unfolding decided is-neg
+-- a soft output of 0 decides nothing
+pub decisions : map decided (pos 60 ∷ negsuc 59 ∷ pos 0 ∷ negsuc 0 ∷ []) ≡ some 0 ∷ some 1 ∷ none ∷ some 1 ∷ []
+unfolding decided
 decisions = refl

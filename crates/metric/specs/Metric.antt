@@ -4,6 +4,7 @@
 use mathlib.Core.Path.{_≡_}
 use mathlib.Core.Bool.{Bool, true, false, not, cond}
 use mathlib.Core.List.{List, [], _∷_}
+use mathlib.Core.Option.{Option, none, some}
 use Prim.Native.Nat.{ℕ, zero, suc, _<_}
 use lib.Dec.{eqb}
 use lib.ListN.{length, getD}
@@ -63,7 +64,8 @@ Marked (suc zero) d m among rs ws =
 Marked (suc (suc zero)) d m among rs ws = (among ws ≡ true) × Greatest m among rs (metric m rs ws) × (d ≡ pos 0)
 Marked (suc (suc (suc v))) d m among rs ws = ⊥
 
--- the decided bits: 1 where the soft output is negative, else 0
-unfoldable pub decided : (soft : List ℤ) → List ℕ
-decided [] = []
-decided (s ∷ ss) = cond (is-neg s) 1 0 ∷ decided ss
+-- what a soft output decides of its bit: 1 where it is negative, 0 where it is positive, nothing where it is 0
+unfoldable pub decided : (soft : ℤ) → Option ℕ
+decided (negsuc n) = some 1
+decided (pos zero) = none
+decided (pos (suc n)) = some 0

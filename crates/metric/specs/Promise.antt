@@ -1,15 +1,17 @@
 -- What is promised of metrics, over a set of words. A statement is a type; proofs/Promise.antt names the proof of each. Assumes nothing.
 use mathlib.Core.Path.{_≡_}
 use mathlib.Core.Bool.{Bool, true, cond}
-use mathlib.Core.List.{List}
+use mathlib.Core.List.{List, map}
+use mathlib.Core.Logic.{_↔_}
+use mathlib.Core.Option.{none, some}
 use Prim.Native.Nat.{ℕ, _*_, _≤_, _<_}
 use lib.ListN.{length, getD}
 use lib.IntN.{ℤ, pos, negsuc, _-ℤ_}
 use Rattle.field.specs.Field.{width-good}
 use Rattle.code.specs.Code.{long, symbols-good, is-codeword}
-use Rattle.code.specs.Bits.{bit-at, row-long}
+use Rattle.code.specs.Bits.{all-bits, bit-at, row-long}
 use Rattle.metric.specs.Row.{row-bound, row-good}
-use Rattle.metric.specs.Metric.{at-most, Greatest, Greatest-with, Soft, Decoded, Marked}
+use Rattle.metric.specs.Metric.{metric, at-most, Greatest, Greatest-with, Soft, Decoded, Marked, decided}
 use Rattle.metric.specs.Right.{Soft-right, Decoded-right, Marked-right}
 
 -- what greatest metrics need to be there: the words have a bit for each entry of the row, and at each some have 0 and some have 1
@@ -52,6 +54,24 @@ unfoldable pub Best-of-two : Type 0
 Best-of-two =
     (m : ℕ) (among : List ℕ → Bool) (rs : List ℤ) (b : ℕ) (e g h : ℤ) → Greatest m among rs e → Greatest-with m among rs b 0 g → Greatest-with m among rs b 1 h →
     e ≡ cond (at-most h g) g h
+
+-- a bit is decided as v exactly when every best word has v there
+unfoldable pub Decided-right : Type 0
+Decided-right =
+    (m : ℕ) (among : List ℕ → Bool) (rs : List ℤ) (b v : ℕ) (g s : ℤ) → Greatest m among rs g → Soft m among rs b s →
+    (decided s ≡ some v) ↔ ((ws : List ℕ) → among ws ≡ true → metric m rs ws ≡ g → bit-at m b ws ≡ v)
+
+-- one best word: it has the greatest metric, and every word of the set that has it is this one
+pub record One-best (m : ℕ) (among : List ℕ → Bool) (rs : List ℤ) (ws : List ℕ) : Type 0 where
+  pub best : Greatest m among rs (metric m rs ws)
+  pub only : (vs : List ℕ) → among vs ≡ true → metric m rs vs ≡ metric m rs ws → vs ≡ ws
+
+-- a row has no undecided bit exactly when it has one best word, and its bits are then decided as those of that word
+unfoldable pub Undecided-none : Type 0
+Undecided-none =
+    (m : ℕ) (among : List ℕ → Bool) (rs : List ℤ) (ws : List ℕ) (best : ℤ) (so : List ℤ) → Words-for m among rs → Decoded m among rs ws best so →
+    (((b : ℕ) → b < length rs → decided (getD so b (pos 0)) ≡ none → ⊥) ↔ ((vs : List ℕ) × One-best m among rs vs))
+    × ((vs : List ℕ) → One-best m among rs vs → map decided so ≡ map some (all-bits m vs))
 
 -- a row has a decoding, and only one
 unfoldable pub Decoded-there : Type 0

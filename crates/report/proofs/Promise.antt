@@ -15,11 +15,13 @@ use Rattle.sheet.proofs.Items.{both, le-or-lt}
 use Rattle.sheet.proofs.Trips.{good-parts, read-written}
 use Rattle.sheet_reader.proofs.Places.{judged-large}
 use Rattle.text.specs.Text.{header, question-line, count-line, refused-line, decimal-from, decimal, line, question-word, code-word, best-word, verdict-word, short-word, bits-word, least-word}
+use Rattle.text.specs.Promise.{Shown-right}
+use Rattle.text.proofs.Promise.{shown-right}
 use Rattle.text.proofs.Decimal.{digits-at-most}
 use Rattle.text.proofs.Lines.{count-length, refused-length}
 use Rattle.report.specs.Listing.{Line, Lines, Printed, Listing}
 use Rattle.report.specs.Calls.{line-most, listing-most}
-use Rattle.report.specs.Promise.{Listing-there, Listing-one, Listing-fits}
+use Rattle.report.specs.Promise.{Listing-there, Listing-one, Listing-fits, Line-shown}
 use Rattle.report.proofs.Bounds.{line-fits}
 
 -- THERE IS A LISTING: a line for each question of an accepted sheet, which is one that a sheet can hold
@@ -76,6 +78,13 @@ printed-one (suc e) qs s t v w = v ∙ sym w
 pub listing-one : Listing-one
 unfolding Listing-one Listing
 listing-one bs s t v w = printed-one (sheet-refusal bs) (questions bs) s t v w
+
+-- WHAT A LINE SHOWS, from the decoding in it
+pub line-shown : Line-shown
+unfolding Line-shown Shown-right
+line-shown q t h l =
+    shown-right (width (q .code)) (roots (q .code)) (q .row) (l .word) (l .best) (l .soft) (width-fine (q .code)) (roots-few (q .code))
+    (good-parts reliabilities q h .row-length) (l .decoded)
 
 -- ---- LENGTHS: each question of an accepted sheet is one that a sheet can hold
 pub lines-short : (qs : List Question) (t : List ℕ) → all-good reliabilities qs ≡ true → Lines qs t → length t ≤ length qs * line-most

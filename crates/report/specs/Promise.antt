@@ -4,8 +4,11 @@ use mathlib.Core.Bool.{true}
 use mathlib.Core.List.{List}
 use Prim.Native.Nat.{ℕ, _≤_}
 use lib.ListN.{length}
+use Rattle.code.specs.Code.{width, roots, is-codeword}
+use Rattle.sheet.specs.Sheet.{Question, reliabilities, question-good}
 use Rattle.sheet.specs.Promise.{all-bytes}
-use Rattle.report.specs.Listing.{Listing}
+use Rattle.text.specs.Promise.{Shown}
+use Rattle.report.specs.Listing.{Line, Listing}
 use Rattle.report.specs.Calls.{listing-most}
 
 -- a sheet has a listing
@@ -19,3 +22,9 @@ Listing-one = (bs s t : List ℕ) → Listing bs s → Listing bs t → s ≡ t
 -- and no listing of bytes is longer than the output
 unfoldable pub Listing-fits : Type 0
 Listing-fits = (bs t : List ℕ) → all-bytes bs ≡ true → Listing bs t → length t ≤ listing-most
+
+-- the line of a question that a sheet can hold shows no question mark exactly when its row has one best word, and its bits then spell that word
+unfoldable pub Line-shown : Type 0
+Line-shown =
+    (q : Question) (t : List ℕ) → question-good reliabilities q ≡ true → (l : Line q t) →
+    Shown (width (q .code)) (is-codeword (width (q .code)) (roots (q .code))) (q .row) (l .soft)

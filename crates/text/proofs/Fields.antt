@@ -1,4 +1,4 @@
--- The fields of a line: decided bits one by one, signs, the least magnitude, and verdicts.
+-- The fields of a line: bits one by one, signs, the least magnitude, and verdicts.
 -- Assumes nothing.
 use Rattle.basics.proofs.Kit.{_≡_, refl, sym, ap, _∙_, true, false, cond, List, [], _∷_, _++_, ℕ, zero, suc, _+_, _^_, _≤_, _<_, min, arith, length, getD, drop, ℤ, pos, negsuc, natAbs, _-ℤ_}
 use mathlib.Core.Bool.{false≢true}
@@ -14,20 +14,36 @@ use mir.Syntax.{w16, w32, w64}
 use mir.Val.{SFits, Fits, toZ, ofZ}
 use mir.Facts.{toZ-ofZ}
 use Rattle.metric.specs.Metric.{is-neg, decided}
-use Rattle.text.specs.Text.{space, dash, decimal, sign, signed, none-word, short-word, best-word, verdict-field, shortfall-field, bits-field, least-from, least-magnitude}
-use Rattle.text.specs.Within.{bit-digit, ended, mark-part}
+use Rattle.text.specs.Text.{space, dash, decimal, sign, signed, none-word, short-word, best-word, verdict-field, shortfall-field, bit-byte, bits-field, least-from, least-magnitude}
+use Rattle.text.specs.Within.{ended, mark-part}
 
--- ---- decided bits
+-- ---- bits
 pub bits-length : (so : List ℤ) → length (bits-field so) ≡ length so
-unfolding bits-field decided
+unfolding bits-field
 bits-length [] = refl
 bits-length (s ∷ so) = ap suc (bits-length so)
 
-pub bits-at : (so : List ℤ) (i : ℕ) → i < length so → getD (bits-field so) i 0 ≡ bit-digit (getD so i (pos 0))
-unfolding bits-field decided bit-digit
+pub bits-at : (so : List ℤ) (i : ℕ) → i < length so → getD (bits-field so) i 0 ≡ bit-byte (decided (getD so i (pos 0)))
+unfolding bits-field
 bits-at [] i h = absurd (omega arith)
 bits-at (s ∷ so) zero h = refl
 bits-at (s ∷ so) (suc i) h = bits-at so i (omega arith)
+
+-- what is shown of a bit, by the tests of its soft output
+pub bit-one : (z : ℤ) → ltZ z (pos 0) ≡ true → 49 ≡ bit-byte (decided z)
+unfolding bit-byte decided
+bit-one (pos n) e = absurd (omega (arith, ltb-true n 0 e))
+bit-one (negsuc n) e = refl
+
+pub bit-none : (z : ℤ) → z ≡ pos 0 → 63 ≡ bit-byte (decided z)
+unfolding bit-byte decided
+bit-none z e = rw e
+
+pub bit-zero : (z : ℤ) → ltZ z (pos 0) ≡ false → (z ≡ pos 0 → ⊥) → 48 ≡ bit-byte (decided z)
+unfolding bit-byte decided
+bit-zero (pos zero) e f = absurd (f refl)
+bit-zero (pos (suc n)) e f = refl
+bit-zero (negsuc n) e f = absurd (false≢true (sym e))
 
 -- ---- signs
 pub below-zero : (z : ℤ) → ltZ z (pos 0) ≡ is-neg z

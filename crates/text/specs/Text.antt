@@ -1,12 +1,13 @@
 -- The lines of a listing as bytes (document 01, 'Sheets', from 'The listing program'). Assumes nothing: these are definitions.
 use mathlib.Core.List.{List, [], _∷_, _++_, map}
+use mathlib.Core.Option.{Option, none, some}
 use mathlib.Core.Bool.{cond}
 use Prim.Native.Nat.{ℕ, zero, suc, _+_, _/_, _%_, min}
 use lib.Dec.{ltb}
 use lib.IntN.{ℤ, natAbs}
 use Rattle.metric.specs.Metric.{is-neg, decided}
 
--- ASCII: line feed, space, dash, and the digits from `0`
+-- ASCII: line feed, space, dash, question mark, and the digits from `0`
 abbrev pub feed : ℕ
 feed = 10
 
@@ -15,6 +16,9 @@ space = 32
 
 abbrev pub dash : ℕ
 dash = 45
+
+abbrev pub question-mark : ℕ
+question-mark = 63
 
 abbrev pub digit : ℕ → ℕ
 digit d = 48 + d
@@ -79,9 +83,14 @@ unfoldable pub shortfall-field : (verdict : ℕ) → (shortfall : ℤ) → List 
 shortfall-field zero d = dash ∷ []
 shortfall-field (suc v) d = signed d
 
--- the decided bits in bit order
+-- a bit: its digit, or a question mark where it is undecided
+unfoldable pub bit-byte : (decided : Option ℕ) → ℕ
+bit-byte none = question-mark
+bit-byte (some v) = digit v
+
+-- the bits in bit order
 unfoldable pub bits-field : (soft : List ℤ) → List ℕ
-bits-field so = map digit (decided so)
+bits-field so = map bit-byte (map decided so)
 
 -- the least magnitude of a soft output: the least of a first one and of those that follow it
 unfoldable pub least-from : (first : ℕ) → (soft : List ℤ) → ℕ
@@ -96,7 +105,7 @@ least-magnitude (s ∷ so) = least-from (natAbs s) so
 unfoldable pub header : List ℕ
 header = line (question-word ∷ code-word ∷ best-word ∷ verdict-word ∷ short-word ∷ bits-word ∷ least-word ∷ [])
 
--- question number, code, best metric, verdict, shortfall or a dash, decided bits, least magnitude of a soft output
+-- question number, code, best metric, verdict, shortfall or a dash, bits, least magnitude of a soft output
 unfoldable pub question-line : (number code : ℕ) → (best : ℤ) → (verdict : ℕ) → (shortfall : ℤ) → (soft : List ℤ) → List ℕ
 question-line n c g v d so =
     line (decimal n ∷ decimal c ∷ signed g ∷ verdict-field v ∷ shortfall-field v d ∷ bits-field so ∷ decimal (least-magnitude so) ∷ [])

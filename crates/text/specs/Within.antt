@@ -2,11 +2,9 @@
 use mathlib.Core.Path.{_≡_}
 use mathlib.Core.List.{List, [], _∷_, _++_}
 use Prim.Native.Nat.{ℕ, _+_, _≤_}
-use mathlib.Core.Bool.{cond}
 use lib.ListN.{length, take, drop}
 use lib.IntN.{ℤ}
-use Rattle.metric.specs.Metric.{is-neg}
-use Rattle.text.specs.Text.{space, digit, verdict-field, shortfall-field}
+use Rattle.text.specs.Text.{space, verdict-field, shortfall-field}
 
 -- the buffer with a text from a place on, the rest kept
 unfoldable pub put : (at : ℕ) → (text buffer : List ℕ) → List ℕ
@@ -17,10 +15,6 @@ pub record Written (at : ℕ) (text buffer buffer-now : List ℕ) (next : ℕ) :
   pub room : at + length text ≤ length buffer
   pub now-is : buffer-now ≡ put at text buffer
   pub next-is : next ≡ at + length text
-
--- the decided bit of a soft output, as a digit
-unfoldable pub bit-digit : (soft : ℤ) → ℕ
-bit-digit s = digit (cond (is-neg s) 1 0)
 
 -- a field and the byte that ends it
 unfoldable pub ended : (field : List ℕ) → (end : ℕ) → List ℕ

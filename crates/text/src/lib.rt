@@ -6,8 +6,9 @@ ghost use mathlib.Core.List.{_∷_, [], _++_};
 ghost use Prim.Native.Nat.{_+_, _<_, _≤_};
 ghost use lib.ListN.{length};
 ghost use lib.IntN.{natAbs};
-ghost use Rattle.text.specs.Text.{space, digit, decimal, sign, signed, bits-field, least-magnitude, header, question-line, count-line, refused-line};
-ghost use Rattle.text.specs.Within.{Written, bit-digit, ended, mark-part};
+ghost use Rattle.metric.specs.Metric.{decided};
+ghost use Rattle.text.specs.Text.{space, digit, decimal, sign, signed, bit-byte, bits-field, least-magnitude, header, question-line, count-line, refused-line};
+ghost use Rattle.text.specs.Within.{Written, ended, mark-part};
 
 const FEED: u8 = 10;
 
@@ -16,6 +17,8 @@ const SPACE: u8 = 32;
 const DASH: u8 = 45;
 
 const ZERO: u8 = 48;
+
+const QUESTION_MARK: u8 = 63;
 
 pub fn put_byte(b: u8, out: &mut [u8], at: usize) -> usize
     requires { ⌜ at + 1 ≤ length (now out) ⌝ }
@@ -112,12 +115,15 @@ fn put_mark(verdict: u32, shortfall: i32, out: &mut [u8], at: usize) -> usize
     put_signed(shortfall, out, next)
 }
 
-// The decided bit of a soft output, as a digit.
+// A bit by its soft output: the digit that is decided, or a question mark.
 fn bit_of(s: i16) -> u8
-    ensures { λ r. ⌜ r ≡ bit-digit s ⌝ }
+    ensures { λ r. ⌜ r ≡ bit-byte (decided s) ⌝ }
 {
     if s < 0 {
         return ZERO + 1;
+    }
+    if s == 0 {
+        return QUESTION_MARK;
     }
     ZERO
 }

@@ -16,10 +16,11 @@ pub struct Search {
     configurations: Vec<[usize; 4]>,
 }
 
-/// For each layer and coset: the least cost, the first word that has it (position 0 compared first), and the least with each bit held.
+/// For each layer and coset: the least cost, the first word that has it (position 0 compared first), how many have it, and the least with each bit held.
 struct Tables {
     least: Vec<Vec<u32>>,
     first: Vec<Vec<u32>>,
+    words: Vec<Vec<u64>>,
     held: Vec<Vec<[[u32; 2]; 15]>>,
 }
 
@@ -48,15 +49,20 @@ impl Search {
 
     fn tables(&self, row: &[i16]) -> Tables {
         let code = &self.code;
-        let mut t = Tables { least: vec![], first: vec![], held: vec![] };
+        let mut t = Tables { least: vec![], first: vec![], words: vec![], held: vec![] };
         for j in 0..code.m {
             let mut least = vec![u32::MAX; self.size];
             let mut first = vec![0u32; self.size];
+            let mut words = vec![0u64; self.size];
             let mut held = vec![[[u32::MAX; 2]; 15]; self.size];
             for (w, s) in self.cosets.iter().enumerate() {
                 let cost: u32 = (0..code.n).map(|i| against(row[i * code.m + j], w >> i & 1)).sum();
                 // The words as numbers whose leading bit is position 0.
                 let turned = (w as u32).reverse_bits() >> (32 - code.n);
+                if cost < least[*s] {
+                    words[*s] = 0;
+                }
+                words[*s] += u64::from(cost <= least[*s]);
                 if (cost, turned) < (least[*s], first[*s]) || least[*s] == u32::MAX {
                     (least[*s], first[*s]) = (cost, turned);
                 }
@@ -64,13 +70,14 @@ impl Search {
             }
             t.least.push(least);
             t.first.push(first);
+            t.words.push(words);
             t.held.push(held);
         }
         t
     }
 
-    /// The best metric, the first best word and every soft output.
-    pub fn decode(&self, row: &[i16]) -> (i32, Vec<u8>, Vec<i16>) {
+    /// The best metric, the first best word and every soft output; and how many best words there are.
+    pub fn decode(&self, row: &[i16]) -> ((i32, Vec<u8>, Vec<i16>), u64) {
         let (code, t) = (&self.code, self.tables(row));
         let total = |c: &[usize; 4]| (0..code.m).map(|j| t.least[j][c[j]]).sum::<u32>();
         let least = self.configurations.iter().map(total).min().expect("a configuration");
@@ -78,7 +85,9 @@ impl Search {
         let word = |c: &[usize; 4]| -> Vec<u8> {
             (0..code.n).map(|i| (0..code.m).map(|j| ((t.first[j][c[j]] >> (code.n - 1 - i) & 1) as u8) << j).sum()).collect()
         };
-        let first = self.configurations.iter().filter(|c| total(c) == least).map(word).min().expect("a configuration");
+        let best = || self.configurations.iter().filter(|c| total(c) == least);
+        let first = best().map(word).min().expect("a configuration");
+        let words = best().map(|c| (0..code.m).map(|j| t.words[j][c[j]]).product::<u64>()).sum();
         // For each layer and coset: the least cost of the other layers, over the configurations with that coset there.
         let mut others = vec![vec![u32::MAX; self.size]; code.m];
         for c in &self.configurations {
@@ -98,7 +107,7 @@ impl Search {
             }
         }
         let soft = pairs.iter().map(|p| (2 * p[1] as i32 - 2 * p[0] as i32) as i16).collect();
-        (weight - 2 * least as i32, first, soft)
+        ((weight - 2 * least as i32, first, soft), words)
     }
 }
 
@@ -117,14 +126,19 @@ fn metric(code: &Code, row: &[i16], word: &[u8]) -> i32 {
 #[test]
 fn decodings_and_marks() {
     let mut draw = Draw::new(33);
-    let (mut count, mut numbered, mut marks) = (0, 0, [0; 3]);
+    let (mut count, mut numbered, mut marks, mut shown) = (0, 0, [0; 3], [0; 2]);
     for (m, r) in TEN {
         let search = Search::new(code_of(m, r));
         let code = &search.code;
         for k in 0..if m == 3 { 60 } else { 40 } {
             let near = encoded(code, &draw.word(code.n - code.roots, code.m));
             let row = draw.row(k, code.m, &near);
-            let (best, first, soft) = search.decode(&row);
+            let ((best, first, soft), words) = search.decode(&row);
+            // No bit is undecided exactly when one word is best, and a decided bit is that of a best word.
+            assert_eq!(words == 1, !soft.contains(&0), "({m}, {r}), {row:?}: {words} best words");
+            let bit = |b: usize| first[b / code.m] >> (b % code.m) & 1;
+            assert!((0..code.bits()).all(|b| soft[b] == 0 || bit(b) == u8::from(soft[b] < 0)), "({m}, {r}), {row:?}");
+            shown[usize::from(words == 1)] += 1;
             for name in names(m, r) {
                 let (mut word, mut out, mut room) = (Output::new(code.n), Output::<i16>::new(code.bits()), scratch());
                 assert_eq!(name.decode(&row, word.lent(), out.lent(), room.lent()), Ok(best), "{name:?}, {row:?}");
@@ -162,6 +176,8 @@ fn decodings_and_marks() {
         "compared: {count} decodings against a search over the configurations of the ten codes, {numbered} of them by number; {} best, {} short and {} other words marked",
         marks[2], marks[1], marks[0]
     );
+    assert!(shown.iter().all(|rows| *rows > 0));
+    println!("compared: undecided bits with the number of best words: {} rows of one best word, {} of several", shown[1], shown[0]);
 }
 
 #[test]

@@ -104,7 +104,7 @@ pub fn decoded(number: u32, row: &[i16]) -> (i32, Vec<u8>, Vec<i16>) {
     static SEARCHES: [OnceLock<Search>; 2] = [OnceLock::new(), OnceLock::new()];
     let code = numbered(number);
     if number > 3 {
-        return SEARCHES[number as usize - 4].get_or_init(|| Search::new(code)).decode(row);
+        return SEARCHES[number as usize - 4].get_or_init(|| Search::new(code)).decode(row).0;
     }
     let (mut word, mut soft) = (vec![0; code.n], vec![0; code.bits()]);
     let best = Wolf::new(number).decode(row, &mut word, &mut soft);
@@ -126,7 +126,7 @@ pub fn listing(bytes: &[u8]) -> String {
             (1, short) => format!("short {short}"),
             (_, _) => String::from("best 0"),
         };
-        let bits: String = soft.iter().map(|s| if *s < 0 { '1' } else { '0' }).collect();
+        let bits: String = soft.iter().map(|s| ['1', '?', '0'][(s.signum() + 1) as usize]).collect();
         let least = soft.iter().map(|s| s.abs()).min().expect("a soft output");
         text += &format!("{} {} {best} {marked} {bits} {least}\n", q.number, q.code);
     }

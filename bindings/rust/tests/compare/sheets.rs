@@ -115,6 +115,7 @@ fn listings() {
     let mut draw = Draw::new(31);
     let mut lines = 0;
     let mut verdicts = [[0; 3]; 5];
+    let mut marks = [[0; 2]; 5];
     for count in (0..25).chain([200]) {
         let mut list = any_questions(&mut draw, count);
         // one word handed in of three is the best word of its row, and one a codeword
@@ -132,10 +133,11 @@ fn listings() {
         for (q, line) in list.iter().zip(text.lines().skip(1)) {
             let verdict = ["none", "short", "best"].iter().position(|v| line.contains(v)).expect("a verdict");
             verdicts[q.code as usize - 1][verdict] += 1;
+            marks[q.code as usize - 1][usize::from(line.contains('?'))] += 1;
         }
         lines += count;
     }
-    assert!(verdicts.concat().iter().all(|met| *met > 0), "{verdicts:?}");
+    assert!(verdicts.concat().iter().chain(&marks.concat()).all(|met| *met > 0), "{verdicts:?} {marks:?}");
     // the longest listings of codes 3 to 5: numbers of 8 digits, metrics of 4, shortfalls of 5
     for code in 3..=5 {
         let longest = Question { code, number: (1 << 24) - 1, row: vec![127; 60], word: vec![15; 15] };

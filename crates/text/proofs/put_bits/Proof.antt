@@ -1,9 +1,10 @@
--- `text::put_bits` meets its contract: so many decided bits stand in the buffer.
+-- `text::put_bits` meets its contract: so many bits stand in the buffer.
 -- Assumes nothing.
-use Rattle.basics.proofs.Kit.{_≡_, sym, ap, _∙_, _+_, _-_, _≤_, _<_, arith, length, getD, take, now}
+use Rattle.basics.proofs.Kit.{_≡_, sym, ap, _∙_, _+_, _-_, _≤_, _<_, arith, length, getD, take, now, ℤ}
 use mir.Facts.{toZ-ofZ}
-use Rattle.text.specs.Text.{bits-field}
-use Rattle.text.specs.Within.{Written, bit-digit}
+use Rattle.metric.specs.Metric.{decided}
+use Rattle.text.specs.Text.{bit-byte, bits-field}
+use Rattle.text.specs.Within.{Written}
 use Rattle.text.proofs.Fields.{bits-length, bits-at}
 use Rattle.text.proofs.Writing.{start, more, whole, written-length}
 use Rattle.text.proofs.put_bits.Statement.{statement}
@@ -18,7 +19,7 @@ abbrev μ-loop : tie.MeasureT-loop
 loop-again : tie.Need-loop-again Inv-loop μ-loop
 loop-again c = let s = c .before .before .before in let so = now (s .before .before .args .soft) in let i = s .loop .i in
     let b : c .bit-of .result ≡ getD (bits-field so) i 0 =
-    c .bit-of .ensures ∙ ap bit-digit (toZ-ofZ (record { sfits = c .before .bit-of-arg .given })) ∙ sym (bits-at so i (c .before .before .loop-test .taken)) in
+    c .bit-of .ensures ∙ ap (λ (s : ℤ). bit-byte (decided s)) (toZ-ofZ (record { sfits = c .before .bit-of-arg .given })) ∙ sym (bits-at so i (c .before .before .loop-test .taken)) in
     let l : i < length (bits-field so) = omega arith in
     (s .loop .inv .0, omega arith, more i (bits-field so) (s .before .before .pre) l b (s .loop .inv .2))
 
