@@ -17,7 +17,7 @@ use Rattle.marker.specs.Calls.{mark-refusal}
 use Rattle.marker.specs.Within.{Verdict}
 use Rattle.sheet.specs.Sheet.{Question, reliabilities}
 use Rattle.sheet.proofs.Trips.{Good, good-parts}
-use Rattle.text.specs.Text.{question-line}
+use Rattle.text.specs.Text.{bits-field, least-magnitude, question-line}
 use Rattle.text.specs.Within.{Written}
 use Rattle.report.specs.Listing.{Line}
 use Rattle.report.specs.Calls.{line-most}
@@ -58,7 +58,7 @@ module _ {q : Question} {g : ℤ} {so : List ℤ} (x : Decoded-question q g so) 
         (rw (eq-eqb _ _ (f .row-length), eq-eqb _ _ (f .word-length), f .row-fine, f .word-fine), decoded-greatest _ _ _ (x .word) _ so (x .decoded))
 
     pub line : (k : Mark) {d : ℤ} → Verdict (a .shape .m) (a .shape .r) (q .row) (q .word) k → d ≡ k .shortfall →
-        Line q (question-line (q .number) (q .code) g (k .verdict) d so)
+        Line q (question-line (q .number) (q .code) g (k .verdict) d (bits-field so) (least-magnitude so))
     line k {d} v e =
         record {
           word = x .word;

@@ -17,7 +17,7 @@ use Rattle.metric.proofs.Costs.{codeword-bits, top-own, top-parts}
 use Rattle.sheet.specs.Sheet.{Question, reliabilities}
 use Rattle.sheet.proofs.Forms.{row-long-le}
 use Rattle.sheet.proofs.Trips.{Good}
-use Rattle.text.specs.Text.{signed, shortfall-field, least-magnitude}
+use Rattle.text.specs.Text.{signed, shortfall-field, bits-field, least-magnitude}
 use Rattle.text.proofs.Decimal.{digits-at-most}
 use Rattle.text.proofs.Fields.{bits-length}
 use Rattle.text.proofs.Lines.{question-length, signed-at-most, verdict-at-most, least-at-most}
@@ -115,7 +115,7 @@ module _ {q : Question} (f : Good reliabilities q) where
       rw (l .text-is)
       (omega (
         arith,
-        question-length (q .number) (q .code) g (l .verdict) (l .shortfall) so,
+        question-length (q .number) (q .code) g (l .verdict) (l .shortfall) (bits-field so) (least-magnitude so),
         digits-at-most 7 (q .number) (omega (arith, f .small)),
         digits-at-most 0 (q .code) (code-digit (q .code) (f .known)),
         signed-short 3 g (not-negative g (p .most)) (omega arith),

@@ -32,7 +32,7 @@ line-there q h =
     let x = codewords-for m r (q .row) (width-fine (q .code)) (roots-few (q .code)) (good-parts reliabilities q h .row-length) in
     let d = decoded-there m (is-codeword m r) (q .row) x in
     let k = marked-there m (is-codeword m r) (q .row) (q .word) x in (
-      question-line (q .number) (q .code) (d .1) (k .0) (k .1) (d .2),
+      _,
       record { word = d .0; best = d .1; soft = d .2; decoded = d .3; verdict = k .0; shortfall = k .1; marked = k .2; text-is = refl },
     )
 

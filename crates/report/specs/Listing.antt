@@ -8,7 +8,7 @@ use lib.IntN.{ℤ}
 use Rattle.code.specs.Code.{width, roots, is-codeword}
 use Rattle.metric.specs.Metric.{Decoded, Marked}
 use Rattle.sheet.specs.Sheet.{Question, sheet-refusal, questions}
-use Rattle.text.specs.Text.{header, question-line, count-line, refused-line}
+use Rattle.text.specs.Text.{bits-field, least-magnitude, header, question-line, count-line, refused-line}
 
 -- a question's line, from a decoding of its row and the mark of the word handed in
 pub record Line (q : Question) (text : List ℕ) : Type 0 where
@@ -19,7 +19,7 @@ pub record Line (q : Question) (text : List ℕ) : Type 0 where
   pub verdict : ℕ
   pub shortfall : ℤ
   pub marked : Marked verdict shortfall (width (q .code)) (is-codeword (width (q .code)) (roots (q .code))) (q .row) (q .word)
-  pub text-is : text ≡ question-line (q .number) (q .code) best verdict shortfall soft
+  pub text-is : text ≡ question-line (q .number) (q .code) best verdict shortfall (bits-field soft) (least-magnitude soft)
 
 -- one line a question
 unfoldable pub Lines : List Question → (text : List ℕ) → Type 0

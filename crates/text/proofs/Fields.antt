@@ -2,12 +2,12 @@
 -- Assumes nothing.
 use Rattle.basics.proofs.Kit.{_≡_, refl, sym, ap, _∙_, true, false, cond, List, [], _∷_, _++_, ℕ, zero, suc, _+_, _^_, _≤_, _<_, min, arith, length, getD, drop, ℤ, pos, negsuc, natAbs, _-ℤ_}
 use mathlib.Core.Bool.{false≢true}
-use mathlib.Core.List.{append-assoc}
+use mathlib.Core.List.{map, append-assoc}
 use native.Mathlib.Nat.{zero-add}
 use native.Mathlib.Numerals.{add-one}
 use borrow.Author.Tests.{ltb-true, le-ltb}
 use lib.Dec.{T}
-use lib.ListN.{drop-of-length-le}
+use lib.ListN.{length-map, drop-of-length-le}
 use lib.Seq.{drop-cons}
 use lib.Signed.{ltZ, nonNeg}
 use mir.Syntax.{w16, w32, w64}
@@ -20,14 +20,16 @@ use Rattle.text.specs.Within.{ended, mark-part}
 -- ---- bits
 pub bits-length : (so : List ℤ) → length (bits-field so) ≡ length so
 unfolding bits-field
-bits-length [] = refl
-bits-length (s ∷ so) = ap suc (bits-length so)
+bits-length so = length-map so _
+
+each-at : (f : ℤ → ℕ) (so : List ℤ) (i : ℕ) → i < length so → getD (map f so) i 0 ≡ f (getD so i (pos 0))
+each-at f [] i h = absurd (omega arith)
+each-at f (s ∷ so) zero h = refl
+each-at f (s ∷ so) (suc i) h = each-at f so i (omega arith)
 
 pub bits-at : (so : List ℤ) (i : ℕ) → i < length so → getD (bits-field so) i 0 ≡ bit-byte (decided (getD so i (pos 0)))
 unfolding bits-field
-bits-at [] i h = absurd (omega arith)
-bits-at (s ∷ so) zero h = refl
-bits-at (s ∷ so) (suc i) h = bits-at so i (omega arith)
+bits-at so i h = each-at _ so i h
 
 -- what is shown of a bit, by the tests of its soft output
 pub bit-one : (z : ℤ) → ltZ z (pos 0) ≡ true → 49 ≡ bit-byte (decided z)

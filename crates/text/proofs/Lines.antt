@@ -11,15 +11,15 @@ use Rattle.text.specs.Within.{ended, mark-part}
 use Rattle.text.proofs.Decimal.{digits-at-most}
 
 -- a question's line in the parts in which it is written; the machine's numbers are equal to those of the contract, not the same
-abbrev pub parts : (number code : ℕ) → (best : ℤ) → (verdict : ℕ) → (shortfall : ℤ) → (soft : List ℤ) → (least : ℕ) → List ℕ
-parts n c g v d so x =
-    ended (decimal n) space ++ (ended (decimal c) space ++ (ended (signed g) space ++ (mark-part v d ++ (bits-field so ++ ((space ∷ []) ++ ended (decimal x) feed)))))
+abbrev pub parts : (number code : ℕ) → (best : ℤ) → (verdict : ℕ) → (shortfall : ℤ) → (bits : List ℕ) → (least : ℕ) → List ℕ
+parts n c g v d bs x =
+    ended (decimal n) space ++ (ended (decimal c) space ++ (ended (signed g) space ++ (mark-part v d ++ (bs ++ ((space ∷ []) ++ ended (decimal x) feed)))))
 
 pub question-parts :
-    (n c v : ℕ) (so : List ℤ) {g g' d d' : ℤ} {x : ℕ} → g' ≡ g → d' ≡ d → x ≡ least-magnitude so →
-    question-line n c g v d so ≡ parts n c g' v d' so x
+    (n c v : ℕ) (bs : List ℕ) {g g' d d' : ℤ} {x y : ℕ} → g' ≡ g → d' ≡ d → y ≡ x →
+    question-line n c g v d bs x ≡ parts n c g' v d' bs y
 unfolding ended mark-part question-line line
-question-parts n c v so p q r = rw (p, q, r) (simp append-assoc)
+question-parts n c v bs p q r = rw (p, q, r) (simp append-assoc)
 
 -- ---- lengths
 pub ended-length : (f : List ℕ) (e : ℕ) → length (ended f e) ≡ length f + 1
@@ -27,12 +27,12 @@ unfolding ended
 ended-length f e = length-append f (e ∷ [])
 
 pub question-length :
-    (n c : ℕ) (g : ℤ) (v : ℕ) (d : ℤ) (so : List ℤ) →
-    length (question-line n c g v d so)
+    (n c : ℕ) (g : ℤ) (v : ℕ) (d : ℤ) (bs : List ℕ) (x : ℕ) →
+    length (question-line n c g v d bs x)
     ≡ length (decimal n) + suc (length (decimal c) + suc (length (signed g) + suc (length (verdict-field v)
-    + suc (length (shortfall-field v d) + suc (length (bits-field so) + suc (length (decimal (least-magnitude so)) + 1))))))
+    + suc (length (shortfall-field v d) + suc (length bs + suc (length (decimal x) + 1))))))
 unfolding question-line line
-question-length n c g v d so = simp length-append
+question-length n c g v d bs x = simp length-append
 
 pub count-length : (n : ℕ) → length (count-line n) ≡ length (decimal n) + 11
 unfolding count-line line question-word

@@ -1,7 +1,7 @@
 -- The statements of specs/Promise.antt: what metric says of decided bits, in the bytes of a line.
 -- Assumes nothing.
-use Rattle.basics.proofs.Kit.{_≡_, refl, ap, _∙_, List, [], _∷_, ℕ, zero, suc, _<_, arith, length, getD, ℤ, pos, negsuc}
-use mathlib.Core.List.{map}
+use Rattle.basics.proofs.Kit.{_≡_, refl, sym, ap, _∙_, List, [], _∷_, ℕ, zero, suc, _<_, arith, length, getD, ℤ, pos, negsuc}
+use mathlib.Core.List.{map, map-map}
 use mathlib.Core.Option.{none, some}
 use Rattle.code.specs.Code.{is-codeword}
 use Rattle.code.specs.Bits.{all-bits}
@@ -25,11 +25,6 @@ mark-at [] b e = absurd (omega arith)
 mark-at (s ∷ so) zero e = (omega arith, mark-undecided s e)
 mark-at (s ∷ so) (suc b) e = let p = mark-at so b e in (omega arith, p .1)
 
-digits : (bs : List ℕ) → map bit-byte (map some bs) ≡ map digit bs
-unfolding bit-byte
-digits [] = refl
-digits (b ∷ bs) = ap (λ (t : List ℕ). digit b ∷ t) (digits bs)
-
 pub shown-right : Shown-right
 unfolding Shown-right Codewords-for Undecided-none bits-field bit-byte
 shown-right m r rs ws best so w few l d =
@@ -39,5 +34,5 @@ shown-right m r rs ws best so w few l d =
         λ f. u .0 .0 (λ b h e. f b (bits-at so b (rw (d .count) h) ∙ ap bit-byte e)),
         λ p b e. let k = mark-at so b e in u .0 .1 p b (rw (d .count) at (k .0)) (k .1),
       );
-      spelt = λ vs p. ap (map bit-byte) (u .1 vs p) ∙ digits (all-bits m vs);
+      spelt = λ vs p. sym (map-map bit-byte decided so) ∙ ap (map bit-byte) (u .1 vs p) ∙ map-map bit-byte some (all-bits m vs);
     }

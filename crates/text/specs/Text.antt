@@ -83,15 +83,6 @@ unfoldable pub shortfall-field : (verdict : ℕ) → (shortfall : ℤ) → List 
 shortfall-field zero d = dash ∷ []
 shortfall-field (suc v) d = signed d
 
--- a bit: its digit, or a question mark where it is undecided
-unfoldable pub bit-byte : (decided : Option ℕ) → ℕ
-bit-byte none = question-mark
-bit-byte (some v) = digit v
-
--- the bits in bit order
-unfoldable pub bits-field : (soft : List ℤ) → List ℕ
-bits-field so = map bit-byte (map decided so)
-
 -- the least magnitude of a soft output: the least of a first one and of those that follow it
 unfoldable pub least-from : (first : ℕ) → (soft : List ℤ) → ℕ
 least-from d [] = d
@@ -101,14 +92,22 @@ unfoldable pub least-magnitude : (soft : List ℤ) → ℕ
 least-magnitude [] = 0
 least-magnitude (s ∷ so) = least-from (natAbs s) so
 
+-- a bit: its digit, or a question mark where it is undecided
+unfoldable pub bit-byte : (decided : Option ℕ) → ℕ
+bit-byte none = question-mark
+bit-byte (some v) = digit v
+
+-- the bits in bit order
+unfoldable pub bits-field : (soft : List ℤ) → List ℕ
+bits-field so = map (λ s. bit-byte (decided s)) so
+
 -- the header line
 unfoldable pub header : List ℕ
 header = line (question-word ∷ code-word ∷ best-word ∷ verdict-word ∷ short-word ∷ bits-word ∷ least-word ∷ [])
 
 -- question number, code, best metric, verdict, shortfall or a dash, bits, least magnitude of a soft output
-unfoldable pub question-line : (number code : ℕ) → (best : ℤ) → (verdict : ℕ) → (shortfall : ℤ) → (soft : List ℤ) → List ℕ
-question-line n c g v d so =
-    line (decimal n ∷ decimal c ∷ signed g ∷ verdict-field v ∷ shortfall-field v d ∷ bits-field so ∷ decimal (least-magnitude so) ∷ [])
+unfoldable pub question-line : (number code : ℕ) → (best : ℤ) → (verdict : ℕ) → (shortfall : ℤ) → (bits : List ℕ) → (least : ℕ) → List ℕ
+question-line n c g v d bs x = line (decimal n ∷ decimal c ∷ signed g ∷ verdict-field v ∷ shortfall-field v d ∷ bs ∷ decimal x ∷ [])
 
 -- the count and the word `questions`, for any count
 unfoldable pub count-line : (count : ℕ) → List ℕ

@@ -172,8 +172,8 @@ pub fn put_question(
     out: &mut [u8],
     at: usize,
 ) -> usize
-    requires { ⌜ at + length (question-line number code best verdict shortfall (now soft)) ≤ length (now out) ⌝ }
-    ensures { λ r. ⌜ Written at (question-line number code best verdict shortfall (now (soft .entry))) (now (out .entry)) (now (out .exit)) r ⌝ }
+    requires { ⌜ at + length (question-line number code best verdict shortfall (bits-field (now soft)) (least-magnitude (now soft))) ≤ length (now out) ⌝ }
+    ensures { λ r. ⌜ Written at (question-line number code best verdict shortfall (bits-field (now (soft .entry))) (least-magnitude (now (soft .entry)))) (now (out .entry)) (now (out .exit)) r ⌝ }
 {
     let a = put_number(number, SPACE, out, at);
     let b = put_number(code, SPACE, out, a);

@@ -5,7 +5,7 @@ use lib.ListN.{length-append}
 use mir.Syntax.{w32}
 use mir.Val.{toZ, ofZ}
 use mir.Facts.{toZ-ofZ}
-use Rattle.text.specs.Text.{decimal, least-magnitude, question-line}
+use Rattle.text.specs.Text.{decimal, bits-field, least-magnitude, question-line}
 use Rattle.text.proofs.Lines.{parts, question-parts, ended-length}
 use Rattle.text.proofs.Writing.{then}
 use Rattle.text.proofs.put_question.Statement.{statement}
@@ -13,8 +13,8 @@ use Rattle.text.proofs.put_question.Tie as tie
 
 by-parts :
     (s : tie.Start) {x : ℕ} → x ≡ least-magnitude (now (s .args .soft)) →
-    question-line (s .args .number) (s .args .code) (s .args .best) (s .args .verdict) (s .args .shortfall) (now (s .args .soft))
-    ≡ parts (s .args .number) (s .args .code) (toZ w32 (ofZ w32 (s .args .best))) (s .args .verdict) (toZ w32 (ofZ w32 (s .args .shortfall))) (now (s .args .soft)) x
+    question-line (s .args .number) (s .args .code) (s .args .best) (s .args .verdict) (s .args .shortfall) (bits-field (now (s .args .soft))) (least-magnitude (now (s .args .soft)))
+    ≡ parts (s .args .number) (s .args .code) (toZ w32 (ofZ w32 (s .args .best))) (s .args .verdict) (toZ w32 (ofZ w32 (s .args .shortfall))) (bits-field (now (s .args .soft))) x
 by-parts s = question-parts _ _ _ _ (toZ-ofZ (s .fits .best)) (toZ-ofZ (s .fits .shortfall))
 
 pub put-question-spec : {M : Type 1} → statement M
