@@ -6,4 +6,5 @@ pub mod Parts
 pub mod Roots
 pub mod Accepted
 pub mod Both
+pub mod Bits
 pub mod Promise

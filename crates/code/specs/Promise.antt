@@ -57,3 +57,9 @@ unfoldable pub Both-there : Type 0
 Both-there =
     (m r b : ℕ) → width-good m ≡ true → r < long m → b < row-long m →
     ((ws : List ℕ) × (is-codeword m r ws ≡ true) × (bit-at m b ws ≡ 0)) × ((ws : List ℕ) × (is-codeword m r ws ≡ true) × (bit-at m b ws ≡ 1))
+
+-- no two codewords differ in one bit alone
+unfoldable pub Bit-apart : Type 0
+Bit-apart =
+    (m r b : ℕ) (vs ws : List ℕ) → width-good m ≡ true → 1 ≤ r → is-codeword m r vs ≡ true → is-codeword m r ws ≡ true →
+    ((i : ℕ) → (i ≡ b → ⊥) → bit-at m i vs ≡ bit-at m i ws) → vs ≡ ws

@@ -1,46 +1,17 @@
 -- THE GREATER METRIC IS THE LESSER COST: the metric of a word with a bit for each entry is the row's weight less twice its cost,
 -- so greatest metrics, soft outputs and decodings come from least costs.
 -- Assumes nothing.
-use Rattle.basics.proofs.Kit.{_≡_, refl, sym, ap, ap₂, _∙_, Bool, true, List, [], _∷_, _++_, ℕ, zero, suc, _+_, _*_, _/_, _%_, _^_, _≤_, _<_, arith, length, getD, ℤ, pos, _-ℤ_}
-use mathlib.Core.List.{head-eq-of-cons-eq, tail-eq-of-cons-eq}
+use Rattle.basics.proofs.Kit.{_≡_, refl, sym, ap, _∙_, Bool, true, List, [], _∷_, ℕ, zero, suc, _+_, _*_, _≤_, _<_, arith, length, getD, ℤ, pos, _-ℤ_}
 use native.Mathlib.Nat.{suc-inj}
 use lib.Dec.{eqb·suc-zero}
-use lib.ListN.{length-append}
 use Rattle.order.specs.Order.{not-after}
 use Rattle.code.specs.Code.{is-codeword}
-use Rattle.code.specs.Bits.{bits-of, all-bits, row-long}
-use Rattle.code.proofs.Words.{Below, codeword-parts}
+use Rattle.code.specs.Bits.{all-bits, row-long}
+use Rattle.code.proofs.Bits.{length-all-bits}
+use Rattle.code.proofs.Words.{codeword-parts}
 use Rattle.metric.specs.Metric.{metric-of, metric, at-most, Greatest, Greatest-with, Soft, Decoded}
 use Rattle.metric.specs.Cost.{costZero, costOne, discrepancy, weight-of, cost, top, Least, Least-with}
 use Rattle.metric.proofs.Integers.{plus, minus, same, le-at-most}
-
-length-bits : (m c : ℕ) → length (bits-of m c) ≡ m
-unfolding bits-of
-length-bits zero c = refl
-length-bits (suc m) c = ap suc (length-bits m _)
-
-pub length-all-bits : (m : ℕ) (ws : List ℕ) → length (all-bits m ws) ≡ length ws * m
-unfolding all-bits
-length-all-bits m [] = omega arith
-length-all-bits m (c ∷ cs) = omega (arith, length-append (bits-of m c) (all-bits m cs), length-bits m c, length-all-bits m cs)
-
--- the bits of a word say its symbols
-symbol-one : (m c d : ℕ) (xs ys : List ℕ) → c < 2 ^ m → d < 2 ^ m → bits-of m c ++ xs ≡ bits-of m d ++ ys → (c ≡ d) × (xs ≡ ys)
-unfolding bits-of
-symbol-one zero c d xs ys h k e = (omega arith, e)
-symbol-one (suc m) c d xs ys h k e =
-    let low : c % 2 ≡ d % 2 = head-eq-of-cons-eq e in
-    let rest : (c / 2 ≡ d / 2) × (xs ≡ ys) = symbol-one m (c / 2) (d / 2) xs ys (omega arith) (omega arith) (tail-eq-of-cons-eq e) in
-    (omega arith, rest .1)
-
-pub word-one : (m : ℕ) (vs ws : List ℕ) → length vs ≡ length ws → Below (2 ^ m) vs → Below (2 ^ m) ws → all-bits m vs ≡ all-bits m ws → vs ≡ ws
-unfolding all-bits
-word-one m [] [] l f g e = refl
-word-one m [] (d ∷ ds) l f g e = absurd (omega arith)
-word-one m (c ∷ cs) [] l f g e = absurd (omega arith)
-word-one m (c ∷ cs) (d ∷ ds) l f g e =
-    let p : (c ≡ d) × (all-bits m cs ≡ all-bits m ds) = symbol-one m c d (all-bits m cs) (all-bits m ds) (f .0) (g .0) e in
-    ap₂ _∷_ (p .0) (word-one m cs ds (suc-inj l) (f .1) (g .1) (p .1))
 
 -- a codeword has a bit for each entry of a row
 pub codeword-bits : (m r : ℕ) (rs : List ℤ) → length rs ≡ row-long m → (ws : List ℕ) → is-codeword m r ws ≡ true → length (all-bits m ws) ≡ length rs

@@ -7,22 +7,25 @@ use mathlib.Core.List.{map}
 use mathlib.Core.Option.{Option, none, some, Option·some-injective, Option·none-ne-some}
 use native.Mathlib.Nat.{eq-or-lt-of-le}
 use lib.Dec.{lit<}
+use lib.ListN.{List·getD-eq-default}
 use lib.Seq.{ext-getD}
 use Rattle.order.specs.Promise.{Order-antisymmetric}
 use Rattle.order.proofs.Promise.{order-antisymmetric}
 use Rattle.field.proofs.Tests.{to-T, widths}
 use Rattle.code.specs.Code.{long, is-codeword}
 use Rattle.code.specs.Bits.{bits-of, all-bits, bit-at, row-long}
-use Rattle.code.specs.Promise.{Both-there}
+use Rattle.code.specs.Promise.{Both-there, Bit-apart}
+use Rattle.code.proofs.Accepted.{le-or-lt}
 use Rattle.code.proofs.Words.{below, good, codeword-parts}
+use Rattle.code.proofs.Bits.{length-all-bits, word-one, bit-apart}
 use Rattle.code.proofs.Both.{both-there}
 use Rattle.metric.specs.Metric.{metric, at-most, Greatest, Soft, Decoded, Marked, decided}
 use Rattle.metric.specs.Cost.{costZero, costOne, cost, top, Least}
 use Rattle.metric.specs.Right.{Soft-right, Marked-right}
-use Rattle.metric.specs.Promise.{Words-for, Codewords-for, Greatest-there, Greatest-with-there, Decoded-there, Marked-there, Greatest-one, Greatest-with-one, Soft-width, Best-of-two, Decided-right, One-best, Undecided-none, Decoded-one, Marked-one, Soft-enough, Decoded-enough, Marked-enough}
+use Rattle.metric.specs.Promise.{Words-for, Codewords-for, Greatest-there, Greatest-with-there, Decoded-there, Marked-there, Greatest-one, Greatest-with-one, Soft-width, Best-of-two, Decided-right, One-best, Undecided-none, Undecided-not-alone, Decoded-one, Marked-one, Soft-enough, Decoded-enough, Marked-enough}
 use Rattle.metric.proofs.Integers.{minus, same, size, minus-size, le-at-most, at-most-true, at-most-false, at-most-refl, at-most-antisym}
 use Rattle.metric.proofs.Bounds.{word-size}
-use Rattle.metric.proofs.Costs.{length-all-bits, word-one, greatest, greatest-with, decoded-with}
+use Rattle.metric.proofs.Costs.{codeword-bits, greatest, greatest-with, decoded-with}
 use Rattle.metric.proofs.Marks.{marked-none, marked-short, marked-best}
 use Rattle.metric.proofs.Finite.{least-there, least-with-there, first-there}
 
@@ -110,8 +113,7 @@ best-of-two m among rs b e g h t p q = go (at-most h g) refl (bit-at m b ws) ref
     go false k (suc zero) y z = same e h (omega (arith, h-most, at-most-true e h (rw (t .met .2) at (q .all ws (t .met .1) y))))
     go x k (suc (suc v)) y z = absurd (omega arith)
 
--- A DECIDED BIT: a best word with 0 there has no less than the greatest with 1, and one with 1 no less than the greatest with 0; where they are the same, both
--- are of best words
+-- A DECIDED BIT: a best word with 0 there has no less than the greatest with 1, and one with 1 no less than the greatest with 0
 module _ (m : ℕ) (among : List ℕ → Bool) (rs : List ℤ) (b : ℕ) (g s : ℤ) (t : Greatest m among rs g) (z : Soft m among rs b s) where
   Best-have : (v : ℕ) → Type 0
   Best-have v = (ws : List ℕ) → among ws ≡ true → metric m rs ws ≡ g → bit-at m b ws ≡ v
@@ -144,16 +146,17 @@ module _ (m : ℕ) (among : List ℕ → Bool) (rs : List ℤ) (b : ℕ) (g s : 
       go (suc zero) y h (pos (suc n)) e f = absurd (omega (arith, balance (pos (suc n)) e, zero-most, one-least ws c k y))
       go (suc (suc w)) y h x e f = absurd (omega arith)
 
-  -- an undecided bit: a best word with 0 there, and one with 1
+  -- where the two are the same, both are the best metric
   both-best : s ≡ pos 0 → (z .of-zero ≡ g) × (z .of-one ≡ g)
-  both-best e = go (bit-at m b (t .met .0)) refl (bit-small m b (t .met .0))
+  unfolding Best-of-two
+  both-best e =
+      let p : z .of-zero ≡ z .of-one = same (z .of-zero) (z .of-one) (omega (arith, balance (pos 0) e)) in
+      let q : g ≡ z .of-one = best-of-two m among rs b g (z .of-zero) (z .of-one) t (z .greatest-zero) (z .greatest-one) ∙ either (at-most (z .of-one) (z .of-zero)) p in
+      (p ∙ sym q, sym q)
     where
-      go : (w : ℕ) → bit-at m b (t .met .0) ≡ w → w < 2 → (z .of-zero ≡ g) × (z .of-one ≡ g)
-      go zero y h = let l = zero-least (t .met .0) (t .met .1) (t .met .2) y in
-          (same (z .of-zero) g (omega (arith, zero-most, l)), same (z .of-one) g (omega (arith, zero-most, l, balance (pos 0) e)))
-      go (suc zero) y h = let l = one-least (t .met .0) (t .met .1) (t .met .2) y in
-          (same (z .of-zero) g (omega (arith, one-most, l, balance (pos 0) e)), same (z .of-one) g (omega (arith, one-most, l)))
-      go (suc (suc w)) y h = absurd (omega arith)
+      either : (x : Bool) → z .of-zero ≡ z .of-one → cond x (z .of-zero) (z .of-one) ≡ z .of-one
+      either true p = p
+      either false p = refl
 
   some-decided : (v : ℕ) → Best-have v → decided s ≡ some v
   unfolding Best-have decided
@@ -297,6 +300,36 @@ decided-as [] (b ∷ bs) l f = absurd (omega arith)
 decided-as (s ∷ so) [] l f = absurd (omega arith)
 decided-as (s ∷ so) (b ∷ bs) l f = ap₂ _∷_ (f 0 (omega arith)) (decided-as so bs (omega arith) (λ i h. f (suc i) (omega arith)))
 
+module _ (m : ℕ) (among : List ℕ → Bool) (rs : List ℤ) (ws : List ℕ) (best : ℤ) (so : List ℤ) (d : Decoded m among rs ws best so) where
+  abbrev Best : (vs : List ℕ) → Type 0
+  Best vs = (among vs ≡ true) × (metric m rs vs ≡ best)
+
+  -- two best words have the same bit where one is decided
+  agreed : (b : ℕ) → b < length rs → (decided (getD so b (pos 0)) ≡ none → ⊥) → (us vs : List ℕ) → Best us → Best vs → bit-at m b us ≡ bit-at m b vs
+  unfolding Decided-right
+  agreed b h f us vs p q = go (decided (getD so b (pos 0))) refl
+    where
+      go : (o : Option ℕ) → decided (getD so b (pos 0)) ≡ o → bit-at m b us ≡ bit-at m b vs
+      go none y = absurd (f y)
+      go (some v) y =
+          let r = decided-right m among rs b v best (getD so b (pos 0)) (decoded-greatest m among rs ws best so d) (d .softly b h) .0 y in
+          r us (p .0) (p .1) ∙ sym (r vs (q .0) (q .1))
+
+  undecided : (s : ℤ) → decided s ≡ none → s ≡ pos 0
+  unfolding decided
+  undecided (pos zero) e = refl
+  undecided (pos (suc n)) e = absurd (Option·none-ne-some 0 (sym e))
+  undecided (negsuc n) e = absurd (Option·none-ne-some 1 (sym e))
+
+  -- an undecided bit is 0 in some best word, and 1 in another
+  both-ways : (b : ℕ) (h : b < length rs) → decided (getD so b (pos 0)) ≡ none → ((us : List ℕ) × Best us × (bit-at m b us ≡ 0)) × ((vs : List ℕ) × Best vs × (bit-at m b vs ≡ 1))
+  both-ways b h n =
+      let z = d .softly b h in
+      let p = both-best m among rs b best (getD so b (pos 0)) (decoded-greatest m among rs ws best so d) z (undecided (getD so b (pos 0)) n) in
+      let y = z .greatest-zero .met in
+      let w = z .greatest-one .met in
+      ((y .0, (y .1, y .3 ∙ p .0), y .2), (w .0, (w .1, w .3 ∙ p .1), w .2))
+
 pub undecided-none : Undecided-none
 unfolding Undecided-none Decided-right Greatest-one bit-at
 undecided-none m among rs ws best so x d = ((λ f. (ws, only f), λ p b h e. absurd (Option·none-ne-some _ (sym e ∙ spelt (p .0) (p .1) b h))), spelling)
@@ -304,18 +337,13 @@ undecided-none m among rs ws best so x d = ((λ f. (ws, only f), λ p b h e. abs
     t : Greatest m among rs best
     t = decoded-greatest m among rs ws best so d
 
-    -- the decision on a bit, where there is one, is what two best words have there
-    agreed : (b : ℕ) → b < length rs → (vs : List ℕ) → among vs ≡ true → metric m rs vs ≡ best → (o : Option ℕ) → decided (getD so b (pos 0)) ≡ o → (o ≡ none → ⊥) → bit-at m b vs ≡ bit-at m b ws
-    agreed b h vs c e none y f = absurd (f refl)
-    agreed b h vs c e (some v) y f =
-        let r = decided-right m among rs b v best (getD so b (pos 0)) t (d .softly b h) .0 y in r vs c e ∙ sym (r ws (d .word) (sym (d .own)))
-
     only : ((b : ℕ) → b < length rs → decided (getD so b (pos 0)) ≡ none → ⊥) → One-best m among rs ws
     only f = record {
       best = rw (← (d .own)) t;
       only = λ vs c e. word-one m vs ws (x .words vs c .0 ∙ sym (x .words ws (d .word) .0)) (below m vs (to-T (x .words vs c .1))) (below m ws (to-T (x .words ws (d .word) .1)))
           (ext-getD 0 (all-bits m vs) (all-bits m ws) (filled m among rs x vs c ∙ sym (filled m among rs x ws (d .word)))
-          (λ b h. agreed b (rw (filled m among rs x vs c) at h) vs c (e ∙ sym (d .own)) _ refl (f b (rw (filled m among rs x vs c) at h))));
+          (λ b h. let k : b < length rs = rw (filled m among rs x vs c) at h in
+          agreed m among rs ws best so d b k (f b k) vs ws (c, e ∙ sym (d .own)) (d .word, sym (d .own))));
     }
 
     spelt : (vs : List ℕ) → One-best m among rs vs → (b : ℕ) → b < length rs → decided (getD so b (pos 0)) ≡ some (bit-at m b vs)
@@ -328,3 +356,21 @@ undecided-none m among rs ws best so x d = ((λ f. (ws, only f), λ p b h e. abs
         let w = p .best .met in
         let l : length (all-bits m vs) ≡ length rs = filled m among rs x vs (rw (p .only (w .0) (w .1) (w .2)) at (w .1)) in
         decided-as so (all-bits m vs) (d .count ∙ sym l) (λ b h. spelt vs p b (rw (d .count) at h))
+
+-- NONE ALONE: two best words that differ there, and nowhere else, would be codewords that differ in one bit
+pub undecided-not-alone : Undecided-not-alone
+unfolding Undecided-not-alone Bit-apart bit-at
+undecided-not-alone m r b rs ws best so w few l d h f n =
+    let y = both-ways m (is-codeword m r) rs ws best so d b h n in
+    let us = y .0 .0 in
+    let vs = y .1 .0 in
+    absurd (omega (arith, sym (y .0 .2) ∙ ap (bit-at m b) (bit-apart m r b us vs w few (y .0 .1 .0) (y .1 .1 .0) (λ i k. same-at us vs (y .0 .1) (y .1 .1) i k (le-or-lt (length rs) i))) ∙ y .1 .2))
+  where
+    none-behind : (vs : List ℕ) → is-codeword m r vs ≡ true → (i : ℕ) → length rs ≤ i → getD (all-bits m vs) i 0 ≡ 0
+    none-behind vs c i k = List·getD-eq-default (all-bits m vs) 0 (omega (arith, codeword-bits m r rs l vs c))
+
+    same-at :
+        (us vs : List ℕ) → (is-codeword m r us ≡ true) × (metric m rs us ≡ best) → (is-codeword m r vs ≡ true) × (metric m rs vs ≡ best) →
+        (i : ℕ) → (i ≡ b → ⊥) → (length rs ≤ i) ⊎ (i < length rs) → getD (all-bits m us) i 0 ≡ getD (all-bits m vs) i 0
+    same-at us vs p q i k (inl o) = none-behind us (p .0) i o ∙ sym (none-behind vs (q .0) i o)
+    same-at us vs p q i k (inr o) = agreed m (is-codeword m r) rs ws best so d i o (f i o k) us vs p q
