@@ -18,7 +18,7 @@ static unsigned compared;
 
 static const char listing[] =
     "question code best verdict short bits least\n"
-    "7 1 210 short 100 000000000000000000000 60\n"
+    "7 1 180 short 84 ?00?00000?00000000000 0\n"
     "16777215 3 600 best 0 000000000000000000000000000000000000000000000000000000000000 60\n"
     "8 4 600 short 200 000000000000000000000000000000000000000000000000000000000000 100\n"
     "9 5 600 none - 000000000000000000000000000000000000000000000000000000000000 140\n"
@@ -248,6 +248,9 @@ int main(void) {
     int16_t rows[ROWS];
     for (int i = 0; i < ROWS; i++)
         rows[i] = 10;
+    /* the zero word and 1 1 0 1 0 0 0 are best */
+    rows[0] = 2;
+    rows[3] = rows[9] = -1;
     SAME(tugzeck_write_sheet(codes, 4, numbers, 4, rows, ROWS, words, WORDS, sheet, BYTES), 0);
     SAME(sheet[0] | sheet[1] << 8 | sheet[2] << 16 | sheet[3] << 24, 0x11000007);
     SAME(sheet[BYTES - 1], 0xF0);

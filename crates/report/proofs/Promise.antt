@@ -14,7 +14,7 @@ use Rattle.sheet.specs.Promise.{Read-written}
 use Rattle.sheet.proofs.Items.{both, le-or-lt}
 use Rattle.sheet.proofs.Trips.{good-parts, read-written}
 use Rattle.sheet_reader.proofs.Places.{judged-large}
-use Rattle.text.specs.Text.{header, question-line, count-line, refused-line, decimal-from, decimal, line, question-word, code-word, best-word, verdict-word, short-word, bits-word, least-word}
+use Rattle.text.specs.Text.{header, count-line, refused-line, decimal-from, decimal, line, question-word, code-word, best-word, verdict-word, short-word, bits-word, least-word}
 use Rattle.text.specs.Promise.{Shown-right}
 use Rattle.text.proofs.Promise.{shown-right}
 use Rattle.text.proofs.Decimal.{digits-at-most}

@@ -6,7 +6,7 @@ use lib.Dec.{lit≤}
 use lib.ListN.{length-append}
 use Rattle.metric.specs.Cost.{costZero, costOne}
 use Rattle.metric.specs.Metric.{is-neg}
-use Rattle.text.specs.Text.{feed, space, decimal, sign, signed, line, none-word, short-word, best-word, question-word, refused-word, verdict-field, shortfall-field, bits-field, least-from, least-magnitude, question-line, count-line, refused-line}
+use Rattle.text.specs.Text.{feed, space, decimal, sign, signed, line, none-word, short-word, best-word, question-word, refused-word, verdict-field, shortfall-field, least-from, least-magnitude, question-line, count-line, refused-line}
 use Rattle.text.specs.Within.{ended, mark-part}
 use Rattle.text.proofs.Decimal.{digits-at-most}
 

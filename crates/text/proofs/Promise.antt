@@ -8,8 +8,8 @@ use Rattle.code.specs.Bits.{all-bits}
 use Rattle.metric.specs.Metric.{decided}
 use Rattle.metric.specs.Promise.{Codewords-for, Undecided-none}
 use Rattle.metric.proofs.Promise.{codewords-for, undecided-none}
-use Rattle.text.specs.Text.{question-mark, digit, bit-byte, bits-field}
-use Rattle.text.specs.Promise.{Shown, Shown-right}
+use Rattle.text.specs.Text.{question-mark, bit-byte, bits-field}
+use Rattle.text.specs.Promise.{Shown-right}
 use Rattle.text.proofs.Fields.{bits-at}
 
 -- a question mark is that of an undecided bit

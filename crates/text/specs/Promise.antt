@@ -1,4 +1,4 @@
--- What is promised of the bits that a line shows (document 02, request 6). A statement is a type; proofs/Promise.antt names the proof of each.
+-- What is promised of the bits that a line shows (document 02, CR 6). A statement is a type; proofs/Promise.antt names the proof of each.
 -- Assumes nothing.
 use mathlib.Core.Path.{_≡_}
 use mathlib.Core.Bool.{Bool, true}
