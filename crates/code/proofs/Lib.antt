@@ -7,4 +7,5 @@ pub mod Roots
 pub mod Accepted
 pub mod Both
 pub mod Bits
+pub mod Distance
 pub mod Promise

@@ -47,7 +47,7 @@ module _ (m : ℕ) (w : width-good m ≡ true) where
   pub horner-inside : (x : ℕ) (ws : List ℕ) (i v : ℕ) → x < 2 ^ m → symbols-good m ws ≡ true → v ≡ horner m x (drop i ws) → v < 2 ^ m
   horner-inside x ws i v hx g e = rw e (horner-lt x (drop i ws) hx (drop-below (2 ^ m) i ws (below m ws (to-T g))))
 
-  value-from-horner : (t i : ℕ) (ws : List ℕ) → Below (2 ^ m) ws → value-from m t i ws ≡ times m (alpha m (i * t)) (horner m (alpha m t) ws)
+  pub value-from-horner : (t i : ℕ) (ws : List ℕ) → Below (2 ^ m) ws → value-from m t i ws ≡ times m (alpha m (i * t)) (horner m (alpha m t) ws)
   unfolding value-from horner
   value-from-horner t i [] b = sym (F.times-zero-r m w (alpha m (i * t)) (F.alpha-lt m w (i * t)))
   value-from-horner t i (c ∷ cs) b =

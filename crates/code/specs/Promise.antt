@@ -1,8 +1,8 @@
 -- What is promised of the codes, over (m, r). A statement is a type; proofs/Promise.antt names the proof of each. Assumes nothing.
 use mathlib.Core.Path.{_≡_}
-use mathlib.Core.Bool.{true, _&&_, _||_}
-use mathlib.Core.List.{List}
-use Prim.Native.Nat.{ℕ, _≤_, _<_}
+use mathlib.Core.Bool.{true, _&&_, _||_, cond}
+use mathlib.Core.List.{List, [], _∷_}
+use Prim.Native.Nat.{ℕ, _+_, _≤_, _<_}
 use lib.Dec.{eqb, leb}
 use lib.ListN.{length}
 use Rattle.field.specs.Field.{width-good}
@@ -58,8 +58,13 @@ Both-there =
     (m r b : ℕ) → width-good m ≡ true → r < long m → b < row-long m →
     ((ws : List ℕ) × (is-codeword m r ws ≡ true) × (bit-at m b ws ≡ 0)) × ((ws : List ℕ) × (is-codeword m r ws ≡ true) × (bit-at m b ws ≡ 1))
 
--- no two codewords differ in one bit alone
-unfoldable pub Bit-apart : Type 0
-Bit-apart =
-    (m r b : ℕ) (vs ws : List ℕ) → width-good m ≡ true → 1 ≤ r → is-codeword m r vs ≡ true → is-codeword m r ws ≡ true →
-    ((i : ℕ) → (i ≡ b → ⊥) → bit-at m i vs ≡ bit-at m i ws) → vs ≡ ws
+-- in how many places two words, or two lists of bits, differ
+unfoldable pub differ : (vs ws : List ℕ) → ℕ
+differ [] ws = 0
+differ (c ∷ cs) [] = 0
+differ (c ∷ cs) (d ∷ ds) = cond (eqb c d) 0 1 + differ cs ds
+
+-- two codewords differ in more symbols than there are roots
+unfoldable pub Distance : Type 0
+Distance =
+    (m r : ℕ) (vs ws : List ℕ) → width-good m ≡ true → is-codeword m r vs ≡ true → is-codeword m r ws ≡ true → differ vs ws ≤ r → vs ≡ ws

@@ -7,25 +7,23 @@ use mathlib.Core.List.{map}
 use mathlib.Core.Option.{Option, none, some, Option·some-injective, Option·none-ne-some}
 use native.Mathlib.Nat.{eq-or-lt-of-le}
 use lib.Dec.{lit<}
-use lib.ListN.{List·getD-eq-default}
 use lib.Seq.{ext-getD}
 use Rattle.order.specs.Promise.{Order-antisymmetric}
 use Rattle.order.proofs.Promise.{order-antisymmetric}
 use Rattle.field.proofs.Tests.{to-T, widths}
 use Rattle.code.specs.Code.{long, is-codeword}
 use Rattle.code.specs.Bits.{bits-of, all-bits, bit-at, row-long}
-use Rattle.code.specs.Promise.{Both-there, Bit-apart}
-use Rattle.code.proofs.Accepted.{le-or-lt}
+use Rattle.code.specs.Promise.{Both-there}
 use Rattle.code.proofs.Words.{below, good, codeword-parts}
-use Rattle.code.proofs.Bits.{length-all-bits, word-one, bit-apart}
+use Rattle.code.proofs.Bits.{length-all-bits, word-one}
 use Rattle.code.proofs.Both.{both-there}
 use Rattle.metric.specs.Metric.{metric, at-most, Greatest, Soft, Decoded, Marked, decided}
 use Rattle.metric.specs.Cost.{costZero, costOne, cost, top, Least}
 use Rattle.metric.specs.Right.{Soft-right, Marked-right}
-use Rattle.metric.specs.Promise.{Words-for, Codewords-for, Greatest-there, Greatest-with-there, Decoded-there, Marked-there, Greatest-one, Greatest-with-one, Soft-width, Best-of-two, Decided-right, One-best, Undecided-none, Undecided-not-alone, Decoded-one, Marked-one, Soft-enough, Decoded-enough, Marked-enough}
+use Rattle.metric.specs.Promise.{Words-for, Codewords-for, Greatest-there, Greatest-with-there, Decoded-there, Marked-there, Greatest-one, Greatest-with-one, Soft-width, Best-of-two, Decided-right, One-best, Undecided-none, Decoded-one, Marked-one, Soft-enough, Decoded-enough, Marked-enough}
 use Rattle.metric.proofs.Integers.{minus, same, size, minus-size, le-at-most, at-most-true, at-most-false, at-most-refl, at-most-antisym}
 use Rattle.metric.proofs.Bounds.{word-size}
-use Rattle.metric.proofs.Costs.{codeword-bits, greatest, greatest-with, decoded-with}
+use Rattle.metric.proofs.Costs.{greatest, greatest-with, decoded-with}
 use Rattle.metric.proofs.Marks.{marked-none, marked-short, marked-best}
 use Rattle.metric.proofs.Finite.{least-there, least-with-there, first-there}
 
@@ -301,11 +299,11 @@ decided-as (s ∷ so) [] l f = absurd (omega arith)
 decided-as (s ∷ so) (b ∷ bs) l f = ap₂ _∷_ (f 0 (omega arith)) (decided-as so bs (omega arith) (λ i h. f (suc i) (omega arith)))
 
 module _ (m : ℕ) (among : List ℕ → Bool) (rs : List ℤ) (ws : List ℕ) (best : ℤ) (so : List ℤ) (d : Decoded m among rs ws best so) where
-  abbrev Best : (vs : List ℕ) → Type 0
+  abbrev pub Best : (vs : List ℕ) → Type 0
   Best vs = (among vs ≡ true) × (metric m rs vs ≡ best)
 
   -- two best words have the same bit where one is decided
-  agreed : (b : ℕ) → b < length rs → (decided (getD so b (pos 0)) ≡ none → ⊥) → (us vs : List ℕ) → Best us → Best vs → bit-at m b us ≡ bit-at m b vs
+  pub agreed : (b : ℕ) → b < length rs → (decided (getD so b (pos 0)) ≡ none → ⊥) → (us vs : List ℕ) → Best us → Best vs → bit-at m b us ≡ bit-at m b vs
   unfolding Decided-right
   agreed b h f us vs p q = go (decided (getD so b (pos 0))) refl
     where
@@ -322,7 +320,7 @@ module _ (m : ℕ) (among : List ℕ → Bool) (rs : List ℤ) (ws : List ℕ) (
   undecided (negsuc n) e = absurd (Option·none-ne-some 1 (sym e))
 
   -- an undecided bit is 0 in some best word, and 1 in another
-  both-ways : (b : ℕ) (h : b < length rs) → decided (getD so b (pos 0)) ≡ none → ((us : List ℕ) × Best us × (bit-at m b us ≡ 0)) × ((vs : List ℕ) × Best vs × (bit-at m b vs ≡ 1))
+  pub both-ways : (b : ℕ) (h : b < length rs) → decided (getD so b (pos 0)) ≡ none → ((us : List ℕ) × Best us × (bit-at m b us ≡ 0)) × ((vs : List ℕ) × Best vs × (bit-at m b vs ≡ 1))
   both-ways b h n =
       let z = d .softly b h in
       let p = both-best m among rs b best (getD so b (pos 0)) (decoded-greatest m among rs ws best so d) z (undecided (getD so b (pos 0)) n) in
@@ -356,21 +354,3 @@ undecided-none m among rs ws best so x d = ((λ f. (ws, only f), λ p b h e. abs
         let w = p .best .met in
         let l : length (all-bits m vs) ≡ length rs = filled m among rs x vs (rw (p .only (w .0) (w .1) (w .2)) at (w .1)) in
         decided-as so (all-bits m vs) (d .count ∙ sym l) (λ b h. spelt vs p b (rw (d .count) at h))
-
--- NONE ALONE: two best words that differ there, and nowhere else, would be codewords that differ in one bit
-pub undecided-not-alone : Undecided-not-alone
-unfolding Undecided-not-alone Bit-apart bit-at
-undecided-not-alone m r b rs ws best so w few l d h f n =
-    let y = both-ways m (is-codeword m r) rs ws best so d b h n in
-    let us = y .0 .0 in
-    let vs = y .1 .0 in
-    absurd (omega (arith, sym (y .0 .2) ∙ ap (bit-at m b) (bit-apart m r b us vs w few (y .0 .1 .0) (y .1 .1 .0) (λ i k. same-at us vs (y .0 .1) (y .1 .1) i k (le-or-lt (length rs) i))) ∙ y .1 .2))
-  where
-    none-behind : (vs : List ℕ) → is-codeword m r vs ≡ true → (i : ℕ) → length rs ≤ i → getD (all-bits m vs) i 0 ≡ 0
-    none-behind vs c i k = List·getD-eq-default (all-bits m vs) 0 (omega (arith, codeword-bits m r rs l vs c))
-
-    same-at :
-        (us vs : List ℕ) → (is-codeword m r us ≡ true) × (metric m rs us ≡ best) → (is-codeword m r vs ≡ true) × (metric m rs vs ≡ best) →
-        (i : ℕ) → (i ≡ b → ⊥) → (length rs ≤ i) ⊎ (i < length rs) → getD (all-bits m us) i 0 ≡ getD (all-bits m vs) i 0
-    same-at us vs p q i k (inl o) = none-behind us (p .0) i o ∙ sym (none-behind vs (q .0) i o)
-    same-at us vs p q i k (inr o) = agreed m (is-codeword m r) rs ws best so d i o (f i o k) us vs p q

@@ -73,13 +73,6 @@ Undecided-none =
     (((b : ℕ) → b < length rs → decided (getD so b (pos 0)) ≡ none → ⊥) ↔ ((vs : List ℕ) × One-best m among rs vs))
     × ((vs : List ℕ) → One-best m among rs vs → map decided so ≡ map some (all-bits m vs))
 
--- no bit of a row is undecided alone: where all others are decided, so is it
-unfoldable pub Undecided-not-alone : Type 0
-Undecided-not-alone =
-    (m r b : ℕ) (rs : List ℤ) (ws : List ℕ) (best : ℤ) (so : List ℤ) → width-good m ≡ true → 1 ≤ r → length rs ≡ row-long m →
-    Decoded m (is-codeword m r) rs ws best so → b < length rs →
-    ((i : ℕ) → i < length rs → (i ≡ b → ⊥) → decided (getD so i (pos 0)) ≡ none → ⊥) → decided (getD so b (pos 0)) ≡ none → ⊥
-
 -- a row has a decoding, and only one
 unfoldable pub Decoded-there : Type 0
 Decoded-there =
