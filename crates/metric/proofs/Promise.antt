@@ -4,7 +4,7 @@ use Rattle.basics.proofs.Kit.{_≡_, refl, sym, ap, ap₂, _∙_, Bool, true, f
 use mathlib.Core.Logic.{_⊎_, inl, inr}
 use mathlib.Core.Bool.{false≢true}
 use mathlib.Core.List.{map}
-use mathlib.Core.Option.{Option, none, some, Option·some-injective, Option·none-ne-some}
+use mathlib.Core.Option.{Option, none, some, Option·getD, Option·none-ne-some}
 use native.Mathlib.Nat.{eq-or-lt-of-le}
 use lib.Dec.{lit<}
 use lib.Seq.{ext-getD}
@@ -137,10 +137,10 @@ module _ (m : ℕ) (among : List ℕ → Bool) (rs : List ℤ) (b : ℕ) (g s : 
     where
       go : (w : ℕ) → bit-at m b ws ≡ w → w < 2 → (x : ℤ) → s ≡ x → decided x ≡ some v → w ≡ v
       go zero y h (negsuc n) e f = absurd (omega (arith, balance (negsuc n) e, one-most, zero-least ws c k y))
-      go zero y h (pos zero) e f = absurd (Option·none-ne-some v f)
-      go zero y h (pos (suc n)) e f = Option·some-injective 0 v f
-      go (suc zero) y h (negsuc n) e f = Option·some-injective 1 v f
-      go (suc zero) y h (pos zero) e f = absurd (Option·none-ne-some v f)
+      go zero y h (pos zero) e f = ap (λ o. Option·getD o 0) f
+      go zero y h (pos (suc n)) e f = ap (λ o. Option·getD o 0) f
+      go (suc zero) y h (negsuc n) e f = ap (λ o. Option·getD o 1) f
+      go (suc zero) y h (pos zero) e f = ap (λ o. Option·getD o 1) f
       go (suc zero) y h (pos (suc n)) e f = absurd (omega (arith, balance (pos (suc n)) e, zero-most, one-least ws c k y))
       go (suc (suc w)) y h x e f = absurd (omega arith)
 
