@@ -7,7 +7,8 @@
 Everything is computed here from documents 01 and 02 alone: field products bit by bit, and every code by the layers of its words,
 over the valid configurations. That is held to the codewords one after another of codes 1 and 2, to a trellis over the values that a
 word can have at its roots (the Wolf trellis) for codes 1 to 3 on every row and for code 4 on two, and in every code to the number of best
-words: no soft output is 0 where that is 1, and only there, and their signs then spell the word. A refusal stands beside its sheet, and the reader below must find it too.
+words: no soft output is 0 where that is 1, and only there, and their signs then spell the word. A refusal stands beside its sheet, and the
+reader below must find it too.
 It needs Python alone and takes some 30 seconds.
 """
 import array
@@ -250,7 +251,7 @@ def by_layers(code, row):
 
 def best_words(code, row):
     """How many words have the best metric: by the layers, in how many ways each has its greatest metric with a syndrome."""
-    n, _, m, _, _ = CODES[code]
+    m = CODES[code][2]
     size, tuples = CONFIGURATIONS[code]
     columns = layer_columns(code)
     layers = []
@@ -478,8 +479,7 @@ def two_best():
     """For each code a row with two best words, and one in which the first of them is best by 2, the least that can be."""
     found = []
     for code in CODES:
-        n, _, m, _, _ = CODES[code]
-        few = FEWEST[code]
+        m, few = CODES[code][2], FEWEST[code]
         word = any_word(code) if code > 1 else same(code, 0)
         other = [s ^ sum(1 << j for j in range(m) if i * m + j in few) for i, s in enumerate(word)]
         assert is_codeword(code, other)
