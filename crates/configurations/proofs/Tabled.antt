@@ -17,7 +17,6 @@ use Rattle.field.proofs.Xor as X
 use Rattle.field.proofs.Field as F
 use Rattle.code.proofs.Words.{Below}
 use Rattle.split.proofs.Layers.{below}
-use Rattle.split.proofs.Dimension.{xor-zero}
 use Rattle.tails.proofs.Configured.{configured-right}
 use Rattle.configurations.proofs.Tuples.{configured, is-configuration, root-at, so}
 
@@ -111,7 +110,7 @@ same-rest a b c d e f p q v x =
     let z : valid 4 2 (0 ∷ 0 ∷ k / 16 ∷ k % 16 ∷ []) ≡ true =
     rw (g, h) (rw (X.self a, X.self b) at (sum-valid (a ∷ b ∷ c ∷ d ∷ []) (a ∷ b ∷ e ∷ f ∷ []) refl p q v x)) in
     let n : k ≡ 0 = at k (omega arith) .lone z in
-    (xor-zero c e (omega arith), xor-zero d f (omega arith))
+    (X.same c e (omega arith), X.same d f (omega arith))
 
 fours : (P : List ℕ → Type 0) → ((a b c d : ℕ) → P (a ∷ b ∷ c ∷ d ∷ [])) → (ss : List ℕ) → length ss ≡ 4 → P ss
 fours P f [] n = absurd (omega arith)

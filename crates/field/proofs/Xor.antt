@@ -71,6 +71,10 @@ cancel a b = sym (assoc a a b) ∙ ap (λ (x : ℕ). xor x b) (self a) ∙ zero-
 pub uncancel : (a b : ℕ) → xor (xor a b) b ≡ a
 uncancel a b = assoc a b b ∙ ap (xor a) (self b) ∙ zero-r a
 
+-- numbers whose sum is 0 are the same
+pub same : (a b : ℕ) → xor a b ≡ 0 → a ≡ b
+same a b e = sym (uncancel a b) ∙ ap (λ (c : ℕ). xor c b) e ∙ zero-l b
+
 -- the lowest digit of a sum, and the others
 pub half : (a b : ℕ) → xor a b / 2 ≡ xor (a / 2) (b / 2)
 unfolding xor

@@ -17,10 +17,10 @@ use Rattle.code.specs.Promise.{Both-there}
 use Rattle.code.proofs.Words.{below, good, codeword-parts}
 use Rattle.code.proofs.Bits.{length-all-bits, word-one}
 use Rattle.code.proofs.Both.{both-there}
-use Rattle.metric.specs.Metric.{metric, at-most, Greatest, Soft, Decoded, Marked, decided}
+use Rattle.metric.specs.Metric.{metric, at-most, Greatest, Greatest-with, Soft, Decoded, Marked, decided}
 use Rattle.metric.specs.Cost.{costZero, costOne, cost, top, Least}
 use Rattle.metric.specs.Right.{Soft-right, Marked-right}
-use Rattle.metric.specs.Promise.{Words-for, Codewords-for, Greatest-there, Greatest-with-there, Decoded-there, Marked-there, Greatest-one, Greatest-with-one, Soft-width, Best-of-two, Decided-right, One-best, Undecided-none, Decoded-one, Marked-one, Soft-enough, Decoded-enough, Marked-enough}
+use Rattle.metric.specs.Promise.{Words-for, Codewords-for, Greatest-there, Greatest-with-there, Decoded-there, Marked-there, Greatest-one, Greatest-with-one, Soft-width, Best-of-two, Decided-right, One-best, Undecided-none, Undecided-both, Decoded-one, Marked-one, Soft-enough, Decoded-enough, Marked-enough}
 use Rattle.metric.proofs.Integers.{minus, same, size, minus-size, le-at-most, at-most-true, at-most-false, at-most-refl, at-most-antisym}
 use Rattle.metric.proofs.Bounds.{word-size}
 use Rattle.metric.proofs.Costs.{greatest, greatest-with, decoded-with}
@@ -91,24 +91,36 @@ unfolding bit-at all-bits
 bit-small m b [] = omega arith
 bit-small m b (c ∷ cs) = front m c (all-bits m cs) b (λ i. bit-small m i cs)
 
+-- the greatest with a value at a bit: no more than the greatest, and no less where a best word has that value
+with-most : (m : ℕ) (among : List ℕ → Bool) (rs : List ℤ) (b v : ℕ) (g h : ℤ) → Greatest m among rs g → Greatest-with m among rs b v h → costOne h + costZero g ≤ costOne g + costZero h
+with-most m among rs b v g h t p = at-most-true h g (rw (p .met .3) at (t .all (p .met .0) (p .met .1)))
+
+with-least :
+    (m : ℕ) (among : List ℕ → Bool) (rs : List ℤ) (b v : ℕ) (g h : ℤ) → Greatest-with m among rs b v h →
+    (ws : List ℕ) → among ws ≡ true → metric m rs ws ≡ g → bit-at m b ws ≡ v → costOne g + costZero h ≤ costOne h + costZero g
+with-least m among rs b v g h p ws c e k = at-most-true g h (rw e at (p .all ws c k))
+
 pub best-of-two : Best-of-two
 unfolding Best-of-two
-best-of-two m among rs b e g h t p q = go (at-most h g) refl (bit-at m b ws) refl (bit-small m b ws)
+best-of-two m among rs b e g h t p q = go (at-most h g) refl (bit-at m b (t .met .0)) refl (bit-small m b (t .met .0))
   where
-    ws : List ℕ
-    ws = t .met .0
+    zero-most : costOne g + costZero e ≤ costOne e + costZero g
+    zero-most = with-most m among rs b 0 e g t p
 
-    g-most : costOne g + costZero e ≤ costOne e + costZero g
-    g-most = at-most-true g e (rw (p .met .3) at (t .all (p .met .0) (p .met .1)))
+    one-most : costOne h + costZero e ≤ costOne e + costZero h
+    one-most = with-most m among rs b 1 e h t q
 
-    h-most : costOne h + costZero e ≤ costOne e + costZero h
-    h-most = at-most-true h e (rw (q .met .3) at (t .all (q .met .0) (q .met .1)))
+    zero-least : bit-at m b (t .met .0) ≡ 0 → costOne e + costZero g ≤ costOne g + costZero e
+    zero-least = with-least m among rs b 0 e g p (t .met .0) (t .met .1) (t .met .2)
 
-    go : (x : Bool) → at-most h g ≡ x → (v : ℕ) → bit-at m b ws ≡ v → v < 2 → e ≡ cond x g h
-    go true k zero y z = same e g (omega (arith, g-most, at-most-true e g (rw (t .met .2) at (p .all ws (t .met .1) y))))
-    go true k (suc zero) y z = same e g (omega (arith, g-most, at-most-true h g k, at-most-true e h (rw (t .met .2) at (q .all ws (t .met .1) y))))
-    go false k zero y z = same e h (omega (arith, h-most, at-most-false h g k, at-most-true e g (rw (t .met .2) at (p .all ws (t .met .1) y))))
-    go false k (suc zero) y z = same e h (omega (arith, h-most, at-most-true e h (rw (t .met .2) at (q .all ws (t .met .1) y))))
+    one-least : bit-at m b (t .met .0) ≡ 1 → costOne e + costZero h ≤ costOne h + costZero e
+    one-least = with-least m among rs b 1 e h q (t .met .0) (t .met .1) (t .met .2)
+
+    go : (x : Bool) → at-most h g ≡ x → (v : ℕ) → bit-at m b (t .met .0) ≡ v → v < 2 → e ≡ cond x g h
+    go true k zero y z = same e g (omega (arith, zero-most, zero-least y))
+    go true k (suc zero) y z = same e g (omega (arith, zero-most, at-most-true h g k, one-least y))
+    go false k zero y z = same e h (omega (arith, one-most, at-most-false h g k, zero-least y))
+    go false k (suc zero) y z = same e h (omega (arith, one-most, one-least y))
     go x k (suc (suc v)) y z = absurd (omega arith)
 
 -- A DECIDED BIT: a best word with 0 there has no less than the greatest with 1, and one with 1 no less than the greatest with 0
@@ -119,29 +131,19 @@ module _ (m : ℕ) (among : List ℕ → Bool) (rs : List ℤ) (b : ℕ) (g s : 
   balance : (x : ℤ) → s ≡ x → costOne x + (costZero (z .of-zero) + costOne (z .of-one)) ≡ costZero x + (costOne (z .of-zero) + costZero (z .of-one))
   balance x e = rw (sym e ∙ z .difference) (minus (z .of-zero) (z .of-one))
 
-  zero-most : costOne (z .of-zero) + costZero g ≤ costOne g + costZero (z .of-zero)
-  zero-most = let w = z .greatest-zero .met in at-most-true (z .of-zero) g (rw (w .3) at (t .all (w .0) (w .1)))
-
-  one-most : costOne (z .of-one) + costZero g ≤ costOne g + costZero (z .of-one)
-  one-most = let w = z .greatest-one .met in at-most-true (z .of-one) g (rw (w .3) at (t .all (w .0) (w .1)))
-
-  zero-least : (ws : List ℕ) → among ws ≡ true → metric m rs ws ≡ g → bit-at m b ws ≡ 0 → costOne g + costZero (z .of-zero) ≤ costOne (z .of-zero) + costZero g
-  zero-least ws c e k = at-most-true g (z .of-zero) (rw e at (z .greatest-zero .all ws c k))
-
-  one-least : (ws : List ℕ) → among ws ≡ true → metric m rs ws ≡ g → bit-at m b ws ≡ 1 → costOne g + costZero (z .of-one) ≤ costOne (z .of-one) + costZero g
-  one-least ws c e k = at-most-true g (z .of-one) (rw e at (z .greatest-one .all ws c k))
-
   every : (v : ℕ) → decided s ≡ some v → Best-have v
   unfolding Best-have decided
   every v d ws c k = go (bit-at m b ws) refl (bit-small m b ws) s refl d
     where
       go : (w : ℕ) → bit-at m b ws ≡ w → w < 2 → (x : ℤ) → s ≡ x → decided x ≡ some v → w ≡ v
-      go zero y h (negsuc n) e f = absurd (omega (arith, balance (negsuc n) e, one-most, zero-least ws c k y))
+      go zero y h (negsuc n) e f =
+          absurd (omega (arith, balance (negsuc n) e, with-most m among rs b 1 g (z .of-one) t (z .greatest-one), with-least m among rs b 0 g (z .of-zero) (z .greatest-zero) ws c k y))
       go zero y h (pos zero) e f = ap (λ o. Option·getD o 0) f
       go zero y h (pos (suc n)) e f = ap (λ o. Option·getD o 0) f
       go (suc zero) y h (negsuc n) e f = ap (λ o. Option·getD o 1) f
       go (suc zero) y h (pos zero) e f = ap (λ o. Option·getD o 1) f
-      go (suc zero) y h (pos (suc n)) e f = absurd (omega (arith, balance (pos (suc n)) e, zero-most, one-least ws c k y))
+      go (suc zero) y h (pos (suc n)) e f =
+          absurd (omega (arith, balance (pos (suc n)) e, with-most m among rs b 0 g (z .of-zero) t (z .greatest-zero), with-least m among rs b 1 g (z .of-one) (z .greatest-one) ws c k y))
       go (suc (suc w)) y h x e f = absurd (omega arith)
 
   -- where the two are the same, both are the best metric
@@ -156,24 +158,35 @@ module _ (m : ℕ) (among : List ℕ → Bool) (rs : List ℤ) (b : ℕ) (g s : 
       either true p = p
       either false p = refl
 
-  some-decided : (v : ℕ) → Best-have v → decided s ≡ some v
-  unfolding Best-have decided
-  some-decided v f = go s refl
-    where
-      -- the decision on a best word is what all best words have
-      own : (x : ℤ) → s ≡ x → (u : ℕ) → decided x ≡ some u → decided s ≡ some v
-      own x e u d =
-          let y : decided s ≡ some u = ap decided e ∙ d in y ∙ ap some (sym (every u y (t .met .0) (t .met .1) (t .met .2)) ∙ f (t .met .0) (t .met .1) (t .met .2))
+  undecided : (x : ℤ) → decided x ≡ none → x ≡ pos 0
+  unfolding decided
+  undecided (pos zero) e = refl
+  undecided (pos (suc n)) e = absurd (Option·none-ne-some 0 (sym e))
+  undecided (negsuc n) e = absurd (Option·none-ne-some 1 (sym e))
 
-      go : (x : ℤ) → s ≡ x → decided s ≡ some v
-      go (negsuc n) e = own (negsuc n) e 1 refl
-      go (pos zero) e = let p = both-best e in let y = z .greatest-zero .met in let w = z .greatest-one .met in
-          absurd (omega (arith, sym (y .2) ∙ f (y .0) (y .1) (y .3 ∙ p .0), sym (w .2) ∙ f (w .0) (w .1) (w .3 ∙ p .1)))
-      go (pos (suc n)) e = own (pos (suc n)) e 0 refl
+  both : decided s ≡ none → (v : ℕ) → v < 2 → (ws : List ℕ) × (among ws ≡ true) × (metric m rs ws ≡ g) × (bit-at m b ws ≡ v)
+  both n zero h = let y = z .greatest-zero .met in (y .0, y .1, y .3 ∙ both-best (undecided s n) .0, y .2)
+  both n (suc zero) h = let y = z .greatest-one .met in (y .0, y .1, y .3 ∙ both-best (undecided s n) .1, y .2)
+  both n (suc (suc v)) h = absurd (omega arith)
+
+  some-decided : (v : ℕ) → Best-have v → decided s ≡ some v
+  unfolding Best-have
+  some-decided v f = go (decided s) refl
+    where
+      go : (o : Option ℕ) → decided s ≡ o → decided s ≡ some v
+      go none e =
+          let y = both e 0 (omega arith) in
+          let w = both e 1 (omega arith) in
+          absurd (omega (arith, sym (y .3) ∙ f (y .0) (y .1) (y .2), sym (w .3) ∙ f (w .0) (w .1) (w .2)))
+      go (some u) e = e ∙ ap some (sym (every u e (t .met .0) (t .met .1) (t .met .2)) ∙ f (t .met .0) (t .met .1) (t .met .2))
 
 pub decided-right : Decided-right
 unfolding Decided-right Best-have
 decided-right m among rs b v g s t z = (every m among rs b g s t z v, some-decided m among rs b g s t z v)
+
+pub undecided-both : Undecided-both
+unfolding Undecided-both
+undecided-both m among rs b g s t z = both m among rs b g s t z
 
 -- WHAT DOCUMENT 03 ASKS: a greatest metric that is given is the one that is named
 pub soft-enough : Soft-enough
@@ -312,21 +325,6 @@ module _ (m : ℕ) (among : List ℕ → Bool) (rs : List ℤ) (ws : List ℕ) (
       go (some v) y =
           let r = decided-right m among rs b v best (getD so b (pos 0)) (decoded-greatest m among rs ws best so d) (d .softly b h) .0 y in
           r us (p .0) (p .1) ∙ sym (r vs (q .0) (q .1))
-
-  undecided : (s : ℤ) → decided s ≡ none → s ≡ pos 0
-  unfolding decided
-  undecided (pos zero) e = refl
-  undecided (pos (suc n)) e = absurd (Option·none-ne-some 0 (sym e))
-  undecided (negsuc n) e = absurd (Option·none-ne-some 1 (sym e))
-
-  -- an undecided bit is 0 in some best word, and 1 in another
-  pub both-ways : (b : ℕ) (h : b < length rs) → decided (getD so b (pos 0)) ≡ none → ((us : List ℕ) × Best us × (bit-at m b us ≡ 0)) × ((vs : List ℕ) × Best vs × (bit-at m b vs ≡ 1))
-  both-ways b h n =
-      let z = d .softly b h in
-      let p = both-best m among rs b best (getD so b (pos 0)) (decoded-greatest m among rs ws best so d) z (undecided (getD so b (pos 0)) n) in
-      let y = z .greatest-zero .met in
-      let w = z .greatest-one .met in
-      ((y .0, (y .1, y .3 ∙ p .0), y .2), (w .0, (w .1, w .3 ∙ p .1), w .2))
 
 pub undecided-none : Undecided-none
 unfolding Undecided-none Decided-right Greatest-one bit-at

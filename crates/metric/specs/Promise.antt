@@ -61,6 +61,12 @@ Decided-right =
     (m : ℕ) (among : List ℕ → Bool) (rs : List ℤ) (b v : ℕ) (g s : ℤ) → Greatest m among rs g → Soft m among rs b s →
     (decided s ≡ some v) ↔ ((ws : List ℕ) → among ws ≡ true → metric m rs ws ≡ g → bit-at m b ws ≡ v)
 
+-- and where it is undecided, some best word has 0 there and some has 1
+unfoldable pub Undecided-both : Type 0
+Undecided-both =
+    (m : ℕ) (among : List ℕ → Bool) (rs : List ℤ) (b : ℕ) (g s : ℤ) → Greatest m among rs g → Soft m among rs b s → decided s ≡ none →
+    (v : ℕ) → v < 2 → (ws : List ℕ) × (among ws ≡ true) × (metric m rs ws ≡ g) × (bit-at m b ws ≡ v)
+
 -- one best word: it has the greatest metric, and every word of the set that has it is this one
 pub record One-best (m : ℕ) (among : List ℕ → Bool) (rs : List ℤ) (ws : List ℕ) : Type 0 where
   pub best : Greatest m among rs (metric m rs ws)

@@ -116,9 +116,6 @@ join-below : (xs ds : List ℕ) → Below 2 xs → Below 2 ds → Below 2 (xs ++
 join-below [] ds p q = q
 join-below (x ∷ xs) ds p q = (p .0, join-below xs ds (p .1) q)
 
-pub xor-zero : (a b : ℕ) → xor a b ≡ 0 → a ≡ b
-xor-zero a b e = sym (sym (X.cancel a b) ∙ ap (xor a) e ∙ X.zero-r a)
-
 sum-zeros : (k : ℕ) (xs ys : List ℕ) → length xs ≡ length ys → sum xs ys ≡ replicate k 0 → xs ≡ ys
 unfolding sum
 sum-zeros k [] [] n e = refl
@@ -128,7 +125,7 @@ sum-zeros zero (x ∷ xs) (y ∷ ys) n e = absurd (omega (arith, ap length e))
 sum-zeros (suc k) (x ∷ xs) (y ∷ ys) n e =
     let a : xor x y ≡ 0 = cc in
     let b : sum xs ys ≡ replicate k 0 = cc in
-    ap₂ _∷_ (xor-zero x y a) (sum-zeros k xs ys (omega arith) b)
+    ap₂ _∷_ (X.same x y a) (sum-zeros k xs ys (omega arith) b)
 
 module _ (m r : ℕ) (w : width-good m ≡ true) (h : r ≤ 6) (ds : List ℕ) (n : length ds ≡ bch-dimension m r) (p : Below 2 ds) where
   abbrev q : ℕ
@@ -176,7 +173,7 @@ module _ (m r : ℕ) (w : width-good m ≡ true) (h : r ≤ 6) (ds : List ℕ) (
     take-columns : columns-from m r 0 (take q bs) ≡ columns-from m r q ds
     unfolding Syndrome-columns
     take-columns =
-        xor-zero (columns-from m r 0 (take q bs)) (columns-from m r q ds)
+        X.same (columns-from m r 0 (take q bs)) (columns-from m r q ds)
         (sym (split-columns (take q bs) take-length) ∙ ap (columns-from m r 0) parts ∙ sym (syndrome-columns m r bs w (e .binary)) ∙ e .of-code)
 
   only : (bs cs : List ℕ) → Bch-ending m r ds bs → Bch-ending m r ds cs → bs ≡ cs

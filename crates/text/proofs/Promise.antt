@@ -14,9 +14,9 @@ use Rattle.code.proofs.Words.{eqb-true, codeword-parts}
 use Rattle.code.proofs.Bits.{at-most-one, bits-differ}
 use Rattle.code.proofs.Distance.{distance}
 use Rattle.metric.specs.Metric.{decided}
-use Rattle.metric.specs.Promise.{Codewords-for, Undecided-none}
+use Rattle.metric.specs.Promise.{Codewords-for, Undecided-none, Undecided-both}
 use Rattle.metric.proofs.Costs.{codeword-bits}
-use Rattle.metric.proofs.Promise.{codewords-for, undecided-none, agreed, both-ways}
+use Rattle.metric.proofs.Promise.{codewords-for, decoded-greatest, undecided-none, undecided-both, agreed}
 use Rattle.text.specs.Text.{question-mark, bit-byte, bits-field}
 use Rattle.text.specs.Promise.{Shown-right, marks, Marks-many}
 use Rattle.text.proofs.Fields.{bits-at}
@@ -76,7 +76,7 @@ found (s ∷ so) h = go (eqb (bit-byte (decided s)) question-mark) refl (found s
     go false e next h = let p = next (omega arith) in (suc (p .0), omega arith, p .2)
 
 pub marks-many : Marks-many
-unfolding Marks-many Distance bit-at
+unfolding Marks-many Distance Undecided-both bit-at
 marks-many m r rs ws best so w l d = go (le-or-lt (marks (bits-field so)) r)
   where
     full : (vs : List ℕ) → is-codeword m r vs ≡ true → length so ≡ length (all-bits m vs)
@@ -86,15 +86,16 @@ marks-many m r rs ws best so w l d = go (le-or-lt (marks (bits-field so)) r)
     none-left zero e o = refl
     none-left (suc n) e o =
         let f = found so (omega arith) in
-        let y = both-ways m (is-codeword m r) rs ws best so d (f .0) (rw (d .count) at (f .1)) (f .2) in
-        let us = y .0 .0 in
-        let vs = y .1 .0 in
-        let p = codeword-parts m r us (y .0 .1 .0) in
-        let q = codeword-parts m r vs (y .1 .1 .0) in
-        let least = marks-least so (all-bits m us) (all-bits m vs) (full us (y .0 .1 .0)) (full vs (y .1 .1 .0))
-        (λ b h k. agreed m (is-codeword m r) rs ws best so d b (rw (d .count) at h) k us vs (y .0 .1) (y .1 .1)) in
-        let same : us ≡ vs = distance m r us vs w (y .0 .1 .0) (y .1 .1 .0) (omega (arith, least, bits-differ m us vs (p .count ∙ sym (q .count)) (p .symbols) (q .symbols))) in
-        absurd (omega (arith, sym (y .0 .2) ∙ ap (bit-at m (f .0)) same ∙ y .1 .2))
+        let h : f .0 < length rs = rw (d .count) at (f .1) in
+        let with-bit = undecided-both m (is-codeword m r) rs (f .0) best (getD so (f .0) (pos 0)) (decoded-greatest m (is-codeword m r) rs ws best so d) (d .softly (f .0) h) (f .2) in
+        let us = with-bit 0 (omega arith) in
+        let vs = with-bit 1 (omega arith) in
+        let p = codeword-parts m r (us .0) (us .1) in
+        let q = codeword-parts m r (vs .0) (vs .1) in
+        let least = marks-least so (all-bits m (us .0)) (all-bits m (vs .0)) (full (us .0) (us .1)) (full (vs .0) (vs .1))
+        (λ b k n. agreed m (is-codeword m r) rs ws best so d b (rw (d .count) at k) n (us .0) (vs .0) (us .1, us .2) (vs .1, vs .2)) in
+        let same : us .0 ≡ vs .0 = distance m r (us .0) (vs .0) w (us .1) (vs .1) (omega (arith, least, bits-differ m (us .0) (vs .0) (p .count ∙ sym (q .count)) (p .symbols) (q .symbols))) in
+        absurd (omega (arith, sym (us .3) ∙ ap (bit-at m (f .0)) same ∙ vs .3))
 
     go : (marks (bits-field so) ≤ r) ⊎ (r < marks (bits-field so)) → (marks (bits-field so) ≡ 0) ⊎ (r < marks (bits-field so))
     go (inl h) = inl (none-left (marks (bits-field so)) refl h)

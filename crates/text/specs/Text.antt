@@ -93,7 +93,7 @@ least-magnitude [] = 0
 least-magnitude (s ∷ so) = least-from (natAbs s) so
 
 -- a bit: its digit, or a question mark where it is undecided
-unfoldable pub bit-byte : (decided : Option ℕ) → ℕ
+unfoldable pub bit-byte : (decision : Option ℕ) → ℕ
 bit-byte none = question-mark
 bit-byte (some v) = digit v
 

@@ -1,6 +1,6 @@
 -- The table of columns is the least cost of the bits of each syndrome: no allowed bits cost less, and the trace (or some allowed bits) attain it.
 -- Assumes nothing.
-use Rattle.basics.proofs.Kit.{_≡_, refl, sym, ap, _∙_, Bool, true, false, List, [], _∷_, ℕ, zero, suc, _+_, _≤_, _<_, min, arith, length, leb}
+use Rattle.basics.proofs.Kit.{_≡_, refl, sym, ap, Bool, true, false, List, [], _∷_, ℕ, zero, suc, _+_, _≤_, _<_, min, arith, length, leb}
 use borrow.Author.Tests.{leb-true, leb-false}
 use Rattle.field.specs.Field.{xor}
 use Rattle.field.proofs.Xor as X
@@ -84,9 +84,6 @@ module _ (col : Columns) (v : ℕ → ℕ) where
       (traced (suc i) k (xor s (pick b 0 (col i .h))))
 
 -- with nothing behind: below big, the bits add up to s
-xor-zero : (x y : ℕ) → xor x y ≡ 0 → x ≡ y
-xor-zero x y e = sym (X.uncancel x y) ∙ ap (λ (z : ℕ). xor z y) e ∙ X.zero-l y
-
 at-zero : (big x : ℕ) → final big x < big → (x ≡ 0) × (final big x ≡ 0)
 at-zero big zero h = (refl, refl)
 at-zero big (suc x) h = absurd (omega arith)
@@ -95,7 +92,7 @@ pub reaches : (col : Columns) (big : ℕ) (hold : ℕ → Choice) (i k s : ℕ) 
     (syn col i bs ≡ s) × (cost col i bs ≡ back hold col (final big) i k s)
 reaches col big hold i k s bs a h =
     let z = at-zero big (xor s (syn col i bs)) (omega (arith, a .costs)) in
-    (sym (xor-zero s (syn col i bs) (z .0)), omega (arith, a .costs, z .1))
+    (sym (X.same s (syn col i bs) (z .0)), omega (arith, a .costs, z .1))
 
 pub none-less : (col : Columns) (big : ℕ) (hold : ℕ → Choice) (i : ℕ) (bs : List ℕ) → Held hold i bs → back hold col (final big) i (length bs) (syn col i bs) ≤ cost col i bs
 none-less col big hold i bs m = omega (arith, lower col (final big) hold i bs (syn col i bs) m, ap (final big) (X.self (syn col i bs)))
