@@ -58,7 +58,7 @@ Both-there =
     (m r b : ℕ) → width-good m ≡ true → r < long m → b < row-long m →
     ((ws : List ℕ) × (is-codeword m r ws ≡ true) × (bit-at m b ws ≡ 0)) × ((ws : List ℕ) × (is-codeword m r ws ≡ true) × (bit-at m b ws ≡ 1))
 
--- in how many places two words, or two lists of bits, differ
+-- in how many places two words of the same length, or their bits, differ
 unfoldable pub differ : (vs ws : List ℕ) → ℕ
 differ [] ws = 0
 differ (c ∷ cs) [] = 0
