@@ -56,6 +56,9 @@ extern "C" {
 #define TUGZECK_MOST_QUESTIONS 200
 #define TUGZECK_MOST_SHEET 19204
 
+/* How long the output of tugzeck_practice is: so many questions of one code, and the end. */
+#define TUGZECK_PRACTICE_BYTES(code, count) ((size_t)(count) * TUGZECK_QUESTION_BYTES(code) + TUGZECK_END_BYTES)
+
 /* Question numbers are below this. */
 #define TUGZECK_QUESTION_NUMBERS 16777216
 
@@ -95,7 +98,7 @@ enum tugzeck_received {
 
 enum tugzeck_verdict { TUGZECK_NONE = 0, TUGZECK_SHORT = 1, TUGZECK_BEST = 2 };
 
-/* RESULTS. `number` is 0 or the refusal; refused, every other field is 0. */
+/* RESULTS. `number` is 0 or the refusal; refused, every other field is 0, but for a state, which is then the one that was lent. */
 struct tugzeck_splitting {
     uint32_t number;
     uint16_t configuration[4]; /* the syndromes of layers 1 to m; with m = 3 the fourth is 0 */
@@ -122,6 +125,11 @@ struct tugzeck_asked {
     uint32_t found;    /* 1, or 0 where no question is left; then the fields below are 0 */
     uint32_t code;     /* the question's code */
     uint32_t question; /* the question's number */
+};
+
+struct tugzeck_drawn {
+    uint32_t number;
+    uint32_t state; /* the state after the last draw; refused, as it was lent */
 };
 
 struct tugzeck_listed {
@@ -213,6 +221,13 @@ struct tugzeck_asked tugzeck_question(const uint8_t *sheet, size_t sheet_count, 
  * more), 2 and 3 (the row or the word runs short, or something is left over after the last question), 5, 6; then by 4. */
 uint32_t tugzeck_write_sheet(const uint32_t *codes, size_t codes_count, const uint32_t *numbers, size_t numbers_count, const int16_t *rows,
                              size_t rows_count, const uint8_t *words, size_t words_count, uint8_t *output, size_t output_count);
+
+/* Writes a practice sheet into `output`, which is TUGZECK_PRACTICE_BYTES long: `count` questions of one code, 0 to 200, numbered from 1, with rows drawn
+ * from `state`, any 32-bit number, and zero words as the words handed in. Answers 0 and the state after the last draw. For each reliability, question by
+ * question and entry by entry, the state advances by 0x9E3779B9, wrapping at 2^32; the draw is the new state, exclusive or with itself shifted right by 16,
+ * and its remainder by 255, less 127, is the reliability. So 20 questions, and then 30 from the state handed back, have the rows of 50. Refuses by 12 (more
+ * than 200 questions), 1 (even for no questions), 4. */
+struct tugzeck_drawn tugzeck_practice(uint32_t code, uint32_t count, uint32_t state, uint8_t *output, size_t output_count);
 
 /* Writes the listing of a sheet at the start of `output`, which is TUGZECK_LISTING bytes long: 0 and the length of the text; the bytes behind
  * it are kept, and no zero byte is added. Decided bits show as 0 and 1, undecided ones as a question mark. The listing of a refused sheet is the

@@ -288,6 +288,62 @@ int main(void) {
     SAME(q.number, TUGZECK_OUTPUT);
     SAME(q.found | q.code | q.question, 0);
 
+    /* 0x61C88647 advances to 0, of which the draw is 0. Two questions and then one have the rows of three. */
+    static const int16_t drawn[6] = {-127, -51, 23, 71, -81, -83};
+    enum { DRILL = TUGZECK_PRACTICE_BYTES(1, 3), FIRST = TUGZECK_PRACTICE_BYTES(1, 2), SECOND = TUGZECK_PRACTICE_BYTES(1, 1) };
+    uint8_t drill[DRILL], first[FIRST], second[SECOND];
+    struct tugzeck_drawn p = tugzeck_practice(1, 3, 0x61C88647, drill, DRILL);
+    SAME(p.number, 0);
+    SAME(p.state, 0x516F7ACE);
+    SAME(drill[0] | drill[1] << 8 | drill[2] << 16 | drill[3] << 24, 0x11000001);
+    SAME(drill[DRILL - 4], 3);
+    j = tugzeck_judge_sheet(drill, DRILL);
+    SAME(j.number, 0);
+    SAME(j.questions, 3);
+    memset(word, 9, sizeof word);
+    q = tugzeck_question(drill, DRILL, 0, row, 21, word, 7);
+    SAME(q.number, 0);
+    SAME(q.code, 1);
+    SAME(q.question, 1);
+    SAME(memcmp(row, drawn, sizeof drawn), 0);
+    for (int i = 0; i < 7; i++)
+        SAME(word[i], 0);
+    q = tugzeck_question(drill, DRILL, 2, row, 21, word, 7);
+    SAME(q.question, 3);
+    p = tugzeck_practice(1, 2, 0x61C88647, first, FIRST);
+    SAME(p.number, 0);
+    SAME(memcmp(first, drill, 80), 0);
+    SAME(first[FIRST - 4], 2);
+    p = tugzeck_practice(1, 1, p.state, second, SECOND);
+    SAME(p.number, 0);
+    SAME(p.state, 0x516F7ACE);
+    SAME(second[0], 1);
+    SAME(memcmp(second + 4, drill + 84, 36), 0);
+    memset(drill, 9, sizeof drill);
+    p = tugzeck_practice(6, TUGZECK_MOST_QUESTIONS + 1, 7, drill, 3);
+    SAME(p.number, TUGZECK_COUNT);
+    SAME(p.state, 7);
+    p = tugzeck_practice(6, 0, 0xFFFFFFFF, drill, 3);
+    SAME(p.number, TUGZECK_CODE);
+    SAME(p.state, 0xFFFFFFFF);
+    p = tugzeck_practice(3, 0, 7, drill, 3);
+    SAME(p.number, TUGZECK_OUTPUT);
+    SAME(p.state, 7);
+    for (int i = 0; i < DRILL; i++)
+        SAME(drill[i], 9);
+    p = tugzeck_practice(3, 0, 7, drill, TUGZECK_PRACTICE_BYTES(3, 0));
+    SAME(p.number, 0);
+    SAME(p.state, 7);
+    SAME(drill[0] | drill[1] | drill[2], 0);
+    SAME(drill[3], 0xF0);
+    SAME(drill[4], 9);
+    static uint8_t most[TUGZECK_MOST_SHEET];
+    SAME(TUGZECK_PRACTICE_BYTES(5, TUGZECK_MOST_QUESTIONS), TUGZECK_MOST_SHEET);
+    p = tugzeck_practice(5, TUGZECK_MOST_QUESTIONS, 0, most, TUGZECK_MOST_SHEET);
+    SAME(p.number, 0);
+    SAME(p.state, 0x6869BFE0);
+    SAME(most[TUGZECK_MOST_SHEET - 4], 200);
+
     static uint8_t text[TUGZECK_LISTING];
     struct tugzeck_listed l = tugzeck_list(sheet, BYTES, text, TUGZECK_LISTING);
     SAME(l.number, 0);
@@ -297,6 +353,6 @@ int main(void) {
     SAME(l.number, TUGZECK_OUTPUT);
     SAME(l.length, 0);
 
-    printf("compared: %u answers of all twenty-two calls through the header\n", compared);
+    printf("compared: %u answers of all twenty-three calls through the header\n", compared);
     return 0;
 }

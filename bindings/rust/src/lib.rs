@@ -105,9 +105,23 @@ pub const fn row_length_by(m: u32) -> usize {
     }
 }
 
+const fn question_length(code: u32) -> usize {
+    if code < 3 {
+        40
+    } else {
+        96
+    }
+}
+
 /// Bytes of the sheet that holds questions of these codes. Codes are 1 to 5; of other numbers this says nothing.
 pub fn sheet_length(codes: &[u32]) -> usize {
-    codes.iter().map(|code| if *code < 3 { 40 } else { 96 }).sum::<usize>() + 4
+    codes.iter().map(|code| question_length(*code)).sum::<usize>() + 4
+}
+
+/// Bytes of the practice sheet of so many questions of a code; of no questions 4. Codes are 1 to 5 and questions at most 200; of other numbers this
+/// says nothing.
+pub const fn practice_length(code: u32, count: u32) -> usize {
+    question_length(code) * count as usize + 4
 }
 
 /// Why a call is refused, with its number.
@@ -500,6 +514,39 @@ pub fn write_sheet(codes: &[u32], numbers: &[u32], rows: &[i16], words: &[u8], o
         )
     };
     unless_refused(number, ())
+}
+
+/// Writes a practice sheet into [`practice_length`] places: `count` questions of one code, 0 to 200, numbered from 1, with rows drawn from a state, any
+/// number, and zero words as the words handed in. Answers the state after the last draw. Refuses by 12 (more than 200 questions), 1 (even for no
+/// questions), 4.
+///
+/// For each reliability, question by question and entry by entry, the state advances by 0x9E3779B9, wrapping at 2^32; the draw is the new state, exclusive
+/// or with itself shifted right by 16, and its remainder by 255, less 127, is the reliability. So 20 questions, and then 30 from the state that is
+/// answered, have the rows of 50.
+///
+/// ```
+/// // The rows of a sheet of code 1.
+/// fn rows(sheet: &[u8]) -> Result<Vec<[i16; 21]>, tugzeck::Refusal> {
+///     let (mut rows, mut row, mut word) = (Vec::new(), [0; 21], [0; 7]);
+///     while tugzeck::question(sheet, rows.len(), &mut row, &mut word)?.is_some() {
+///         rows.push(row);
+///     }
+///     Ok(rows)
+/// }
+///
+/// let [mut class, mut first, mut second] = [50, 20, 30].map(|count| vec![0; tugzeck::practice_length(1, count)]);
+/// let last = tugzeck::practice(1, 50, 42, &mut class)?;
+/// let state = tugzeck::practice(1, 20, 42, &mut first)?;
+/// assert_eq!(tugzeck::practice(1, 30, state, &mut second), Ok(last));
+/// assert_eq!(rows(&class)?.len(), 50);
+/// assert_eq!(rows(&class)?, [rows(&first)?, rows(&second)?].concat());
+/// assert_eq!(tugzeck::practice(1, 201, 42, &mut class), Err(tugzeck::Refusal::Count));
+/// # Ok::<(), tugzeck::Refusal>(())
+/// ```
+pub fn practice(code: u32, count: u32, state: u32, output: &mut [u8]) -> Result<u32, Refusal> {
+    // SAFETY: it is a slice, borrowed alone.
+    let d = unsafe { raw::tugzeck_practice(code, count, state, output.as_mut_ptr(), output.len()) };
+    unless_refused(d.number, d.state)
 }
 
 /// Writes the listing of a sheet at the start of [`LISTING`] bytes and answers the length of its text; the bytes behind it are kept. Decided

@@ -34,6 +34,12 @@ pub struct Asked {
 }
 
 #[repr(C)]
+pub struct Drawn {
+    pub number: u32,
+    pub state: u32,
+}
+
+#[repr(C)]
 pub struct Listed {
     pub number: u32,
     pub length: usize,
@@ -150,5 +156,6 @@ extern "C" {
         output: *mut u8,
         output_count: usize,
     ) -> u32;
+    pub fn tugzeck_practice(code: u32, count: u32, state: u32, output: *mut u8, output_count: usize) -> Drawn;
     pub fn tugzeck_list(sheet: *const u8, sheet_count: usize, output: *mut u8, output_count: usize) -> Listed;
 }

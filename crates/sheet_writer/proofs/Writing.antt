@@ -1,6 +1,6 @@
--- The loop that writes: after i questions the output begins with their words, and what is left of the lent list is the rest of the questions.
+-- The loops that write: after i questions the output begins with their words; what is left of a lent list is the rest of the questions.
 -- Assumes nothing.
-use Rattle.basics.proofs.Kit.{_≡_, refl, sym, ap, _∙_, true, List, [], _∷_, _++_, ℕ, suc, _+_, _-_, _*_, _≤_, _<_, arith, length, getD, take, drop, ℤ}
+use Rattle.basics.proofs.Kit.{_≡_, refl, sym, ap, _∙_, true, List, [], _∷_, _++_, ℕ, suc, _+_, _-_, _*_, _%_, _≤_, _<_, arith, length, getD, take, drop, ℤ}
 use mathlib.Core.List.{append-assoc, append-nil}
 use native.Mathlib.Nat.{add-sub-cancel-left}
 use native.Mathlib.Numerals.{add-one}
@@ -99,33 +99,84 @@ accepted f z cs ns rs ws o e =
       room = eqb-true _ _ (passed _ _ _ (l .1) .0) ∙ written-length f (listed cs ns rs ws);
     }
 
--- after i questions
-pub record Begun (f : Form) (cs ns : List ℕ) (rs : List ℤ) (ws o : List ℕ) (i row word at : ℕ) (out : List ℕ) : Type 0 where
+-- AFTER i QUESTIONS of a list, in an output that has the length of its sheet
+pub record Begun (f : Form) (qs : List Question) (o : List ℕ) (i at : ℕ) (out : List ℕ) : Type 0 where
+  pub room : length o ≡ 4 * (length (all-words f qs) + 1)
+  pub place : at ≡ 4 * length (all-words f (take i qs))
+  pub holds : out ≡ begun (all-words f (take i qs)) o
+
+module _ {f : Form} {qs : List Question} {o : List ℕ} where
+  pub begin : length o ≡ 4 * (length (all-words f qs) + 1) → Begun f qs o 0 0 o
+  unfolding all-words
+  begin r = record { room = r; place = refl; holds = sym (begun-none o) }
+
+  module _ {i at : ℕ} {out : List ℕ} (b : Begun f qs o i at out) where
+    abbrev so-far : List ℕ
+    so-far = all-words f (take i qs)
+
+    parts : length (all-words f qs) ≡ length so-far + length (all-words f (drop i qs))
+    parts = ap (λ (l : List Question). length (all-words f l)) (sym (take-append-drop i qs)) ∙ rw (all-words-append f (take i qs) (drop i qs), length-append)
+
+    pub size : length out ≡ length o
+    size = ap length (b .holds) ∙ begun-length so-far o (omega (arith, parts, b .room))
+
+    pub whole-words : at % 4 ≡ 0
+    whole-words = omega (arith, b .place)
+
+    -- the question that comes next, with those after it
+    module _ {q : Question} {after : List Question} (split : drop i qs ≡ q ∷ after) where
+      abbrev words : List ℕ
+      words = question-words f q
+
+      pub fits-in : at + 4 * length words ≤ length out
+      unfolding all-words
+      fits-in = omega (arith, size, b .place, parts, b .room, ap (λ (l : List Question). length (all-words f l)) split, length-append words (all-words f after))
+
+      grown : all-words f (take (i + 1) qs) ≡ so-far ++ words
+      unfolding all-words
+      grown =
+          ap (all-words f) (take-add i 1 qs ∙ ap (λ (l : List Question). take i qs ++ take 1 l) split) ∙ all-words-append f (take i qs) (q ∷ [])
+          ∙ ap (λ (l : List ℕ). so-far ++ l) (append-nil words)
+
+      pub one-more : {at-now : ℕ} {out-now : List ℕ} → at-now ≡ at + 4 * length words → out-now ≡ take at out ++ begun words (drop at out) → Begun f qs o (i + 1) at-now out-now
+      one-more r e = record {
+        room = b .room;
+        place = omega (arith, b .place, ap length grown, length-append so-far words);
+        holds = e ∙ rw (b .place, b .holds, grown) (begun-join so-far words o);
+      }
+
+    module _ (h : length qs ≤ i) where
+      all-of : take i qs ≡ qs
+      all-of = take-all i qs h
+
+      end-place : at ≡ 4 * length (all-words f qs)
+      end-place = rw all-of at (b .place)
+
+      pub end-fits : at + 4 ≤ length out
+      end-fits = omega (arith, size, end-place, b .room)
+
+      pub done : {n : ℕ} → n ≡ length qs → take at out ++ (digits 256 4 (worded end-kind n) ++ drop (at + 4) out) ≡ written-in f qs
+      unfolding written-in
+      done e =
+          let w : ℕ = worded end-kind (length qs) in
+          rw (e, end-place, b .holds, all-of) (begun-word (all-words f qs) o w ∙ begun-all (all-words f qs ++ w ∷ []) o (b .room ∙ rw length-append))
+
+-- the same of a list that is lent
+pub record Lent-begun (f : Form) (cs ns : List ℕ) (rs : List ℤ) (ws o : List ℕ) (i row word at : ℕ) (out : List ℕ) : Type 0 where
   pub list-in : List-within f cs ns rs ws (length o)
   pub refused : list-refusal f (drop i cs) (drop i ns) (drop row rs) (drop word ws) ≡ 0
   pub left : drop i (listed cs ns rs ws) ≡ listed (drop i cs) (drop i ns) (drop row rs) (drop word ws)
-  pub place : at ≡ 4 * length (all-words f (take i (listed cs ns rs ws)))
-  pub holds : out ≡ begun (all-words f (take i (listed cs ns rs ws))) o
+  pub written : Begun f (listed cs ns rs ws) o i at out
   pub row-in : row ≤ length rs
   pub word-in : word ≤ length ws
 
 module _ {f : Form} {cs ns : List ℕ} {rs : List ℤ} {ws o : List ℕ} where
-  pub begin : List-within f cs ns rs ws (length o) → Begun f cs ns rs ws o 0 0 0 0 o
-  unfolding all-words
-  begin w = record { list-in = w; refused = w .taken; left = refl; place = refl; holds = sym (begun-none o); row-in = omega arith; word-in = omega arith }
+  pub lent-begin : List-within f cs ns rs ws (length o) → Lent-begun f cs ns rs ws o 0 0 0 0 o
+  lent-begin w = record { list-in = w; refused = w .taken; left = refl; written = begin (w .room); row-in = omega arith; word-in = omega arith }
 
-  module _ {i row word at : ℕ} {out : List ℕ} (b : Begun f cs ns rs ws o i row word at out) where
+  module _ {i row word at : ℕ} {out : List ℕ} (b : Lent-begun f cs ns rs ws o i row word at out) where
     abbrev list : List Question
     list = listed cs ns rs ws
-
-    abbrev written-so-far : List ℕ
-    written-so-far = all-words f (take i list)
-
-    parts : length (all-words f list) ≡ length written-so-far + length (all-words f (drop i list))
-    parts = ap (λ (l : List Question). length (all-words f l)) (sym (take-append-drop i list)) ∙ rw (all-words-append f (take i list) (drop i list), length-append)
-
-    pub size : length out ≡ length o
-    size = ap length (b .holds) ∙ begun-length written-so-far o (omega (arith, parts, b .list-in .room))
 
     -- the question that comes next
     abbrev pub next-code : ℕ
@@ -133,9 +184,6 @@ module _ {f : Form} {cs ns : List ℕ} {rs : List ℤ} {ws o : List ℕ} where
 
     abbrev pub next : Question
     next = first-of next-code (getD ns i 0) (drop row rs) (drop word ws)
-
-    abbrev next-words : List ℕ
-    next-words = question-words f next
 
     module _ (h : i < length cs) where
       other : i < length ns
@@ -154,52 +202,25 @@ module _ {f : Form} {cs ns : List ℕ} {rs : List ℤ} {ws o : List ℕ} where
       pub words-left : word + long (width next-code) ≤ length ws
       words-left = omega (arith, room f _ _ _ _ _ (asked .0) .1, length-drop word ws, b .word-in)
 
-      after : List Question
-      after = listed (drop (i + 1) cs) (drop (i + 1) ns) (drop (row-long (width next-code)) (drop row rs)) (drop (long (width next-code)) (drop word ws))
+      pub rest : List Question
+      rest = listed (drop (i + 1) cs) (drop (i + 1) ns) (drop (row-long (width next-code)) (drop row rs)) (drop (long (width next-code)) (drop word ws))
 
-      split : drop i list ≡ next ∷ after
-      unfolding listed after
+      pub split : drop i list ≡ next ∷ rest
+      unfolding listed rest
       split = b .left ∙ rw (drop-cons cs i 0 h, drop-cons ns i 0 other, add-one)
 
-      pub fits-in : at + 4 * length next-words ≤ length out
-      unfolding all-words
-      fits-in = omega (arith, size, b .place, parts, b .list-in .room, ap (λ (l : List Question). length (all-words f l)) split, length-append next-words (all-words f after))
-
-      grown : all-words f (take (i + 1) list) ≡ written-so-far ++ next-words
-      unfolding all-words
-      grown =
-          ap (all-words f) (take-add i 1 list ∙ ap (λ (l : List Question). take i list ++ take 1 l) split) ∙ all-words-append f (take i list) (next ∷ [])
-          ∙ ap (λ (l : List ℕ). written-so-far ++ l) (append-nil next-words)
-
       pub more : {row-now word-now at-now : ℕ} {out-now : List ℕ} → row-now ≡ row + row-long (width next-code) → word-now ≡ word + long (width next-code) →
-          at-now ≡ at + 4 * length next-words → out-now ≡ take at out ++ begun next-words (drop at out) → Begun f cs ns rs ws o (i + 1) row-now word-now at-now out-now
-      unfolding after
-      more p q r e = rw (p, q, r) (record {
+          at-now ≡ at + 4 * length (question-words f next) → out-now ≡ take at out ++ begun (question-words f next) (drop at out) →
+          Lent-begun f cs ns rs ws o (i + 1) row-now word-now at-now out-now
+      unfolding rest
+      more p q r e = rw (p, q) (record {
         list-in = b .list-in;
         refused = rw (drop-drop (row-long (width next-code)) row rs, drop-drop (long (width next-code)) word ws) at (asked .1);
         left = sym (drop-drop 1 i list) ∙ ap (drop 1) split ∙ rw (drop-drop, drop-drop);
-        place = omega (arith, b .place, ap length grown, length-append written-so-far next-words);
-        holds = e ∙ rw (b .place, b .holds, grown) (begun-join written-so-far next-words o);
+        written = one-more (b .written) split r e;
         row-in = rows-left;
         word-in = words-left;
       })
 
-    module _ (h : length cs ≤ i) where
-      count : length list ≡ length cs
-      count = listed-length cs ns rs ws (b .list-in .same)
-
-      all-of : take i list ≡ list
-      all-of = take-all i list (omega (arith, count))
-
-      end-place : at ≡ 4 * length (all-words f list)
-      end-place = rw all-of at (b .place)
-
-      pub end-fits : at + 4 ≤ length out
-      end-fits = omega (arith, size, end-place, b .list-in .room)
-
-      pub done : take at out ++ (digits 256 4 (worded end-kind (length cs)) ++ drop (at + 4) out) ≡ written-in f list
-      unfolding written-in
-      done =
-          let w : ℕ = worded end-kind (length list) in
-          rw (← count, end-place, b .holds, all-of)
-          (begun-word (all-words f list) o w ∙ begun-all (all-words f list ++ w ∷ []) o (b .list-in .room ∙ rw length-append))
+    pub count : length cs ≡ length list
+    count = sym (listed-length cs ns rs ws (b .list-in .same))

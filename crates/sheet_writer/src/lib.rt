@@ -1,33 +1,14 @@
 // Writing a question list as a sheet. `write_sheet` is offered to callers: it takes any input and promises what
-// specs/Calls.antt says. A refusal is found before anything is written.
+// specs/Calls.antt says. A refusal is found before anything is written. The module `pack` is for the crates above; its functions have a `requires`.
 use sheet::Form;
 ghost use mathlib.Core.Path.{_≡_};
-ghost use mathlib.Core.Bool.{true};
-ghost use Prim.Native.Nat.{_*_, _≤_};
 ghost use lib.ListN.{length};
-ghost use Rattle.sheet.specs.Sheet.{question, question-words, question-good, written-in};
-ghost use Rattle.sheet.specs.Within.{Row-form};
+ghost use Rattle.sheet.specs.Sheet.{written-in};
 ghost use Rattle.sheet_writer.specs.Calls.{listed, Write-says};
-ghost use Rattle.sheet_writer.specs.Within.{begun, List-within};
+ghost use Rattle.sheet_writer.specs.Within.{List-within};
 
 mod list;
-mod pack;
-
-// Stores the words of a question at the start of an output.
-fn write_question(f: Form, code: u32, number: u32, row: &[i16], word: &[u8], output: &mut [u8])
-    requires { ⌜ Row-form f ⌝ }
-    requires { ⌜ question-good f (question code number (now row) (now word)) ≡ true ⌝ }
-    requires { ⌜ 4 * length (question-words f (question code number (now row) (now word))) ≤ length (now output) ⌝ }
-    ensures { λ _. ⌜ now (output .exit) ≡ begun (question-words f (question code number (now (row .entry)) (now (word .entry)))) (now (output .entry)) ⌝ }
-{
-    let n = 1 + sheet::words::question_words_of(f, code);
-    let mut j = 0;
-    while j < n {
-        let w = pack::question_word(f, code, number, row, word, j);
-        pack::put_word(output, j, w);
-        j += 1;
-    }
-}
+pub mod pack;
 
 // Stores the sheet of an accepted list.
 fn write_list(
@@ -51,7 +32,7 @@ fn write_list(
         let shape = chosen.shape;
         let row_end = row + shape.bits;
         let word_end = word + shape.n;
-        write_question(
+        pack::write_question(
             f,
             code,
             numbers[i],
@@ -64,8 +45,7 @@ fn write_list(
         word = word_end;
         i += 1;
     }
-    let end = sheet::words::END * sheet::words::KINDS + codes.len() as u32;
-    pack::put_word(output, at / 4, end);
+    pack::put_end(output, at, codes.len() as u32);
 }
 
 // Writes the sheet of a question list, lent as its codes, its question numbers, all rows end to end and all words end to

@@ -3,11 +3,11 @@ use sheet::Form;
 ghost use mathlib.Core.Path.{_≡_};
 ghost use mathlib.Core.Bool.{true};
 ghost use mathlib.Core.List.{_++_};
-ghost use Prim.Native.Nat.{_+_, _*_, _-_, _/_, _^_, _<_, _≤_};
+ghost use Prim.Native.Nat.{_+_, _*_, _-_, _/_, _%_, _^_, _<_, _≤_};
 ghost use lib.ListN.{length, getD, take, drop};
 ghost use Rattle.metric.specs.Row.{reliability-good};
-ghost use Rattle.sheet.specs.Sheet.{digits, packed, unsigned-of, question, question-words, question-good, worded};
-ghost use Rattle.sheet_writer.specs.Within.{items-of, Packs};
+ghost use Rattle.sheet.specs.Sheet.{digits, packed, unsigned-of, question, question-words, question-good, worded, end-kind};
+ghost use Rattle.sheet_writer.specs.Within.{begun, items-of, Packs};
 ghost use Rattle.sheet.specs.Within.{Row-form};
 
 // Two's complement.
@@ -56,7 +56,7 @@ fn items_word(row: &[i16], word: &[u8], f: Form, n: usize, k: usize) -> u32
 }
 
 // Word j of a question.
-pub fn question_word(f: Form, code: u32, number: u32, row: &[i16], word: &[u8], j: usize) -> u32
+fn question_word(f: Form, code: u32, number: u32, row: &[i16], word: &[u8], j: usize) -> u32
     requires { ⌜ Row-form f ⌝ }
     requires { ⌜ question-good f (question code number (now row) (now word)) ≡ true ⌝ }
     requires { ⌜ j < length (question-words f (question code number (now row) (now word))) ⌝ }
@@ -73,7 +73,7 @@ pub fn question_word(f: Form, code: u32, number: u32, row: &[i16], word: &[u8], 
 }
 
 // Stores a word, low byte first.
-pub fn put_word(output: &mut [u8], i: usize, w: u32)
+fn put_word(output: &mut [u8], i: usize, w: u32)
     requires { ⌜ 4 * i + 4 ≤ length (now output) ⌝ }
     ensures { λ _. ⌜ now (output .exit) ≡ take (4 * i) (now (output .entry)) ++ (digits 256 4 w ++ drop (4 * i + 4) (now (output .entry))) ⌝ }
 {
@@ -82,4 +82,34 @@ pub fn put_word(output: &mut [u8], i: usize, w: u32)
     output[at + 1] = (w / 256 % 256) as u8;
     output[at + 2] = (w / 256 / 256 % 256) as u8;
     output[at + 3] = (w / 256 / 256 / 256 % 256) as u8;
+}
+
+// Stores the words of a question at the start of an output.
+pub fn write_question(f: Form, code: u32, number: u32, row: &[i16], word: &[u8], output: &mut [u8])
+    requires { ⌜ Row-form f ⌝ }
+    requires { ⌜ question-good f (question code number (now row) (now word)) ≡ true ⌝ }
+    requires { ⌜ 4 * length (question-words f (question code number (now row) (now word))) ≤ length (now output) ⌝ }
+    ensures { λ _. ⌜ now (output .exit) ≡ begun (question-words f (question code number (now (row .entry)) (now (word .entry)))) (now (output .entry)) ⌝ }
+{
+    let n = 1 + sheet::words::question_words_of(f, code);
+    let mut j = 0;
+    while j < n {
+        let w = question_word(f, code, number, row, word, j);
+        put_word(output, j, w);
+        j += 1;
+    }
+}
+
+// Stores the end of a sheet of so many questions.
+pub fn put_end(output: &mut [u8], at: usize, count: u32)
+    requires { ⌜ at % 4 ≡ 0 ⌝ }
+    requires { ⌜ at + 4 ≤ length (now output) ⌝ }
+    requires { ⌜ count ≤ 200 ⌝ }
+    ensures { λ _. ⌜ now (output .exit) ≡ take at (now (output .entry)) ++ (digits 256 4 (worded end-kind count) ++ drop (at + 4) (now (output .entry))) ⌝ }
+{
+    put_word(
+        output,
+        at / 4,
+        sheet::words::END * sheet::words::KINDS + count,
+    );
 }

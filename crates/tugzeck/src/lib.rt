@@ -6,6 +6,7 @@
 use code::Membership;
 use decoder::Decoding;
 use marker::Mark;
+use practice::Drawn;
 use report::Listed;
 use sheet_reader::Yield;
 use split::Splitting;
@@ -19,6 +20,7 @@ ghost use Rattle.marker.specs.Calls.{Mark-says};
 ghost use Rattle.quantiser.specs.Calls.{Quantise-says};
 ghost use Rattle.receiver.specs.Calls.{Receive-says};
 ghost use Rattle.sheet_writer.specs.Calls.{Write-says};
+ghost use Rattle.practice.specs.Calls.{Practice-says};
 ghost use Rattle.report.specs.Calls.{List-says};
 ghost use Rattle.tugzeck.specs.Calls.{Judge-says, none-found, asked, Question-says};
 
@@ -306,6 +308,15 @@ pub extern "C" fn tugzeck_write_sheet(
     ensures { λ r. ⌜ Write-says (now (codes .entry)) (now (numbers .entry)) (now (rows .entry)) (now (words .entry)) r (now (output .entry)) (now (output .exit)) ⌝ }
 {
     sheet_writer::write_sheet(codes, numbers, rows, words, output)
+}
+
+// Writes the practice sheet of so many questions of a code, drawn from a state: 0 and the state after the last draw. Or it refuses by 12, 1 or 4 with the
+// state as it was lent, and writes nothing.
+#[no_mangle]
+pub extern "C" fn tugzeck_practice(code: u32, count: u32, state: u32, output: &mut [u8]) -> Drawn
+    ensures { λ a. ⌜ Practice-says code count state a (now (output .entry)) (now (output .exit)) ⌝ }
+{
+    practice::draw_sheet(code, count, state, output)
 }
 
 // Writes the listing of a sheet, accepted or refused, at the start of 19,058 bytes: 0 with the length of the text. Or it refuses by 4 with

@@ -1,6 +1,6 @@
 //! Compares every call of the library with independent Rust, written from the paper on the codes and not from the library: every codeword of
 //! codes 1 and 2, a Wolf trellis of the whole of code 3 (shared with the bench), a search over the configurations of every code, layers joined bit by
-//! bit, a judge and a writer of sheets, plain f64 arithmetic, received symbols read from the end.
+//! bit, a judge and a writer of sheets, rows drawn from a seed, plain f64 arithmetic, received symbols read from the end.
 //! Each test prints what it compared; `cargo test -- --nocapture` shows it.
 
 #[path = "../../../../bench/src/codes.rs"]
@@ -20,6 +20,7 @@ mod named;
 mod order;
 mod paper;
 mod parameters;
+mod practice;
 mod raw_results;
 mod received;
 mod rows;

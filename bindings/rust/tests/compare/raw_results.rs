@@ -6,6 +6,13 @@ mod raw;
 
 use raw::*;
 
+/// What the library answers for a practice sheet: the number and the state, refused or not.
+pub fn drawn(code: u32, count: u32, state: u32, output: &mut [u8]) -> (u32, u32) {
+    // SAFETY: it is a slice, borrowed alone.
+    let Drawn { number, state } = unsafe { tugzeck_practice(code, count, state, output.as_mut_ptr(), output.len()) };
+    (number, state)
+}
+
 #[test]
 fn every_field() {
     let word = [3u8, 6, 1, 0, 0, 0, 0];
@@ -42,7 +49,8 @@ fn every_field() {
     let mut sheet = [0u8; 44];
     let mut text = vec![0u8; tugzeck::LISTING];
     tugzeck::write_sheet(&[1], &[77], &row, &word, &mut sheet).expect("a good list");
-    let s = sheet.as_ptr();
+    let mut drill = [0u8; 84];
+    let (s, d) = (sheet.as_ptr(), drill.as_mut_ptr());
     // SAFETY: as above.
     unsafe {
         let Judgement { number, questions } = tugzeck_judge_sheet(s, 44);
@@ -58,6 +66,17 @@ fn every_field() {
         assert_eq!((number, found, code, question), (4, 0, 0, 0));
         let Asked { number, found, code, question } = tugzeck_question(s, 43, 0, n, 21, b, 7);
         assert_eq!((number, found, code, question), (9, 0, 0, 0));
+
+        let Drawn { number, state } = tugzeck_practice(1, 2, 42, d, 84);
+        assert_eq!((number, state), (0, 0xF519_F884));
+        let Drawn { number, state } = tugzeck_practice(1, 0, 42, d, 4);
+        assert_eq!((number, state), (0, 42));
+        let Drawn { number, state } = tugzeck_practice(6, 201, 42, d, 3);
+        assert_eq!((number, state), (12, 42));
+        let Drawn { number, state } = tugzeck_practice(6, 0, u32::MAX, d, 3);
+        assert_eq!((number, state), (1, u32::MAX));
+        let Drawn { number, state } = tugzeck_practice(1, 2, 42, d, 83);
+        assert_eq!((number, state), (4, 42));
 
         let Listed { number, length } = tugzeck_list(s, 44, text.as_mut_ptr(), text.len());
         assert_eq!((number, length), (0, text.iter().position(|c| *c == 0).expect("an end")));

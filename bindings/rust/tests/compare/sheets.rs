@@ -46,7 +46,7 @@ fn listed(sheet: &[u8]) -> String {
 }
 
 /// Judges a sheet and reads it at some indices; everything as the independent judge says. Answers its refusal, or 0.
-fn judged(sheet: &[u8], indices: &[usize]) -> u32 {
+pub fn judged(sheet: &[u8], indices: &[usize]) -> u32 {
     let expected = paper::read(sheet);
     let count = expected.as_ref().map(|q| q.len() as u32).map_err(|e| *e);
     assert_eq!(tugzeck::judge_sheet(sheet).map_err(tugzeck::Refusal::number), count, "{sheet:02x?}");

@@ -53,6 +53,7 @@ fn results(seed: u64) -> (Vec<String>, Vec<Vec<u8>>) {
             let (mut row, mut word, mut soft) = (vec![0; bits], vec![0; n], vec![0; bits]);
             let (mut message, mut bch) = (vec![0; tugzeck::message_length(code)], vec![0; bits]);
             let mut sheet = vec![0; tugzeck::sheet_length(&[code])];
+            let mut drill = vec![0; tugzeck::practice_length(code, k)];
             let answers = (
                 tugzeck::quantise(code, &samples, &mut row),
                 tugzeck::receive(code, &vec![2; bits], &samples, &mut row),
@@ -65,13 +66,15 @@ fn results(seed: u64) -> (Vec<String>, Vec<Vec<u8>>) {
                 tugzeck::write_sheet(&[code], &[k], &row, &word, &mut sheet),
                 tugzeck::judge_sheet(&sheet),
                 tugzeck::question(&sheet, 0, &mut row, &mut word),
+                tugzeck::practice(code, k, seed as u32, &mut drill),
             );
             assert!(answers.0.is_ok() && answers.2.is_ok() && answers.7 == Ok(tugzeck::Verdict::Best));
             assert_eq!(answers.10, Ok(Some(tugzeck::Question { code, number: k })));
+            assert!(answers.11.is_ok());
             let mut joined = vec![0; n];
             assert_eq!(answers.6.and_then(|configuration| tugzeck::join(code, configuration, &bch, &mut joined)), Ok(()));
             assert_eq!(joined, word);
-            (format!("{answers:?} {row:?} {word:?} {soft:?} {message:?} {bch:?} {sheet:?}"), sheet)
+            (format!("{answers:?} {row:?} {word:?} {soft:?} {message:?} {bch:?} {sheet:?} {drill:?}"), sheet)
         })
         .unzip()
 }

@@ -13,13 +13,13 @@ use Rattle.sheet.proofs.Forms.{question-long-le, at-most, next-in}
 use Rattle.sheet.proofs.Longest.{question-length}
 use Rattle.sheet_writer.specs.Within.{begun}
 use Rattle.sheet_writer.proofs.Lists.{rest-is, next-less, other-in, sum-in, row-fits, length-fits}
-use Rattle.sheet_writer.proofs.Writing.{lent-is, part-room, part-is, Begun, begin, size, next-code, next, next-good, rows-left, words-left, fits-in, more, end-fits, done}
+use Rattle.sheet_writer.proofs.Writing.{lent-is, part-room, part-is, size, whole-words, fits-in, end-fits, done, Lent-begun, lent-begin, next-code, next, next-good, rows-left, words-left, split, more, count}
 use borrow.Author.Needs.{scaled-fits}
 use Rattle.sheet_writer.proofs.write_list.Statement.{statement}
 use Rattle.sheet_writer.proofs.write_list.Tie as tie
 
 abbrev Inv-loop : tie.InvT-loop
-Inv-loop f codes numbers rows words output₀ i₀ row₀ word₀ at₀ output i row word at = Begun f codes numbers rows words output₀ i row word at output
+Inv-loop f codes numbers rows words output₀ i₀ row₀ word₀ at₀ output i row word at = Lent-begun f codes numbers rows words output₀ i row word at output
 
 abbrev μ-loop : tie.MeasureT-loop
 μ-loop f codes numbers rows words output₀ i₀ row₀ word₀ at₀ output i row word at = length codes - i
@@ -42,11 +42,8 @@ one-more e h = omega arith
 less-than : {a b : ℕ} → a ≡ b → b * 1 < 2 ^ 63 → a * 1 < 2 ^ 63
 less-than e h = rw e h
 
-end-in : {a b n : ℕ} → a + 4 ≤ n → b ≡ a → b + 4 ≤ n
-end-in h e = rw e h
-
-end-fits-32 : {n : ℕ} → n ≤ 200 → Fits w32 (4026531840 + n)
-end-fits-32 h = record { fits = omega arith }
+le-end : {a b i : ℕ} → a ≡ b → a ≤ i → b ≤ i
+le-end e h = rw (← e) h
 
 few-fits : {n : ℕ} → n ≤ 75 → Fits w64 (1 + n) × Fits w64 (4 * (1 + n))
 few-fits h = (record { fits = omega arith }, record { fits = omega arith })
@@ -64,7 +61,7 @@ words-in : (b : tie.After-by-number Inv-loop μ-loop) → at b .loop .word + b .
 words-in b = sum-in _ (word-is b) (words-left (at b .loop .inv) (in-loop b .loop-test .taken))
 
 output-in : (b : tie.After-by-number Inv-loop μ-loop) → at b .loop .at + 4 * length (question-words (st (at b) .args .f) (next (at b .loop .inv))) ≤ length (at b .loop .output)
-output-in b = fits-in (at b .loop .inv) (in-loop b .loop-test .taken)
+output-in b = fits-in (at b .loop .inv .written) (split (at b .loop .inv) (in-loop b .loop-test .taken))
 
 -- the parts that are lent make the next question
 same-question : (b : tie.After-by-number Inv-loop μ-loop) → let a = at b in let s = st a .args in
@@ -100,7 +97,7 @@ write-question-requires c κs = let b = by c in let a = at b in let e = same-que
 
 add-at-2 : tie.Need-add-at-2 Inv-loop μ-loop
 add-at-2 c = let b = asked-by c in let a = at b in
-    fits-le (sum-in _ (ap (_*_ 4) (words-here c)) (output-in b)) (length-fits _ 0 (less-than (size (a .loop .inv)) (st a .good .1 .1 .1 .1 .1 .0 .1)))
+    fits-le (sum-in _ (ap (_*_ 4) (words-here c)) (output-in b)) (length-fits _ 0 (less-than (size (a .loop .inv .written)) (st a .good .1 .1 .1 .1 .1 .0 .1)))
 
 loop-again : tie.Need-loop-again Inv-loop μ-loop
 loop-again c = let b = asked-by c in let a = at b in
@@ -108,22 +105,14 @@ loop-again c = let b = asked-by c in let a = at b in
     (part-is (a .loop .output) (a .loop .at)
     (c .before .before .before .write-question .ensures ∙ ap₂ begun (ap (question-words (st a .args .f)) (same-question b)) (rest-is (a .loop .output) (a .loop .at))))
 
-fourth : {n : ℕ} (k : ℕ) → n ≡ 4 * k → 4 * (n / 4) ≡ n
-fourth k e = omega arith
-
-put-word-requires : tie.Need-put-word-requires Inv-loop μ-loop
-put-word-requires c κs = let l = c .before in end-in (end-fits (l .before .loop .inv) (l .loop-test .left)) (fourth _ (l .before .loop .inv .place))
-
-end-is : (n : ℕ) → 15 * 268435456 + n ≡ worded end-kind n
-unfolding worded end-kind
-end-is n = refl
+put-end-requires : tie.Need-put-end-requires Inv-loop μ-loop
+put-end-requires c κs = let l = c .before in let b = l .before .loop .inv in
+    (whole-words (b .written), (end-fits (b .written) (le-end (count b) (l .loop-test .left)), st (l .before) .pre .few))
 
 returns : tie.Need-returns Inv-loop μ-loop
 returns c =
-    let p = c .before .before in let l = p .before .before in let a = l .before in
-    p .put-word .ensures
-    ∙ ap₂ (λ (n w : ℕ). take n (a .loop .output) ++ (digits 256 4 w ++ drop (n + 4) (a .loop .output))) (fourth _ (a .loop .inv .place)) (end-is (length (now (st a .args .codes))))
-    ∙ done (a .loop .inv) (l .loop-test .left)
+    let p = c .before .before in let l = p .before .before in let b = l .before .loop .inv in
+    p .put-end .ensures ∙ done (b .written) (le-end (count b) (l .loop-test .left)) (count b)
 
 pub write-list-spec : {M : Type 1} → statement M
 write-list-spec =
@@ -131,7 +120,7 @@ write-list-spec =
     (tie.spec
     Inv-loop
     μ-loop
-    (λ c. begin (c .before .before .before .before .pre))
+    (λ c. lent-begin (c .before .before .before .before .pre))
     (λ c. scaled-fits _ _ 4 (c .loop-test .taken) (st (c .before) .good .1 .0 .1))
     (λ c. c .before .loop-test .taken)
     (λ c κs. search needs)
@@ -157,9 +146,7 @@ write-list-spec =
     (λ c. let i = in-loop (asked-by c) in fits-le (next-in (i .loop-test .taken)) (length-fits _ 3 (st (i .before) .good .1 .0 .1)))
     (λ c. next-less (in-loop (asked-by c) .loop-test .taken))
     loop-again
-    (λ c. search needs)
-    (λ c. fits-below tt (st (c .before) .pre .few))
-    (λ c. end-fits-32 (st (c .before) .pre .few))
-    put-word-requires
-    (λ c. let p = c .before .before in p .put-word .kept .0 ∙ size (p .before .before .before .loop .inv))
+    (λ c. fits-below tt (st (c .before .before) .pre .few))
+    put-end-requires
+    (λ c. let p = c .before .before in p .put-end .kept .0 ∙ size (p .before .before .before .loop .inv .written))
     returns)

@@ -1,4 +1,4 @@
--- `sheet_writer::write_question` meets its contract.
+-- `sheet_writer::pack::write_question` meets its contract.
 -- Assumes nothing.
 use Rattle.basics.proofs.Kit.{_≡_, refl, sym, ap, ap₂, _∙_, List, _++_, ℕ, _+_, _-_, _*_, _≤_, _<_, arith, needs, length, take, drop, now}
 use lib.Seq.{take-all}
@@ -7,8 +7,8 @@ use Rattle.sheet.proofs.Forms.{question-long-le}
 use Rattle.sheet.proofs.Longest.{question-length}
 use Rattle.sheet_writer.specs.Within.{begun}
 use Rattle.sheet_writer.proofs.Packing.{begun-none, begun-next}
-use Rattle.sheet_writer.proofs.write_question.Statement.{statement}
-use Rattle.sheet_writer.proofs.write_question.Tie as tie
+use Rattle.sheet_writer.proofs.pack.write_question.Statement.{statement}
+use Rattle.sheet_writer.proofs.pack.write_question.Tie as tie
 
 abbrev Inv-loop : tie.InvT-loop
 Inv-loop f code number row word output₀ n j₀ output j =

@@ -1,0 +1,4 @@
+pub mod Practice
+pub mod Calls
+pub mod Within
+pub mod Promise
