@@ -4,8 +4,9 @@
  *     cc -std=c99 -pedantic -Wall -Wextra -Werror -I include programs/practice.c target/staticlib/libtugzeck.a -o target/practice
  *     target/practice 3 20 0x2A > target/drill.sheet
  *
- * writes 20 questions of code 3, drawn from the state 42. CODE is 1 to 5, COUNT 0 to 200, SEED any number below 2^32; each in decimal, or in hexadecimal
- * behind 0x. Status 0: the sheet is written; 1: it could not be; 2: an argument is wrong, and nothing is written.
+ * writes 20 questions of code 3, drawn from the state 42, and says on standard error with which SEED the drill goes on: 30 more from there have the rows that
+ * 50 would have had. CODE is 1 to 5, COUNT 0 to 200, SEED any number below 2^32; each in decimal, or in hexadecimal behind 0x. Status 0: the sheet is
+ * written; 1: it could not be; 2: an argument is wrong, and nothing is written.
  */
 #include <stdio.h>
 
@@ -91,5 +92,6 @@ int main(int argc, char **argv) {
         fputs("practice: the sheet could not be written to standard output\n", stderr);
         return 1;
     }
+    fprintf(stderr, "practice: to go on from here, SEED is 0x%08lX\n", (unsigned long)d.state);
     return 0;
 }

@@ -79,4 +79,4 @@ pub fn sheet(code: u32, questions: &[(Vec<i16>, Vec<u8>)]) -> Vec<u8> {
     output
 }
 
-pub use package::{join, list, quantise, receive, split, LISTING, SCRATCH};
+pub use package::{join, list, practice, practice_length, quantise, receive, split, LISTING, SCRATCH};

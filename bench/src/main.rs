@@ -2,13 +2,14 @@
 //!
 //!     bench check CODE COUNT               all of them agree on that many rows
 //!     bench call WHICH CALL CODE N [ROWS]  N calls on rows of one pool, for a count of instructions
-//!     bench time WHICH CALL CODE N [ROWS]  nanoseconds a call but split and join, the least of five runs of N calls
+//!     bench time WHICH CALL CODE N [ROWS]  nanoseconds a call but split, join and practice, the least of five runs of N calls
 //!
-//! WHICH is library, plain or, for codes 1 to 3, wolf; CALL is decode or mark, for library and plain also quantise, receive, split or join, for
-//! the library alone list, a listing of the whole pool, or paper, one of 200 questions, the pool again and again. ROWS is random, as where none
+//! WHICH is library, plain or, for codes 1 to 3, wolf; CALL is decode or mark, for library and plain also quantise, receive, split, join or practice, a
+//! sheet of 200 questions, for the library alone list, a listing of the whole pool, or paper, one of 200 questions, the pool again and again. ROWS is random, as where none
 //! is named, or zero, sparse or small (of -1, 0 and 1).
 
 mod codes;
+mod drill;
 mod front;
 mod library;
 mod parts;
@@ -226,6 +227,24 @@ fn layer_calls(which: &str, call: &str, number: u32, pool: &[(Vec<i16>, Vec<u8>)
     }
 }
 
+/// One practice sheet, of so many questions as the longest has.
+fn drilled(which: &str, code: u32, seed: u32, output: &mut [u8]) -> u32 {
+    let state = match which {
+        "library" => library::practice(code, PAPER as u32, seed, output).ok(),
+        "plain" => drill::practice(code, PAPER as u32, seed, output).ok(),
+        _ => usage(),
+    };
+    state.expect("a sheet")
+}
+
+fn drill_calls(which: &str, code: u32, n: usize) {
+    let mut output = vec![0; library::practice_length(code, PAPER as u32)];
+    for k in 0..n {
+        black_box(drilled(which, code, black_box(k as u32), &mut output));
+        black_box(&output);
+    }
+}
+
 fn calls(which: &str, call: &str, decoders: &mut Decoders, pool: &[(Vec<i16>, Vec<u8>)], n: usize) {
     let code = Code::of(decoders.number);
     let mut word = vec![0; code.n];
@@ -317,6 +336,13 @@ fn check(number: u32, count: usize) {
             assert_eq!(joined, *word, "{which}: word {k} joined");
         }
     }
+    for seed in (0..POOL as u32).map(|k| k.wrapping_mul(0x85EB_CA6B)) {
+        let sheets = ["library", "plain"].map(|which| {
+            let mut output = vec![0; library::practice_length(number, PAPER as u32)];
+            (drilled(which, number, seed, &mut output), output)
+        });
+        assert_eq!(sheets[0], sheets[1], "the practice sheet from {seed}");
+    }
     let [none, short, best] = verdicts;
     print!("code {number}: {} agree on {count} rows, {ties} with another tied word, ", all.join(", "));
     println!("and on marks of {best} best, {short} short and {none} other words");
@@ -333,6 +359,7 @@ fn main() {
             let code = number(code);
             layer_calls(which, call, code, &pool(code, kind), number(n) as usize);
         }
+        ["call", which, "practice", code, n] | ["call", which, "practice", code, n, _] => drill_calls(which, number(code), number(n) as usize),
         ["call", which, call, code, n] | ["call", which, call, code, n, _] => {
             let code = number(code);
             calls(which, call, &mut Decoders::new(code), &pool(code, kind), number(n) as usize);

@@ -1,5 +1,5 @@
 #!/usr/bin/env python3
-"""The sheets that the program `practice` must write, and what it must say of wrong arguments.
+"""The sheets that the program `practice` must write, with what seed it must say the drill goes on, and what it must say of wrong arguments.
 
     tests/practice/expected.py PROGRAM
 
@@ -38,6 +38,11 @@ def sheet(code, count, seed):
         row = [reliability(seed, i * ROWS[code] + entry) for entry in range(ROWS[code])]
         words += [1 << 28 | code << 24 | i + 1] + packed(2, 8, 3, row) + packed(3, 4, 6, [0] * WORDS[code])
     return b"".join(word.to_bytes(4, "little") for word in words + [15 << 28 | count])
+
+
+def goes_on(code, count, seed):
+    """What is said of the state after the last draw."""
+    return b"practice: to go on from here, SEED is 0x%08X\n" % ((seed + count * ROWS[code] * 0x9E3779B9) % 2**32)
 
 
 # --- what is said of wrong arguments
@@ -98,14 +103,14 @@ def accepted():
     triples += [(code, 2, seed) for code in ROWS for seed in seeds]
     questions = 0
     for triple in triples:
-        expected = sheet(*triple)
+        expected, state = sheet(*triple), goes_on(*triple)
         for i, spelt in enumerate(zip(*map(spellings, triple))):
             # the three numbers in spellings of their own
-            run(spelt, 0, expected, b"")
-            run((spellings(triple[0])[i - 1], spellings(triple[1])[i - 2], spelt[2]), 0, expected, b"")
+            run(spelt, 0, expected, state)
+            run((spellings(triple[0])[i - 1], spellings(triple[1])[i - 2], spelt[2]), 0, expected, state)
             questions += 2 * triple[1]
-    run(("3", "20", "0x2A"), 0, sheet(3, 20, 42), b"")
-    run(("1", "010", "0010"), 0, sheet(1, 10, 10), b"")
+    run(("3", "20", "0x2A"), 0, sheet(3, 20, 42), goes_on(3, 20, 42))
+    run(("1", "010", "0010"), 0, sheet(1, 10, 10), goes_on(1, 10, 10))
     return 2 * len(spellings(0)) * len(triples) + 2, questions + 30
 
 
