@@ -1,6 +1,6 @@
 -- What is drawn, one reliability after another and one question after another.
 -- Assumes nothing.
-use Rattle.basics.proofs.Kit.{_≡_, refl, sym, ap, ap₂, _∙_, Bool, true, false, _&&_, cond, List, [], _∷_, _++_, ℕ, zero, suc, _+_, _-_, _*_, _%_, _^_, _≤_, _<_, arith, length, drop, ltb, ℤ, pos, negsuc, natAbs}
+use Rattle.basics.proofs.Kit.{_≡_, refl, ap, ap₂, Bool, true, false, _&&_, cond, List, [], _∷_, _++_, ℕ, zero, suc, _+_, _-_, _%_, _≤_, _<_, arith, length, ltb, ℤ, pos, negsuc, natAbs}
 use native.Mathlib.Nat.{zero-add, suc-add}
 use borrow.Author.Tests.{ltb-true, ltb-false, le-leb}
 use lib.IntN.{subℕ}

@@ -1,6 +1,6 @@
 -- The statements of specs/Promise.antt.
 -- Assumes nothing.
-use Rattle.basics.proofs.Kit.{_≡_, refl, sym, ap, ap₂, _∙_, List, [], _∷_, _++_, ℕ, zero, suc, _+_, _*_, _≤_, true, arith, ℤ}
+use Rattle.basics.proofs.Kit.{_≡_, refl, sym, ap, _∙_, List, _∷_, _++_, ℕ, zero, suc, _+_, _*_, _≤_, true, arith, ℤ}
 use mathlib.Core.List.{map}
 use native.Mathlib.Nat.{zero-add, suc-add, zero-mul, suc-mul, add-comm, add-mul}
 use Rattle.refusal.proofs.Outcomes.{outcome-zero}

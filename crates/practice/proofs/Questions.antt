@@ -1,7 +1,7 @@
 -- The questions that are drawn: each is one that a sheet can hold, and what is left to draw.
 -- Assumes nothing.
-use Rattle.basics.proofs.Kit.{_≡_, refl, sym, ap, ap₂, _∙_, true, _&&_, List, [], _∷_, _++_, ℕ, zero, suc, _+_, _-_, _*_, _^_, _≤_, _<_, arith, length, take, drop, ℤ}
-use native.Mathlib.Nat.{suc-mul, zero-lt-suc}
+use Rattle.basics.proofs.Kit.{_≡_, refl, sym, ap, ap₂, _∙_, true, _&&_, List, _∷_, _++_, ℕ, zero, suc, _+_, _-_, _*_, _^_, _≤_, _<_, arith, length, take, ℤ}
+use native.Mathlib.Nat.{suc-mul}
 use native.Mathlib.Numerals.{add-one}
 use borrow.Author.Tests.{lt-ltb, leb-true, eqb-true}
 use lib.Pow.{pow-pos}

@@ -4,7 +4,6 @@ use mathlib.Core.List.{List, _++_, map}
 use Prim.Native.Nat.{ℕ, _+_}
 use lib.IntN.{ℤ}
 use Rattle.sheet.specs.Sheet.{sheet-refusal, questions}
-use Rattle.practice.specs.declared.Drawn.{Drawn}
 use Rattle.practice.specs.Practice.{drawn}
 use Rattle.practice.specs.Calls.{Practice-says}
 

@@ -1,7 +1,7 @@
 -- `practice::draw_question` meets its contract.
 -- Assumes nothing.
-use Rattle.basics.proofs.Kit.{_≡_, refl, sym, ap, ap₂, _∙_, _++_, ℕ, _+_, _*_, _≤_, arith, needs, length, take, drop, now, ℤ, pos}
-use lib.ListN.{replicate, length-append, length-replicate}
+use Rattle.basics.proofs.Kit.{_≡_, sym, ap, ap₂, _∙_, _++_, ℕ, _+_, _*_, _≤_, arith, needs, length, take, drop, now, pos}
+use lib.ListN.{replicate, length-append}
 use lib.Seq.{length-take-le}
 use Rattle.code.specs.Code.{width, long}
 use Rattle.code.specs.Bits.{row-long}

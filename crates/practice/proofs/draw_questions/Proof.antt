@@ -1,18 +1,17 @@
 -- `practice::draw_questions` meets its contract.
 -- Assumes nothing.
-use Rattle.basics.proofs.Kit.{_≡_, refl, sym, ap, _∙_, List, _∷_, ℕ, suc, _+_, _-_, _*_, _≤_, _<_, arith, needs, length, drop, now}
+use Rattle.basics.proofs.Kit.{_≡_, sym, ap, _∙_, List, _∷_, ℕ, _+_, _-_, _*_, _≤_, arith, needs, length, drop}
 use native.Mathlib.Nat.{le-trans, le-refl, le-add-right, zero-mul, suc-mul, sub-zero}
 use native.Mathlib.Numerals.{add-one}
-use mir.Facts.{fits-le}
 use lib.ListN.{length-drop}
 use lib.Seq.{drop-drop}
 use Rattle.code.specs.Code.{width}
 use Rattle.code.specs.Bits.{row-long}
-use Rattle.sheet.specs.Sheet.{Question, reliabilities, question-long, question-words}
+use Rattle.sheet.specs.Sheet.{Question, reliabilities, question-words}
 use Rattle.sheet.proofs.Forms.{row-form, question-long-le}
 use Rattle.sheet.proofs.Longest.{question-length}
 use Rattle.sheet_writer.specs.Within.{begun}
-use Rattle.sheet_writer.proofs.Lists.{rest-is, length-fits}
+use Rattle.sheet_writer.proofs.Lists.{rest-is}
 use Rattle.sheet_writer.proofs.Writing.{part-is, Begun, begin, size, whole-words, fits-in, one-more, end-fits, done}
 use Rattle.practice.specs.Practice.{after, drawn-from, drawn, state-after}
 use Rattle.practice.specs.Within.{question-drawn}

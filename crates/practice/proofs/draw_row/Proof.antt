@@ -1,6 +1,6 @@
 -- `practice::draw_row` meets its contract.
 -- Assumes nothing.
-use Rattle.basics.proofs.Kit.{_≡_, refl, sym, ap, ap₂, _∙_, List, [], _∷_, _++_, ℕ, _+_, _-_, _≤_, arith, needs, length, take, now, ℤ}
+use Rattle.basics.proofs.Kit.{_≡_, refl, sym, ap, ap₂, _∙_, List, [], _∷_, _++_, _+_, _-_, _≤_, arith, needs, length, take, now, ℤ}
 use native.Mathlib.Numerals.{add-one}
 use lib.ListN.{length-set}
 use lib.Seq.{take-all, take-suc-set}

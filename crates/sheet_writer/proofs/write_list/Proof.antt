@@ -1,14 +1,14 @@
 -- `sheet_writer::write_list` meets its contract.
 -- Assumes nothing.
-use Rattle.basics.proofs.Kit.{_≡_, refl, ap, ap₂, _∙_, _++_, ℕ, suc, _+_, _-_, _*_, _/_, _^_, _≤_, _<_, arith, needs, length, getD, take, drop, now}
+use Rattle.basics.proofs.Kit.{_≡_, ap, ap₂, _∙_, ℕ, suc, _+_, _-_, _*_, _^_, _≤_, _<_, arith, needs, length, getD, take, drop, now}
 use native.Mathlib.Nat.{le-refl, le-trans, le-add-right}
-use mir.Syntax.{w32, w64}
+use mir.Syntax.{w64}
 use mir.Val.{Fits}
 use mir.Facts.{fits-le, fits-below}
 use Rattle.code.proofs.Promise.{by-number-m}
 use Rattle.code.specs.Code.{width, long}
 use Rattle.code.specs.Bits.{row-long}
-use Rattle.sheet.specs.Sheet.{question, digits, worded, end-kind, question-long, question-words, question-good}
+use Rattle.sheet.specs.Sheet.{question, question-long, question-words, question-good}
 use Rattle.sheet.proofs.Forms.{question-long-le, at-most, next-in}
 use Rattle.sheet.proofs.Longest.{question-length}
 use Rattle.sheet_writer.specs.Within.{begun}

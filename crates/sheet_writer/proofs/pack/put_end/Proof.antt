@@ -1,6 +1,6 @@
 -- `sheet_writer::pack::put_end` meets its contract.
 -- Assumes nothing.
-use Rattle.basics.proofs.Kit.{_≡_, refl, ap₂, _∙_, List, _++_, ℕ, _+_, _*_, _/_, _%_, _≤_, arith, needs, take, drop, now}
+use Rattle.basics.proofs.Kit.{_≡_, refl, ap₂, _∙_, _++_, ℕ, _+_, _*_, _/_, _%_, arith, needs, take, drop, now}
 use Rattle.sheet.specs.Sheet.{digits, worded, end-kind}
 use Rattle.sheet_writer.proofs.pack.put_end.Statement.{statement}
 use Rattle.sheet_writer.proofs.pack.put_end.Tie as tie
