@@ -5,8 +5,8 @@
 //!     bench time WHICH CALL CODE N [ROWS]  nanoseconds a call but split, join and practice, the least of five runs of N calls
 //!
 //! WHICH is library, plain or, for codes 1 to 3, wolf; CALL is decode or mark, for library and plain also quantise, receive, split, join or practice, a
-//! sheet of 200 questions, for the library alone list, a listing of the whole pool, or paper, one of 200 questions, the pool again and again. ROWS is random, as where none
-//! is named, or zero, sparse or small (of -1, 0 and 1).
+//! practice sheet of 200 questions, for the library alone list, a listing of the whole pool, or paper, one of 200 questions, the pool again and again.
+//! ROWS is random, as where none is named, or zero, sparse or small (of -1, 0 and 1).
 
 mod codes;
 mod drill;
@@ -359,7 +359,9 @@ fn main() {
             let code = number(code);
             layer_calls(which, call, code, &pool(code, kind), number(n) as usize);
         }
-        ["call", which, "practice", code, n] | ["call", which, "practice", code, n, _] => drill_calls(which, number(code), number(n) as usize),
+        ["call", which, "practice", code, n] | ["call", which, "practice", code, n, _] => {
+            drill_calls(which, number(code), number(n) as usize);
+        }
         ["call", which, call, code, n] | ["call", which, call, code, n, _] => {
             let code = number(code);
             calls(which, call, &mut Decoders::new(code), &pool(code, kind), number(n) as usize);
