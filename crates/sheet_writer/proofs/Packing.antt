@@ -1,15 +1,14 @@
 -- Reliabilities and symbols as numbers, one digit a turn; words stored as bytes.
 -- Assumes nothing.
-use Rattle.basics.proofs.Kit.{_≡_, refl, sym, ap, ap₂, _∙_, true, false, List, [], _∷_, _++_, ℕ, suc, _+_, _-_, _*_, _/_, _%_, _^_, _≤_, _<_, arith, length, getD, take, drop, set, ℤ, pos, negsuc, natAbs, _+ℤ_}
-use mathlib.Core.Path.{subst}
+use Rattle.basics.proofs.Kit.{_≡_, refl, sym, ap, ap₂, _∙_, true, List, [], _∷_, _++_, ℕ, suc, _+_, _-_, _*_, _/_, _%_, _^_, _≤_, _<_, arith, length, getD, take, drop, set, ℤ, pos, negsuc, natAbs, _+ℤ_}
 use mathlib.Core.List.{append-assoc, append-nil}
-use native.Mathlib.Nat.{lt-of-lt-of-le, pow-le-pow-right}
+use native.Mathlib.Nat.{lt-of-lt-of-le, pow-le-pow-right, mod-eq-of-lt, add-mod-right}
 use native.Mathlib.Numerals.{add-one}
-use borrow.Author.Tests.{ltb-true, leb-true, le-ltb}
+use borrow.Author.Tests.{leb-true, le-ltb}
 use lib.Dec.{T}
-use lib.ListN.{length-take, length-drop, length-append, drop-of-length-le, List·getD-map}
-use lib.Seq.{drop-cons, sets-eq, getD-take, take-suc, take-at, drop-at, drop-drop, length-take-le}
-use lib.Signed.{ltZ, nonNeg}
+use lib.ListN.{length-take, length-drop, length-append, take-append-drop, drop-of-length-le, List·getD-map}
+use lib.Seq.{drop-cons, sets-eq, getD-take, take-at, drop-at, drop-drop, length-take-le}
+use lib.Signed.{nonNeg}
 use mir.Syntax.{w16, w32}
 use mir.Val.{SFits, Fits, toZ, ofZ}
 use mir.Facts.{toZ-pos, toZ-ofZ}
@@ -17,53 +16,42 @@ use Rattle.code.proofs.Words.{Below}
 use Rattle.metric.specs.Row.{reliability-good}
 use Rattle.sheet.specs.declared.Form.{Form}
 use Rattle.sheet.specs.Sheet.{digits, packed, unsigned-of, row-items, as-bytes}
-use Rattle.sheet.proofs.Digits.{packed-lt}
+use Rattle.sheet.proofs.Digits.{digits-length, packed-lt}
 use Rattle.sheet.proofs.Items.{below-parts}
-use Rattle.sheet.proofs.Forms.{unsigned-lt}
 use Rattle.sheet.proofs.Bytes.{bytes-length}
-use Rattle.sheet_writer.specs.Within.{begun}
+use Rattle.sheet_writer.specs.Within.{begun, begun-at}
 
--- two's complement, as the code computes it
-module _ (b : ℕ) (some : 0 < b) (small : b < 2 ^ 15) (r : ℤ) (f : SFits w16 r) (g : reliability-good (b / 2 - 1) r ≡ true) where
-  plain : toZ w16 (ofZ w16 r) ≡ r
-  plain = toZ-ofZ f
+-- two's complement, as the code computes it: the base is added and taken off again
+module _ (b : ℕ) (small : b < 2 ^ 15) where
+  raised : ℤ → ℕ
+  raised (pos n) = n + b
+  raised (negsuc n) = b - 1 - n
 
-  shifted : (r : ℤ) → reliability-good (b / 2 - 1) r ≡ true → ltZ r (pos 0) ≡ true → r +ℤ pos b ≡ pos (unsigned-of b r)
-  unfolding unsigned-of reliability-good
-  shifted (pos n) g e = absurd (omega (arith, ltb-true n 0 e))
-  shifted (negsuc n) g e =
+  raised-is : (r : ℤ) → reliability-good (b / 2 - 1) r ≡ true → 0 < b → (r +ℤ pos b ≡ pos (raised r)) × (raised r % b ≡ unsigned-of b r) × (raised r < 2 ^ 16)
+  unfolding unsigned-of reliability-good raised
+  raised-is (pos n) g some = let h : n ≤ b / 2 - 1 = leb-true n (b / 2 - 1) g in (refl, add-mod-right n b ∙ mod-eq-of-lt (omega arith), omega arith)
+  raised-is (negsuc n) g some =
       let h : suc n ≤ b / 2 - 1 = leb-true (suc n) (b / 2 - 1) g in
-      rw (le-ltb b (suc n) (omega arith)) (ap pos (omega arith))
+      (rw (le-ltb b (suc n) (omega arith)) (ap pos (omega arith)), mod-eq-of-lt (omega arith), omega arith)
 
-  below-sum : ltZ (toZ w16 (ofZ w16 r)) (pos 0) ≡ true → toZ w16 (ofZ w16 r) +ℤ toZ w16 b ≡ pos (unsigned-of b r)
-  below-sum e = rw (plain, toZ-pos w16 {n = b} (omega arith)) (shifted r g (rw plain at e))
+  module _ (some : 0 < b) (r : ℤ) (f : SFits w16 r) (g : reliability-good (b / 2 - 1) r ≡ true) where
+    pub wide-fits : SFits w32 (toZ w16 (ofZ w16 r))
+    wide-fits = rw (toZ-ofZ f) (record { sfits = omega (arith, f .sfits) })
 
-  pub below-fits : ltZ (toZ w16 (ofZ w16 r)) (pos 0) ≡ true → SFits w16 (toZ w16 (ofZ w16 r) +ℤ toZ w16 b)
-  below-fits e = rw (below-sum e) (record { sfits = omega (arith, unsigned-lt r some g) })
+    abbrev sum : ℤ
+    sum = toZ w32 (ofZ w32 (toZ w16 (ofZ w16 r))) +ℤ toZ w32 b
 
-  below-is : ltZ (toZ w16 (ofZ w16 r)) (pos 0) ≡ true → toZ w16 (ofZ w16 (toZ w16 (ofZ w16 r) +ℤ toZ w16 b)) ≡ pos (unsigned-of b r)
-  below-is e = toZ-ofZ (below-fits e) ∙ below-sum e
+    sum-is : sum ≡ pos (raised r)
+    sum-is = rw (toZ-ofZ wide-fits, toZ-ofZ f, toZ-pos w32 {n = b} (omega arith)) (raised-is r g some .0)
 
-  pub below-cast : ltZ (toZ w16 (ofZ w16 r)) (pos 0) ≡ true →
-      T (nonNeg (toZ w16 (ofZ w16 (toZ w16 (ofZ w16 r) +ℤ toZ w16 b)))) × Fits w32 (natAbs (toZ w16 (ofZ w16 (toZ w16 (ofZ w16 r) +ℤ toZ w16 b))))
-  below-cast e = rw (below-is e) (tt, record { fits = omega (arith, unsigned-lt r some g) })
+    pub sum-fits : SFits w32 sum
+    sum-fits = rw sum-is (record { sfits = omega (arith, raised-is r g some .2) })
 
-  pub below-value : ltZ (toZ w16 (ofZ w16 r)) (pos 0) ≡ true → natAbs (toZ w16 (ofZ w16 (toZ w16 (ofZ w16 r) +ℤ toZ w16 b))) ≡ unsigned-of b r
-  below-value e = rw (below-is e)
+    pub sum-cast : T (nonNeg (toZ w32 (ofZ w32 sum))) × Fits w32 (natAbs (toZ w32 (ofZ w32 sum)))
+    sum-cast = rw (toZ-ofZ sum-fits, sum-is) (tt, record { fits = omega (arith, raised-is r g some .2) })
 
-  as-is : (r : ℤ) → ltZ r (pos 0) ≡ false → r ≡ pos (unsigned-of b r)
-  unfolding unsigned-of
-  as-is (pos n) e = refl
-  as-is (negsuc n) e = absurd (subst T e tt)
-
-  above-is : ltZ (toZ w16 (ofZ w16 r)) (pos 0) ≡ false → toZ w16 (ofZ w16 r) ≡ pos (unsigned-of b r)
-  above-is e = plain ∙ as-is r (rw plain at e)
-
-  pub above-cast : ltZ (toZ w16 (ofZ w16 r)) (pos 0) ≡ false → T (nonNeg (toZ w16 (ofZ w16 r))) × Fits w32 (natAbs (toZ w16 (ofZ w16 r)))
-  above-cast e = rw (above-is e) (tt, record { fits = omega (arith, unsigned-lt r some g) })
-
-  pub above-value : ltZ (toZ w16 (ofZ w16 r)) (pos 0) ≡ false → natAbs (toZ w16 (ofZ w16 r)) ≡ unsigned-of b r
-  above-value e = rw (above-is e)
+    pub sum-value : natAbs (toZ w32 (ofZ w32 sum)) % b ≡ unsigned-of b r
+    sum-value = rw (toZ-ofZ sum-fits, sum-is) (raised-is r g some .1)
 
 -- one digit more
 pub packed-end : (b : ℕ) (ds : List ℕ) (i : ℕ) → length ds ≤ i → packed b (drop i ds) ≡ 0
@@ -131,7 +119,7 @@ begun-join a b o =
     ∙ sym (append-assoc (as-bytes a) (as-bytes b) (drop (4 * length (a ++ b)) o))
     ∙ ap (λ (x : List ℕ). x ++ drop (4 * length (a ++ b)) o) (sym (as-bytes-append a b))
 
-begun-one : (w : ℕ) (l : List ℕ) → digits 256 4 w ++ drop 4 l ≡ begun (w ∷ []) l
+pub begun-one : (w : ℕ) (l : List ℕ) → digits 256 4 w ++ drop 4 l ≡ begun (w ∷ []) l
 unfolding begun as-bytes
 begun-one w l = ap (λ (x : List ℕ). x ++ drop 4 l) (sym (append-nil (digits 256 4 w)))
 
@@ -146,10 +134,16 @@ pub begun-all : (ws o : List ℕ) → length o ≡ 4 * length ws → begun ws o 
 unfolding begun
 begun-all ws o h = rw (drop-of-length-le o {i = 4 * length ws} (omega arith), append-nil)
 
-pub begun-next : (ws o : List ℕ) (j : ℕ) → j < length ws →
-    take (4 * j) (begun (take j ws) o) ++ (digits 256 4 (getD ws j 0) ++ drop (4 * j + 4) (begun (take j ws) o)) ≡ begun (take (j + 1) ws) o
-begun-next ws o j h =
-    let e : length (take j ws) ≡ j = length-take-le j ws (omega arith) in
-    subst (λ (n : ℕ). take (4 * n) (begun (take j ws) o) ++ (digits 256 4 (getD ws j 0) ++ drop (4 * n + 4) (begun (take j ws) o)) ≡ begun (take j ws ++ getD ws j 0 ∷ []) o) e
-    (begun-word (take j ws) o (getD ws j 0))
-    ∙ ap (λ (l : List ℕ). begun l o) (sym (ap (λ (x : ℕ). take x ws) (add-one j) ∙ take-suc ws j 0 h))
+-- words from a place on: none, and one more
+pub begun-at-none : (n : ℕ) (o : List ℕ) → begun-at n [] o ≡ o
+unfolding begun-at
+begun-at-none n o = rw (begun-none (drop n o)) (take-append-drop n o)
+
+pub begun-at-more : (n w : ℕ) (ws o : List ℕ) → n + 4 ≤ length o → begun-at n (w ∷ ws) o ≡ begun-at (n + 4) ws (take n o ++ (digits 256 4 w ++ drop (n + 4) o))
+unfolding begun-at begun as-bytes
+begun-at-more n w ws o h =
+    let d : List ℕ = digits 256 4 w in
+    let l : length (take n o ++ d) ≡ n + 4 = omega (arith, length-append (take n o) d, length-take-le n o (omega arith), digits-length 256 4 w) in
+    let e : n + 4 * suc (length ws) ≡ n + 4 + 4 * length ws = omega arith in
+    rw (drop-drop (4 * suc (length ws)) n o, e, ← drop-drop (4 * length ws) (n + 4) o, append-assoc d (as-bytes ws) (drop (4 * length ws) (drop (n + 4) o)))
+    (sym (rw (← append-assoc (take n o) d (drop (n + 4) o), take-at (take n o ++ d) (drop (n + 4) o) (n + 4) l, drop-at (take n o ++ d) (drop (n + 4) o) (n + 4) l) (append-assoc (take n o) d _)))

@@ -1,6 +1,6 @@
 -- The loops that write: after i questions the output begins with their words; what is left of a lent list is the rest of the questions.
 -- Assumes nothing.
-use Rattle.basics.proofs.Kit.{_≡_, refl, sym, ap, _∙_, true, List, [], _∷_, _++_, ℕ, suc, _+_, _-_, _*_, _%_, _≤_, _<_, arith, length, getD, take, drop, ℤ}
+use Rattle.basics.proofs.Kit.{_≡_, refl, sym, ap, _∙_, true, List, [], _∷_, _++_, ℕ, suc, _+_, _-_, _*_, _≤_, _<_, arith, length, getD, take, drop, ℤ}
 use mathlib.Core.List.{append-assoc, append-nil}
 use native.Mathlib.Nat.{add-sub-cancel-left}
 use native.Mathlib.Numerals.{add-one}
@@ -119,9 +119,6 @@ module _ {f : Form} {qs : List Question} {o : List ℕ} where
 
     pub size : length out ≡ length o
     size = ap length (b .holds) ∙ begun-length so-far o (omega (arith, parts, b .room))
-
-    pub whole-words : at % 4 ≡ 0
-    whole-words = omega (arith, b .place)
 
     -- the question that comes next, with those after it
     module _ {q : Question} {after : List Question} (split : drop i qs ≡ q ∷ after) where

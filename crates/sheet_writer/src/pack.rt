@@ -3,24 +3,21 @@ use sheet::Form;
 ghost use mathlib.Core.Path.{_≡_};
 ghost use mathlib.Core.Bool.{true};
 ghost use mathlib.Core.List.{_++_};
-ghost use Prim.Native.Nat.{_+_, _*_, _-_, _/_, _%_, _^_, _<_, _≤_};
+ghost use Prim.Native.Nat.{_+_, _*_, _-_, _/_, _^_, _<_, _≤_};
 ghost use lib.ListN.{length, getD, take, drop};
 ghost use Rattle.metric.specs.Row.{reliability-good};
-ghost use Rattle.sheet.specs.Sheet.{digits, packed, unsigned-of, question, question-words, question-good, worded, end-kind};
-ghost use Rattle.sheet_writer.specs.Within.{begun, items-of, Packs};
+ghost use Rattle.sheet.specs.Sheet.{digits, packed, unsigned-of, count, question, question-words, question-good, worded, end-kind};
+ghost use Rattle.sheet_writer.specs.Within.{form, begun, begun-at, items-of, words-of, Packs};
 ghost use Rattle.sheet.specs.Within.{Row-form};
 
-// Two's complement.
+// Two's complement: the base is added and taken off again, so that nothing is tested.
 fn unsigned(r: i16, base: u32) -> u32
     requires { ⌜ reliability-good (base / 2 - 1) r ≡ true ⌝ }
     requires { ⌜ 0 < base ⌝ }
     requires { ⌜ base < 2 ^ 15 ⌝ }
     ensures { λ x. ⌜ x ≡ unsigned-of base r ⌝ }
 {
-    if r < 0 {
-        return (r + base as i16) as u32;
-    }
-    r as u32
+    (r as i32 + base as i32) as u32 % base
 }
 
 // Item i of a row or of a word, whichever the form says.
@@ -35,19 +32,16 @@ fn item_of(row: &[i16], word: &[u8], f: Form, i: usize) -> u32
     unsigned(row[i], f.base)
 }
 
-// Word k of those that hold n items, the first lowest.
-fn items_word(row: &[i16], word: &[u8], f: Form, n: usize, k: usize) -> u32
+// The word that holds the n items from a place on, the first lowest.
+fn items_word(row: &[i16], word: &[u8], f: Form, from: usize, n: usize) -> u32
     requires { ⌜ Packs f (now row) (now word) ⌝ }
-    requires { ⌜ length (items-of f (now row) (now word)) ≡ n ⌝ }
-    requires { ⌜ f .each * k ≤ n ⌝ }
-    ensures { λ r. ⌜ r ≡ worded (f .kind) (packed (f .base) (take (f .each) (drop (f .each * k) (items-of f (now (row .entry)) (now (word .entry)))))) ⌝ }
+    requires { ⌜ length (take (f .each) (drop from (items-of f (now row) (now word)))) ≡ n ⌝ }
+    ensures { λ r. ⌜ r ≡ worded (f .kind) (packed (f .base) (take (f .each) (drop from (items-of f (now (row .entry)) (now (word .entry)))))) ⌝ }
 {
     let kind = f.kind;
-    let each = f.each;
     let base = f.base;
-    let from = each * k;
     let mut v: u32 = 0;
-    let mut i = sheet::words::least(each, n - from);
+    let mut i = n;
     while 0 < i {
         i -= 1;
         v = v * base + item_of(row, word, f, from + i);
@@ -55,33 +49,47 @@ fn items_word(row: &[i16], word: &[u8], f: Form, n: usize, k: usize) -> u32
     kind * sheet::words::KINDS + v
 }
 
-// Word j of a question.
-fn question_word(f: Form, code: u32, number: u32, row: &[i16], word: &[u8], j: usize) -> u32
-    requires { ⌜ Row-form f ⌝ }
-    requires { ⌜ question-good f (question code number (now row) (now word)) ≡ true ⌝ }
-    requires { ⌜ j < length (question-words f (question code number (now row) (now word))) ⌝ }
-    ensures { λ r. ⌜ r ≡ getD (question-words f (question code number (now (row .entry)) (now (word .entry)))) j 0 ⌝ }
+// Stores a word at a place, low byte first.
+fn put_word(output: &mut [u8], at: usize, w: u32)
+    requires { ⌜ at + 4 ≤ length (now output) ⌝ }
+    ensures { λ _. ⌜ now (output .exit) ≡ take at (now (output .entry)) ++ (digits 256 4 w ++ drop (at + 4) (now (output .entry))) ⌝ }
 {
-    if j == 0 {
-        return sheet::words::HEAD * sheet::words::KINDS + (code * sheet::words::NUMBERS + number);
-    }
-    let k = sheet::words::count_of(f, row.len());
-    if j <= k {
-        return items_word(row, word, f, row.len(), j - 1);
-    }
-    items_word(row, word, sheet::words::SYMBOLS, word.len(), j - 1 - k)
-}
-
-// Stores a word, low byte first.
-fn put_word(output: &mut [u8], i: usize, w: u32)
-    requires { ⌜ 4 * i + 4 ≤ length (now output) ⌝ }
-    ensures { λ _. ⌜ now (output .exit) ≡ take (4 * i) (now (output .entry)) ++ (digits 256 4 w ++ drop (4 * i + 4) (now (output .entry))) ⌝ }
-{
-    let at = 4 * i;
     output[at] = (w % 256) as u8;
     output[at + 1] = (w / 256 % 256) as u8;
     output[at + 2] = (w / 256 / 256 % 256) as u8;
     output[at + 3] = (w / 256 / 256 / 256 % 256) as u8;
+}
+
+// Stores the words of n items at a place, and answers the place after them. The form is handed over as numbers and the full words have a loop of their
+// own, so that where the form is a constant, how many items such a word holds is one too.
+fn write_items(
+    row: &[i16],
+    word: &[u8],
+    kind: u32,
+    each: usize,
+    base: u32,
+    n: usize,
+    output: &mut [u8],
+    at: usize,
+) -> usize
+    requires { ⌜ Packs (form kind each base) (now row) (now word) ⌝ }
+    requires { ⌜ length (items-of (form kind each base) (now row) (now word)) ≡ n ⌝ }
+    requires { ⌜ at + 4 * count (form kind each base) n ≤ length (now output) ⌝ }
+    ensures { λ r. ⌜ (r ≡ at + 4 * count (form kind each base) n) × (now (output .exit) ≡ begun-at at (words-of (form kind each base) n (now (row .entry)) (now (word .entry))) (now (output .entry))) ⌝ }
+{
+    let f = Form { kind, each, base };
+    let mut from = 0;
+    let mut to = at;
+    while each <= n - from {
+        put_word(output, to, items_word(row, word, f, from, each));
+        from += each;
+        to += 4;
+    }
+    if from < n {
+        put_word(output, to, items_word(row, word, f, from, n - from));
+        to += 4;
+    }
+    to
 }
 
 // Stores the words of a question at the start of an output.
@@ -91,25 +99,18 @@ pub fn write_question(f: Form, code: u32, number: u32, row: &[i16], word: &[u8],
     requires { ⌜ 4 * length (question-words f (question code number (now row) (now word))) ≤ length (now output) ⌝ }
     ensures { λ _. ⌜ now (output .exit) ≡ begun (question-words f (question code number (now (row .entry)) (now (word .entry)))) (now (output .entry)) ⌝ }
 {
-    let n = 1 + sheet::words::question_words_of(f, code);
-    let mut j = 0;
-    while j < n {
-        let w = question_word(f, code, number, row, word, j);
-        put_word(output, j, w);
-        j += 1;
-    }
+    let head = sheet::words::HEAD * sheet::words::KINDS + (code * sheet::words::NUMBERS + number);
+    put_word(output, 0, head);
+    let at = write_items(row, word, f.kind, f.each, f.base, row.len(), output, 4);
+    let s = sheet::words::SYMBOLS;
+    write_items(row, word, s.kind, s.each, s.base, word.len(), output, at);
 }
 
 // Stores the end of a sheet of so many questions.
 pub fn put_end(output: &mut [u8], at: usize, count: u32)
-    requires { ⌜ at % 4 ≡ 0 ⌝ }
     requires { ⌜ at + 4 ≤ length (now output) ⌝ }
     requires { ⌜ count ≤ 200 ⌝ }
     ensures { λ _. ⌜ now (output .exit) ≡ take at (now (output .entry)) ++ (digits 256 4 (worded end-kind count) ++ drop (at + 4) (now (output .entry))) ⌝ }
 {
-    put_word(
-        output,
-        at / 4,
-        sheet::words::END * sheet::words::KINDS + count,
-    );
+    put_word(output, at, sheet::words::END * sheet::words::KINDS + count);
 }

@@ -12,7 +12,7 @@ use Rattle.sheet.proofs.Forms.{row-form, question-long-le}
 use Rattle.sheet.proofs.Longest.{question-length}
 use Rattle.sheet_writer.specs.Within.{begun}
 use Rattle.sheet_writer.proofs.Lists.{rest-is}
-use Rattle.sheet_writer.proofs.Writing.{part-is, Begun, begin, size, whole-words, fits-in, one-more, end-fits, done}
+use Rattle.sheet_writer.proofs.Writing.{part-is, Begun, begin, size, fits-in, one-more, end-fits, done}
 use Rattle.practice.specs.Practice.{after, drawn-from, drawn, state-after}
 use Rattle.practice.specs.Within.{question-drawn}
 use Rattle.practice.proofs.Draws.{after-sum}
@@ -83,7 +83,7 @@ unfolding drawn
 all-in l = let s = st (l .before) .args in omega (arith, drawn-length (s .code) (s .count) 1 (s .state), l .loop-test .left)
 
 put-end-requires : tie.Need-put-end-requires Inv-loop μ-loop
-put-end-requires c κs = let l = c .before in let b = l .before .loop .inv .3 in (whole-words b, (end-fits b (all-in l), st (l .before) .pre .few))
+put-end-requires c κs = let l = c .before in let b = l .before .loop .inv .3 in (end-fits b (all-in l), st (l .before) .pre .few)
 
 returns : tie.Need-returns Inv-loop μ-loop
 unfolding state-after drawn

@@ -13,7 +13,7 @@ use Rattle.sheet.proofs.Forms.{question-long-le, at-most, next-in}
 use Rattle.sheet.proofs.Longest.{question-length}
 use Rattle.sheet_writer.specs.Within.{begun}
 use Rattle.sheet_writer.proofs.Lists.{rest-is, next-less, other-in, sum-in, row-fits, length-fits}
-use Rattle.sheet_writer.proofs.Writing.{lent-is, part-room, part-is, size, whole-words, fits-in, end-fits, done, Lent-begun, lent-begin, next-code, next, next-good, rows-left, words-left, split, more, count}
+use Rattle.sheet_writer.proofs.Writing.{lent-is, part-room, part-is, size, fits-in, end-fits, done, Lent-begun, lent-begin, next-code, next, next-good, rows-left, words-left, split, more, count}
 use borrow.Author.Needs.{scaled-fits}
 use Rattle.sheet_writer.proofs.write_list.Statement.{statement}
 use Rattle.sheet_writer.proofs.write_list.Tie as tie
@@ -107,7 +107,7 @@ loop-again c = let b = asked-by c in let a = at b in
 
 put-end-requires : tie.Need-put-end-requires Inv-loop μ-loop
 put-end-requires c κs = let l = c .before in let b = l .before .loop .inv in
-    (whole-words (b .written), (end-fits (b .written) (le-end (count b) (l .loop-test .left)), st (l .before) .pre .few))
+    (end-fits (b .written) (le-end (count b) (l .loop-test .left)), st (l .before) .pre .few)
 
 returns : tie.Need-returns Inv-loop μ-loop
 returns c =

@@ -14,7 +14,6 @@ put-word-spec =
     (λ c. search needs)
     (λ c. search needs)
     (λ c. search needs)
-    (λ c. search needs)
     (λ c. simp length-set (omega arith))
     (λ c. search needs)
     (λ c. search needs)
@@ -23,4 +22,4 @@ put-word-spec =
     (λ c. search needs)
     (λ c. simp length-set (omega arith))
     (λ c. simp length-set)
-    (λ c. let n = c .args .i in four-stores (now (c .args .output)) _ (c .args .w) (c .pre)))
+    (λ c. four-stores (now (c .args .output)) (c .args .at) (c .args .w) (c .pre)))

@@ -1,67 +1,49 @@
 -- `sheet_writer::pack::write_question` meets its contract.
 -- Assumes nothing.
-use Rattle.basics.proofs.Kit.{_≡_, refl, sym, ap, ap₂, _∙_, List, _++_, ℕ, _+_, _-_, _*_, _≤_, _<_, arith, needs, length, take, drop, now}
-use lib.Seq.{take-all}
-use Rattle.sheet.specs.Sheet.{digits, question, question-words}
-use Rattle.sheet.proofs.Forms.{question-long-le}
-use Rattle.sheet.proofs.Longest.{question-length}
-use Rattle.sheet_writer.specs.Within.{begun}
-use Rattle.sheet_writer.proofs.Packing.{begun-none, begun-next}
+use Rattle.basics.proofs.Kit.{_≡_, _∙_, _+_, _*_, _≤_, arith, needs, length, now}
+use Rattle.sheet.specs.Sheet.{question, symbols, count}
+use Rattle.sheet.proofs.Trips.{Good, good-parts, code-lt}
+use Rattle.sheet_writer.proofs.Questions.{row-packs, symbols-pack, row-count, symbol-count, question-room, question-done}
 use Rattle.sheet_writer.proofs.pack.write_question.Statement.{statement}
 use Rattle.sheet_writer.proofs.pack.write_question.Tie as tie
 
-abbrev Inv-loop : tie.InvT-loop
-Inv-loop f code number row word output₀ n j₀ output j =
-    (j ≤ length (question-words f (question code number row word))) × (length output ≡ length output₀)
-    × (output ≡ begun (take j (question-words f (question code number row word))) output₀)
+good : (s : tie.Start) → Good (s .args .f) (question (s .args .code) (s .args .number) (now (s .args .row)) (now (s .args .word)))
+good s = good-parts (s .args .f) (question (s .args .code) (s .args .number) (now (s .args .row)) (now (s .args .word))) (s .pre .1 .0)
 
-abbrev μ-loop : tie.MeasureT-loop
-μ-loop f code number row word output₀ n j₀ output j = length (question-words f (question code number row word)) - j
+room : (s : tie.Start) → 4 * (1 + count (s .args .f) (length (now (s .args .row))) + count symbols (length (now (s .args .word)))) ≤ length (now (s .args .output))
+room s = omega (arith, question-room (s .pre .0) (good s), s .pre .1 .1)
 
-abbrev st : tie.After-question-words-of Inv-loop μ-loop → tie.Start Inv-loop μ-loop
-st c = c .before .before .before
+abbrev st : tie.After-put-word → tie.Start
+st p = p .before .before .before .before
 
-abbrev wanted : tie.After-question-words-of Inv-loop μ-loop → List ℕ
-wanted c = let s = st c .args in question-words (s .f) (question (s .code) (s .number) (now (s .row)) (now (s .word)))
+abbrev head : tie.After-write-items → tie.After-put-word
+head w = w .before .before .before .before
 
-count : (c : tie.After-question-words-of Inv-loop μ-loop) → 1 + c .question-words-of .result ≡ length (wanted c)
-count c = let s = st c .args in omega (arith, c .question-words-of .ensures, question-length (s .f) (question (s .code) (s .number) (now (s .row)) (now (s .word))))
+same : (w : tie.After-write-items) → length (w .write-items .last .1 .1 .1 .1 .1 .1 .0) ≡ length (now (st (head w) .args .output))
+same w = w .write-items .kept .1 .1 .1 .1 .1 .1 .0 ∙ head w .put-word .kept .0
 
-inside : (c : tie.In-loop Inv-loop μ-loop) → c .before .loop .j < length (wanted (c .before .before))
-inside c = omega (arith, c .loop-test .taken, count (c .before .before))
+write-items-requires : tie.Need-write-items-requires
+write-items-requires c κs = let p = c .before .before .before in let s = st p in
+    (row-packs (s .pre .0) (good s), (row-count (s .pre .0) (good s), omega (arith, room s, p .put-word .kept .0)))
 
-add-n : tie.Need-add-n Inv-loop μ-loop
-add-n c = let s = st c in omega (arith, c .question-words-of .ensures, question-long-le (s .args .f) (s .pre .0 .form) (s .args .code))
+write-items-requires-2 : tie.Need-write-items-requires-2
+write-items-requires-2 c κs = let w = c .before .before .before in let s = st (head w) in
+    (symbols-pack (s .pre .0) (good s), (symbol-count (s .pre .0) (good s), omega (arith, room s, same w, w .write-items .ensures .0)))
 
-put-word-requires : tie.Need-put-word-requires Inv-loop μ-loop
-put-word-requires c κs = let i = c .before .before in omega (arith, inside i, i .before .loop .inv .1, st (i .before .before) .pre .1 .1)
-
-loop-again : tie.Need-loop-again Inv-loop μ-loop
-loop-again c = let p = c .before .before in let i = p .before .before .before in let a = i .before in (
-  omega (arith, inside i),
-  p .put-word .kept .0 ∙ a .loop .inv .1,
-  p .put-word .ensures
-      ∙ ap₂ (λ (l : List ℕ) (w : ℕ). take (4 * a .loop .j) l ++ (digits 256 4 w ++ drop (4 * a .loop .j + 4) l)) (a .loop .inv .2) (p .before .before .question-word .ensures)
-      ∙ begun-next (wanted (a .before)) (now (st (a .before) .args .output)) (a .loop .j) (inside i),
-)
-
-returns : tie.Need-returns Inv-loop μ-loop
-returns c = let a = c .before in
-    a .loop .inv .2 ∙ ap (λ (l : List ℕ). begun l (now (st (a .before) .args .output))) (take-all (a .loop .j) (wanted (a .before)) (omega (arith, c .loop-test .left, count (a .before))))
+returns : tie.Need-returns
+returns c = let v = c .before .before in let w = v .before .before .before .before in let p = head w in let s = st p in
+    question-done (s .pre .0) (good s) (now (s .args .output)) (p .put-word .ensures) (w .write-items .ensures) (v .write-items2 .ensures .1)
 
 pub write-question-spec : {M : Type 1} → statement M
 write-question-spec =
     tie.close
     (tie.spec
-    Inv-loop
-    μ-loop
-    (λ c κs. search needs)
-    add-n
-    (λ c. (omega arith, refl, sym (begun-none (now (st c .args .output)))))
-    (λ c κs. let s = st (c .before .before) in (s .pre .0, (s .pre .1 .0, inside c)))
-    put-word-requires
-    (λ c. let i = c .before .before .before .before .before in omega (arith, inside i, st (i .before .before) .pre .1 .1))
-    (λ c. omega (arith, inside (c .before .before .before .before .before)))
-    loop-again
-    (λ c. c .before .loop .inv .1)
+    (λ c. search needs)
+    (λ c. let s = c .before .before in omega (arith, code-lt (s .args .code) (good s .known)))
+    (λ c. let s = c .before .before in omega (arith, code-lt (s .args .code) (good s .known), good s .small))
+    (λ c. let s = c .before .before in omega (arith, code-lt (s .args .code) (good s .known), good s .small))
+    (λ c κs. omega (arith, room (c .before .before .before)))
+    write-items-requires
+    write-items-requires-2
+    (λ c. let v = c .before .before in v .write-items2 .kept .1 .1 .1 .1 .1 .1 .0 ∙ same (v .before .before .before .before))
     returns)
