@@ -1,4 +1,4 @@
--- What is drawn, one reliability after another and one question after another.
+-- What is drawn, one reliability after another, and the state after it.
 -- Assumes nothing.
 use Rattle.basics.proofs.Kit.{_≡_, refl, ap, ap₂, Bool, true, false, _&&_, cond, List, [], _∷_, _++_, ℕ, zero, suc, _+_, _-_, _%_, _≤_, _<_, arith, length, ltb, ℤ, pos, negsuc, natAbs}
 use native.Mathlib.Nat.{zero-add, suc-add}

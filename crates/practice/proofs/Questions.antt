@@ -15,9 +15,9 @@ use Rattle.sheet.specs.declared.Form.{Form}
 use Rattle.sheet.specs.Sheet.{reliabilities, most, question-long, question-words, all-words, question-good, all-good}
 use Rattle.sheet.proofs.Longest.{question-length, written-length}
 use Rattle.sheet.proofs.Trips.{parts-good}
-use Rattle.practice.specs.Practice.{row-drawn, after, drawn-from, drawn}
+use Rattle.practice.specs.Practice.{row-drawn, after, question-drawn, drawn-from, drawn}
 use Rattle.practice.specs.Calls.{practice-refusal}
-use Rattle.practice.specs.Within.{question-drawn, Sheet-within}
+use Rattle.practice.specs.Within.{Sheet-within}
 use Rattle.practice.proofs.Draws.{row-fine, row-length}
 
 -- the zero word
@@ -26,8 +26,8 @@ unfolding symbols-good
 zeros-good m zero = refl
 zeros-good m (suc n) = ap₂ _&&_ (lt-ltb 0 (2 ^ m) (pow-pos m)) (zeros-good m n)
 
-pub drawn-good : (c i s : ℕ) → code-good c ≡ true → i < 2 ^ 24 → question-good reliabilities (question-drawn c i s) ≡ true
-drawn-good c i s g h = parts-good reliabilities (question-drawn c i s) (record {
+pub drawn-good : (c i s : ℕ) → code-good c ≡ true → i < 2 ^ 24 → question-good reliabilities (question-drawn i c s) ≡ true
+drawn-good c i s g h = parts-good reliabilities (question-drawn i c s) (record {
   known = g;
   small = h;
   row-length = row-length (row-long (width c)) s;
@@ -52,11 +52,11 @@ unfolding all-words drawn-from
 drawn-words f c zero i s = omega arith
 drawn-words f c (suc n) i s =
     let more : List ℕ = all-words f (drawn-from (suc i) c n (after (row-long (width c)) s)) in
-    omega (arith, length-append (question-words f (question-drawn c i s)) more, question-length f (question-drawn c i s), drawn-words f c n (suc i) (after (row-long (width c)) s), suc-mul n (1 + question-long f (width c)))
+    omega (arith, length-append (question-words f (question-drawn i c s)) more, question-length f (question-drawn i c s), drawn-words f c n (suc i) (after (row-long (width c)) s), suc-mul n (1 + question-long f (width c)))
 
 -- the next question, after i of n, and those after it
 pub next-drawn : (c n i s : ℕ) → i < n →
-    drawn-from (i + 1) c (n - i) s ≡ question-drawn c (i + 1) s ∷ drawn-from (i + 1 + 1) c (n - (i + 1)) (after (row-long (width c)) s)
+    drawn-from (i + 1) c (n - i) s ≡ question-drawn (i + 1) c s ∷ drawn-from (i + 1 + 1) c (n - (i + 1)) (after (row-long (width c)) s)
 unfolding drawn-from
 next-drawn c n i s h = let e : n - i ≡ suc (n - (i + 1)) = omega arith in rw (e, add-one (i + 1))
 

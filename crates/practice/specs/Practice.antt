@@ -30,12 +30,14 @@ unfoldable pub after : (draws state : ℕ) → ℕ
 after zero s = s
 after (suc n) s = after n (advanced s)
 
--- so many questions of a code, numbered from here on, rows drawn one after another, zero words handed in
+-- a question of a code, its row drawn from a state, the zero word handed in
+abbrev pub question-drawn : (number code state : ℕ) → Question
+question-drawn i c s = question c i (row-drawn (row-long (width c)) s) (replicate (long (width c)) 0)
+
+-- so many questions, numbered from here on, rows drawn one after another
 unfoldable pub drawn-from : (number code count state : ℕ) → List Question
 drawn-from i c zero s = []
-drawn-from i c (suc n) s =
-    let m = width c in
-    question c i (row-drawn (row-long m) s) (replicate (long m) 0) ∷ drawn-from (suc i) c n (after (row-long m) s)
+drawn-from i c (suc n) s = question-drawn i c s ∷ drawn-from (suc i) c n (after (row-long (width c)) s)
 
 -- the questions of a practice sheet, numbered from 1, and the state after the last draw
 unfoldable pub drawn : (code count state : ℕ) → List Question

@@ -2,16 +2,11 @@
 use mathlib.Core.Path.{_≡_}
 use mathlib.Core.Bool.{true}
 use Prim.Native.Nat.{ℕ, _+_, _*_, _≤_}
-use lib.ListN.{length, replicate}
-use Rattle.code.specs.Code.{code-good, width, long}
-use Rattle.code.specs.Bits.{row-long}
-use Rattle.sheet.specs.Sheet.{Question, question, reliabilities, all-words}
-use Rattle.practice.specs.Practice.{row-drawn, drawn}
+use lib.ListN.{length}
+use Rattle.code.specs.Code.{code-good}
+use Rattle.sheet.specs.Sheet.{reliabilities, all-words}
+use Rattle.practice.specs.Practice.{drawn}
 use Rattle.practice.specs.Calls.{practice-refusal}
-
--- the question of a number whose row is drawn from a state
-abbrev pub question-drawn : (code number state : ℕ) → Question
-question-drawn c i s = question c i (row-drawn (row-long (width c)) s) (replicate (long (width c)) 0)
 
 -- a code, so many questions that a sheet can hold, and an output of the sheet's length
 pub record Sheet-within (c n s output : ℕ) : Type 0 where

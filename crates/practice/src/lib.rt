@@ -8,9 +8,9 @@ ghost use Rattle.code.specs.Code.{code-good, width};
 ghost use Rattle.code.specs.Bits.{row-long};
 ghost use Rattle.sheet.specs.Sheet.{reliabilities, question-long, question-words, written};
 ghost use Rattle.sheet_writer.specs.Within.{begun};
-ghost use Rattle.practice.specs.Practice.{advanced, reliability, row-drawn, after, drawn, state-after};
+ghost use Rattle.practice.specs.Practice.{advanced, reliability, row-drawn, after, question-drawn, drawn, state-after};
 ghost use Rattle.practice.specs.Calls.{Practice-says};
-ghost use Rattle.practice.specs.Within.{question-drawn, Sheet-within, Refuses};
+ghost use Rattle.practice.specs.Within.{Sheet-within, Refuses};
 
 // What a state advances by.
 const STEP: u32 = 0x9E3779B9;
@@ -56,7 +56,7 @@ fn draw_question(code: u32, number: u32, state: u32, output: &mut [u8]) -> u32
     requires { ⌜ code-good code ≡ true ⌝ }
     requires { ⌜ number < 2 ^ 24 ⌝ }
     requires { ⌜ 4 * (1 + question-long reliabilities (width code)) ≤ length (now output) ⌝ }
-    ensures { λ r. ⌜ (r ≡ after (row-long (width code)) state) × (now (output .exit) ≡ begun (question-words reliabilities (question-drawn code number state)) (now (output .entry))) ⌝ }
+    ensures { λ r. ⌜ (r ≡ after (row-long (width code)) state) × (now (output .exit) ≡ begun (question-words reliabilities (question-drawn number code state)) (now (output .entry))) ⌝ }
 {
     let chosen = code::by_number(code);
     let shape = chosen.shape;

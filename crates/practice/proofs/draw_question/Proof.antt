@@ -10,8 +10,7 @@ use Rattle.sheet.specs.Sheet.{Question, question, reliabilities, question-long,
 use Rattle.sheet.proofs.Forms.{row-form, bits-le, n-le}
 use Rattle.sheet.proofs.Longest.{question-length}
 use Rattle.sheet_writer.specs.Within.{begun}
-use Rattle.practice.specs.Practice.{row-drawn, after}
-use Rattle.practice.specs.Within.{question-drawn}
+use Rattle.practice.specs.Practice.{row-drawn, after, question-drawn}
 use Rattle.practice.proofs.Draws.{row-length}
 use Rattle.practice.proofs.Questions.{drawn-good, row-lent, word-lent}
 use Rattle.practice.proofs.draw_question.Statement.{statement}
@@ -54,7 +53,7 @@ room d = let b = chosen d in
 lent : (d : tie.After-draw-row) → let b = chosen d in
     question (st b .args .code) (st b .args .number) (take (b .by-number .result .shape .bits) (d .draw-row .last .1 .0 ++ drop (b .by-number .result .shape .bits) (replicate 60 (pos 0))))
     (take (b .by-number .result .shape .n) (replicate 15 0))
-    ≡ question-drawn (st b .args .code) (st b .args .number) (st b .args .state)
+    ≡ question-drawn (st b .args .number) (st b .args .code) (st b .args .state)
 lent d = let b = chosen d in ap₂ (question (st b .args .code) (st b .args .number)) (row-lent _ _ _ (bits-is b) (row-is d)) (word-lent 15 (n-is b) (n-in b))
 
 abbrev drawn : tie.After-write-question-arg → tie.After-draw-row

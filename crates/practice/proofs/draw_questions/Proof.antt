@@ -13,8 +13,7 @@ use Rattle.sheet.proofs.Longest.{question-length}
 use Rattle.sheet_writer.specs.Within.{begun}
 use Rattle.sheet_writer.proofs.Lists.{rest-is}
 use Rattle.sheet_writer.proofs.Writing.{part-is, Begun, begin, size, fits-in, one-more, end-fits, done}
-use Rattle.practice.specs.Practice.{after, drawn-from, drawn, state-after}
-use Rattle.practice.specs.Within.{question-drawn}
+use Rattle.practice.specs.Practice.{after, question-drawn, drawn-from, drawn, state-after}
 use Rattle.practice.proofs.Draws.{after-sum}
 use Rattle.practice.proofs.Questions.{next-drawn, drawn-length}
 use Rattle.practice.proofs.draw_questions.Statement.{statement}
@@ -42,7 +41,7 @@ loop-holds c = let s = c .before .before in
 
 -- the question that comes next, and those after it
 abbrev next : tie.At-loop Inv-loop μ-loop → Question
-next a = question-drawn (st a .args .code) (a .loop .i + 1) (a .loop .s)
+next a = question-drawn (a .loop .i + 1) (st a .args .code) (a .loop .s)
 
 abbrev rest : tie.At-loop Inv-loop μ-loop → (s : ℕ) → List Question
 rest a s = drawn-from (a .loop .i + 1 + 1) (st a .args .code) (st a .args .count - (a .loop .i + 1)) s
