@@ -1,5 +1,5 @@
-// Practice sheets from a seed. `draw_sheet` and `draw_row` are offered to callers: they take any input and promise what specs/Calls.antt and
-// specs/Practice.antt say. A refusal is found before anything is drawn.
+// Practice sheets from a seed. `draw_sheet` is offered to callers: it takes any input and promises what specs/Calls.antt says. A refusal is found
+// before anything is drawn. `draw_row` is for the programs that test: a row of any length by the same draws.
 ghost use mathlib.Core.Path.{_≡_};
 ghost use mathlib.Core.Bool.{true};
 ghost use Prim.Native.Nat.{_+_, _*_, _^_, _<_, _≤_};

@@ -1,6 +1,6 @@
 -- One turn of each loop that checks a question list.
 -- Assumes nothing.
-use Rattle.basics.proofs.Kit.{_≡_, refl, sym, _∙_, Bool, true, List, [], _∷_, ℕ, zero, suc, _+_, _-_, _*_, _^_, _≤_, _<_, min, arith, length, getD, take, drop, eqb, leb, ℤ}
+use Rattle.basics.proofs.Kit.{_≡_, refl, sym, ap, _∙_, Bool, true, List, [], _∷_, ℕ, zero, suc, _+_, _-_, _*_, _^_, _≤_, _<_, min, arith, length, getD, take, drop, eqb, leb, ℤ}
 use mathlib.Core.Logic.{_⊎_, inl, inr}
 use native.Mathlib.Nat.{mul-suc}
 use native.Mathlib.Numerals.{add-one}
@@ -10,8 +10,10 @@ use lib.Seq.{drop-cons, take-all}
 use mir.Syntax.{w64}
 use mir.Val.{Fits}
 use Rattle.refusal.specs.Refusal.{unless, first}
+use Rattle.code.specs.declared.Chosen.{Chosen}
 use Rattle.code.specs.Code.{width, long, symbols-good}
 use Rattle.code.specs.Bits.{row-long}
+use Rattle.code.proofs.Promise.{By-number, by-number-m}
 use Rattle.metric.specs.Row.{row-good}
 use Rattle.sheet.specs.declared.Form.{Form}
 use Rattle.sheet.specs.Sheet.{sheet-bound, question-long}
@@ -20,6 +22,14 @@ use Rattle.sheet.proofs.Items.{le-or-lt}
 use Rattle.sheet.proofs.Forms.{question-long-le}
 use Rattle.sheet_writer.specs.Calls.{fits, parts-refusal, asked-refusal, list-refusal}
 use Rattle.sheet_writer.specs.Within.{words-needed}
+
+-- how long the rows and the words of a code are, as its shape has it
+module _ (c : ℕ) {a : Chosen} (s : By-number c a) where
+  pub row-of-code : a .shape .bits ≡ row-long (width c)
+  row-of-code = s .coded .bits-is ∙ ap row-long (by-number-m c s)
+
+  pub word-of-code : a .shape .n ≡ long (width c)
+  word-of-code = s .coded .n-is ∙ ap long (by-number-m c s)
 
 pub fits-last : (k l n : ℕ) → k ≡ 0 → fits k l n ≡ eqb l n
 unfolding fits

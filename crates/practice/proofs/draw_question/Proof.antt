@@ -5,11 +5,11 @@ use lib.ListN.{replicate, length-append}
 use lib.Seq.{length-take-le}
 use Rattle.code.specs.Code.{width, long}
 use Rattle.code.specs.Bits.{row-long}
-use Rattle.code.proofs.Promise.{by-number-m}
 use Rattle.sheet.specs.Sheet.{Question, question, reliabilities, question-long, question-words, question-good}
 use Rattle.sheet.proofs.Forms.{row-form, bits-le, n-le}
 use Rattle.sheet.proofs.Longest.{question-length}
 use Rattle.sheet_writer.specs.Within.{begun}
+use Rattle.sheet_writer.proofs.Lists.{row-of-code, word-of-code}
 use Rattle.practice.specs.Practice.{row-drawn, after, question-drawn}
 use Rattle.practice.proofs.Draws.{row-length}
 use Rattle.practice.proofs.Questions.{drawn-good, row-lent, word-lent}
@@ -23,10 +23,10 @@ abbrev st : tie.After-by-number → tie.Start
 st b = b .before .before
 
 bits-is : (b : tie.After-by-number) → b .by-number .result .shape .bits ≡ row-long (width (st b .args .code))
-bits-is b = let z = b .by-number .ensures in z .coded .bits-is ∙ ap row-long (by-number-m _ z)
+bits-is b = row-of-code _ (b .by-number .ensures)
 
 n-is : (b : tie.After-by-number) → b .by-number .result .shape .n ≡ long (width (st b .args .code))
-n-is b = let z = b .by-number .ensures in z .coded .n-is ∙ ap long (by-number-m _ z)
+n-is b = word-of-code _ (b .by-number .ensures)
 
 bits-in : (b : tie.After-by-number) → b .by-number .result .shape .bits ≤ 60
 bits-in b = bits-le (b .by-number .ensures .coded)

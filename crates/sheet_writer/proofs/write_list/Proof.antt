@@ -5,14 +5,13 @@ use native.Mathlib.Nat.{le-refl, le-trans, le-add-right}
 use mir.Syntax.{w64}
 use mir.Val.{Fits}
 use mir.Facts.{fits-le, fits-below}
-use Rattle.code.proofs.Promise.{by-number-m}
 use Rattle.code.specs.Code.{width, long}
 use Rattle.code.specs.Bits.{row-long}
 use Rattle.sheet.specs.Sheet.{question, question-long, question-words, question-good}
 use Rattle.sheet.proofs.Forms.{question-long-le, at-most, next-in}
 use Rattle.sheet.proofs.Longest.{question-length}
 use Rattle.sheet_writer.specs.Within.{begun}
-use Rattle.sheet_writer.proofs.Lists.{rest-is, next-less, other-in, sum-in, row-fits, length-fits}
+use Rattle.sheet_writer.proofs.Lists.{row-of-code, word-of-code, rest-is, next-less, other-in, sum-in, row-fits, length-fits}
 use Rattle.sheet_writer.proofs.Writing.{lent-is, part-room, part-is, size, fits-in, end-fits, done, Lent-begun, lent-begin, next-code, next, next-good, rows-left, words-left, split, more, count}
 use borrow.Author.Needs.{scaled-fits}
 use Rattle.sheet_writer.proofs.write_list.Statement.{statement}
@@ -49,10 +48,10 @@ few-fits : {n : ℕ} → n ≤ 75 → Fits w64 (1 + n) × Fits w64 (4 * (1 + n))
 few-fits h = (record { fits = omega arith }, record { fits = omega arith })
 
 row-is : (b : tie.After-by-number Inv-loop μ-loop) → b .by-number .result .shape .bits ≡ row-long (width (next-code (at b .loop .inv)))
-row-is b = let z = b .by-number .ensures in z .coded .bits-is ∙ ap row-long (by-number-m _ z)
+row-is b = row-of-code _ (b .by-number .ensures)
 
 word-is : (b : tie.After-by-number Inv-loop μ-loop) → b .by-number .result .shape .n ≡ long (width (next-code (at b .loop .inv)))
-word-is b = let z = b .by-number .ensures in z .coded .n-is ∙ ap long (by-number-m _ z)
+word-is b = word-of-code _ (b .by-number .ensures)
 
 rows-in : (b : tie.After-by-number Inv-loop μ-loop) → at b .loop .row + b .by-number .result .shape .bits ≤ length (now (st (at b) .args .rows))
 rows-in b = sum-in _ (row-is b) (rows-left (at b .loop .inv) (in-loop b .loop-test .taken))

@@ -7,12 +7,11 @@ use lib.ListN.{length-drop}
 use lib.Seq.{drop-drop}
 use Rattle.refusal.specs.Refusal.{first}
 use Rattle.refusal.proofs.Tests.{link, first-refuses, first-passes}
-use Rattle.code.proofs.Promise.{by-number-m}
 use Rattle.code.specs.Code.{width, long}
 use Rattle.code.specs.Bits.{row-long}
 use Rattle.sheet.proofs.Forms.{bits-le, n-le, next-in}
 use Rattle.sheet_writer.specs.Calls.{asked-refusal, list-refusal}
-use Rattle.sheet_writer.proofs.Lists.{rest-is, next-less, other-in, further-in, row-fits, length-fits, further-fits, list-step, list-end}
+use Rattle.sheet_writer.proofs.Lists.{row-of-code, word-of-code, rest-is, next-less, other-in, further-in, row-fits, length-fits, further-fits, list-step, list-end}
 use Rattle.sheet_writer.proofs.Writing.{room}
 use mir.Facts.{fits-le}
 use borrow.Author.Needs.{scaled-fits}
@@ -65,9 +64,9 @@ add-word c = let a = at (asked-at c) in
 
 loop-again : tie.Need-loop-again Inv-loop μ-loop
 loop-again c = let b = c .before .before .before in let r = b .before .before in let a = at r in let s = st a .args in
-    let k : ℕ = getD (now (s .codes)) (a .loop .i) 0 in let z = b .by-number .ensures in
-    let n : b .by-number .result .shape .bits ≡ row-long (width k) = z .coded .bits-is ∙ ap row-long (by-number-m _ z) in
-    let m : b .by-number .result .shape .n ≡ long (width k) = z .coded .n-is ∙ ap long (by-number-m _ z) in
+    let k : ℕ = getD (now (s .codes)) (a .loop .i) 0 in
+    let n = row-of-code k (b .by-number .ensures) in
+    let m = word-of-code k (b .by-number .ensures) in
     let f = room (s .f) k _ _ _ _ (sym (asked r) ∙ b .before .if1 .left) in (
       further-in (now (s .rows)) (a .loop .row) (a .loop .inv .0) n (f .0),
       further-in (now (s .words)) (a .loop .word) (a .loop .inv .1) m (f .1),
