@@ -3,6 +3,8 @@
 // offered to callers: they take any input and promise what specs/Calls.antt says.
 // For the crates above: `by_number` and `by_parameters`, which turn a code's number, or its m and r, into a code or a refusal, `member_refusal`,
 // and `symbols_good` and `is_codeword` on words that have the right length. Layers and syndromes are left to the crate `split`.
+#![tactic(auto)]
+
 ghost use Rattle.std.specs.Prelude.{◌≡◌, true, ◌++◌, ◌+◌, ◌<◌, length, take, drop};
 ghost use Rattle.field.specs.Field.{width_good};
 ghost use Rattle.field.specs.Within.{Tables};
@@ -12,7 +14,7 @@ ghost use Rattle.code.specs.Calls.{encode_refusal, EncodeSays, member_refusal, R
 ghost use Rattle.code.specs.Within.{Coded, ChosenSays, WordWithin, PartWithin, PlaceWithin, QuotientWithin, MessageWithin, Carries};
 ghost use Rattle.code.specs.Bits.{row_long};
 
-#[derive(Drop)]
+#[derive(Clone, Copy)]
 pub enum Membership {
     Codeword,
     NoCodeword,
@@ -21,7 +23,7 @@ pub enum Membership {
 
 // A code: m bits to a symbol and roots α to α^r, with the numbers that follow from them: n symbols to a word, k of them its message, `bits` = n·m bits
 // to a word and entries to a row, q bits to a layer's syndrome, and `size` = 2^q syndromes.
-#[derive(Drop)]
+#[derive(Clone, Copy)]
 pub struct Shape {
     pub m: u32,
     pub r: u32,
@@ -33,7 +35,7 @@ pub struct Shape {
 }
 
 // 0 and a code, or the number of a refusal and any code.
-#[derive(Drop)]
+#[derive(Clone, Copy)]
 pub struct Chosen {
     pub number: u32,
     pub shape: Shape,

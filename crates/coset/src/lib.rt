@@ -1,6 +1,8 @@
 // The coset search of four layers at once: for each layer and coset the least cost of its words. The decoder has it as a key, with the first word that
 // has this cost, and besides the tables of least costs that the soft pass meets; the marker asks for no word and has the costs alone, in 16 bits. It
 // knows columns, costs and xor, and no code. Its functions are for the crates above; their promises cite specs/Coset.antt.
+#![tactic(auto)]
+
 ghost use Rattle.std.specs.Prelude.{◌≡◌, ◌+◌, ◌-◌, ◌*◌, ◌^◌, ◌<◌, ◌≤◌, length};
 ghost use Rattle.lanes.specs.Lanes as L;
 ghost use Rattle.lanes.specs.Lanes.{twofold};

@@ -1,5 +1,7 @@
 // The decoder with its soft outputs. `decode`, with a code's number, and `decode_by`, with its m and r, are offered to callers: they take any input and
 // promise what specs/Calls.antt says, in the words of the crate metric.
+#![tactic(auto)]
+
 ghost use Rattle.std.specs.Prelude.{◌≡◌, length};
 ghost use Rattle.code.specs.Code.{number_refusal, width, roots, parameter_refusal};
 ghost use Rattle.code.specs.Within.{Coded};
@@ -9,7 +11,7 @@ use code::{Chosen, Shape};
 
 // 0 and the best metric, or the number of a refusal and 0.
 #[repr(C)]
-#[derive(Drop)]
+#[derive(Clone, Copy)]
 pub struct Decoding {
     pub number: u32,
     pub metric: i32,

@@ -1,5 +1,7 @@
 // The decoding of an accepted row, over the search: the first best word, its metric and the soft outputs. `decode_accepted` is for the crates above, which
 // know that nothing is refused; how the search goes is no part of its promise.
+#![tactic(auto)]
+
 ghost use Rattle.std.specs.Prelude.{◌≡◌, ◌*◌, ◌≤◌, length, take};
 ghost use Rattle.code.specs.Code.{is_codeword};
 ghost use Rattle.code.specs.Within.{Coded};

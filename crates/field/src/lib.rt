@@ -1,6 +1,8 @@
 // The fields of 8 and of 16 elements. An element is a value with its sum, product and inverse; each call refuses by itself
 // and promises, for every input, the answer that specs/Answers.antt gives it. `is_width`, `size`, `add`, `multiply`, `power` and
 // `times_power` are for the crates above, on numbers that are known to be elements.
+#![tactic(auto)]
+
 ghost use Rattle.std.specs.Prelude.{◌≡◌, true, ◌-◌, ◌^◌, ◌<◌};
 ghost use Rattle.field.specs.Field.{width_good, xor, times, alpha, inverse};
 ghost use Rattle.field.specs.Within.{Elements, Inside, Nonzero, Log, Tables};
@@ -17,14 +19,14 @@ pub const LOG_3: [u8; 8] = [0, 0, 1, 3, 2, 6, 4, 5];
 pub const LOG_4: [u8; 16] = [0, 0, 1, 4, 2, 8, 5, 10, 3, 14, 9, 7, 6, 13, 11, 12];
 
 // An element of the field of 2^m, as a number below 2^m.
-#[derive(Drop)]
+#[derive(Clone, Copy)]
 pub struct Element {
     pub m: u32,
     pub value: u8,
 }
 
 // An element, or the number of a refusal.
-#[derive(Drop)]
+#[derive(Clone, Copy)]
 pub enum Answer {
     Found(Element),
     Refused(u32),

@@ -1,5 +1,7 @@
 // From a table to the places of the walk and back: what each place costs, and for each entry the least of the places that stand for it. It knows no walk. Its
 // functions are for the crates above; their promises cite specs/Gather.antt.
+#![tactic(auto)]
+
 ghost use Rattle.std.specs.Prelude.{◌≡◌, ℕ, ◌+◌, ◌/◌, ◌<◌, ◌≤◌, min, [], length, get_or, set, take};
 ghost use Rattle.gather.specs.Gather.{key_cost, Priced, Gathered, Lowered, Scattered, LessOwn, Sixteens, Scatter};
 

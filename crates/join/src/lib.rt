@@ -2,6 +2,8 @@
 // `join`, with a code's number, and `join_by`, with its m and r, are offered to callers: they take any input and promise what specs/Calls.antt says.
 // Syndromes and leaders are the crate `split`'s, and the codeword test is the crate `code`'s: with every syndrome in range, a configuration is valid exactly
 // where what is joined by it is a codeword.
+#![tactic(auto)]
+
 ghost use Rattle.std.specs.Prelude.{◌≡◌, true, cond, ◌<◌, ltb, eqb, length, take};
 ghost use Rattle.refusal.specs.Refusal.{unless, Outcome};
 ghost use Rattle.code.specs.Code.{long, number_refusal, width, roots, parameter_refusal};

@@ -1,5 +1,7 @@
 // Rows of four numbers in a slice, one to a layer, and two rows side by side: eight numbers, which the vector instructions treat at once.
 // Its functions are for the coset search, the soft pass and the walk; their promises cite specs/Lanes.antt.
+#![tactic(auto)]
+
 ghost use Rattle.std.specs.Prelude.{◌≡◌, ◌+◌, ◌*◌, ◌<◌, ◌≤◌, min, length};
 ghost use Rattle.lanes.specs.Lanes.{row, rows, twofold, sum, put, put_two, limit, Sums};
 

@@ -2,11 +2,13 @@
 // first one. `next` yields one question into lent outputs and says at which position the reader stands then. It is thin over `yield_at`, which
 // has plain parameters, and so has `read_from`: whoever calls these meets no such struct. All of them take any input, a position that nobody
 // gave out among it, and promise what specs/Calls.antt says: each yield checks the whole sheet.
+#![tactic(auto)]
+
 ghost use Rattle.lent_reader.specs.Calls.{YieldSays};
 
 use sheet_reader::{Step, Yield};
 
-#[derive(Drop)]
+#[derive(Clone, Copy)]
 pub struct Reader<'a> {
     pub sheet: &'a [u8],
     pub at: usize,

@@ -1,4 +1,8 @@
 // Lists the sheet on standard input.
-fn main() {
-    console::list_from(0);
+#![tactic(auto)]
+
+use std::io;
+
+fn main(rt: HostRuntime) -> io::Result<()> {
+    console::list_from(&rt, &mut rt.stdin())
 }

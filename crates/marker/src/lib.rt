@@ -1,6 +1,8 @@
 // The marker. `judge_word`, with a code's number, and `judge_word_by`, with its m and r, are offered to callers: they take any input and promise what
 // specs/Calls.antt says, in the words of the crate metric; how the search goes is no part of the promise. `verdict_on_word` is for the crates above,
 // which know the code and the best metric.
+#![tactic(auto)]
+
 ghost use Rattle.std.specs.Prelude.{◌≡◌};
 ghost use Rattle.code.specs.Code.{number_refusal, width, roots, is_codeword, parameter_refusal};
 ghost use Rattle.code.specs.Within.{Coded};
@@ -15,7 +17,7 @@ use code::{Chosen, Shape};
 
 // 0 with the verdict (0 none, 1 short, 2 best) and the shortfall, or the number of a refusal with 0 and 0.
 #[repr(C)]
-#[derive(Drop)]
+#[derive(Clone, Copy)]
 pub struct Mark {
     pub number: u32,
     pub verdict: u32,

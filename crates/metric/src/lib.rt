@@ -1,6 +1,8 @@
 // Reliabilities and metrics: the definitions that the decoder, the marker and the sheets share, with their laws, and the tests of a reliability
 // and of a row, and the metric of a word. The search for a best word is left to the crates above. Its functions are for them, and promise
 // `reliability_good` and `row_good` of specs/Row.antt and `metric` of specs/Metric.antt.
+#![tactic(auto)]
+
 ghost use Rattle.std.specs.Prelude.{◌≡◌, true, ◌&&◌, cond, List, ◌++◌, ℕ, ◌^◌, ◌≤◌, ◌<◌, eqb, length, drop, nat_abs, ◌+ℤ◌, ◌-ℤ◌};
 ghost use Rattle.code.specs.Bits.{bits_of};
 ghost use Rattle.metric.specs.Row.{row_bound, reliability_good, row_good};

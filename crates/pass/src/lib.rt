@@ -1,6 +1,8 @@
 // The soft pass over the cosets of four layers at once: for each column and layer the least cost with a 0 and with a 1 there. The heads are passed one
 // by one, each met with the table behind it; the tail's columns are read off by laying halves on each other. It knows no code. Its functions are for
 // the crates above; their promises cite specs/Pass.antt.
+#![tactic(auto)]
+
 ghost use Rattle.std.specs.Prelude.{◌≡◌, ◌+◌, ◌*◌, ◌≤◌, length};
 ghost use Rattle.lanes.specs.Lanes.{entry, row, put, lanes, limit};
 ghost use Rattle.rows.specs.Rows.{sum, less, Small, Sums};
@@ -9,7 +11,7 @@ ghost use Rattle.pass.specs.Steps.{AdvanceRows, AdvancedRows, FoldRows, Fold, Ad
 ghost use Rattle.pass.specs.Pass.{Advance, met, lowest, Pass, Passed};
 
 // What a column has at the least with a 0 and with a 1, in each layer.
-#[derive(Drop)]
+#[derive(Clone, Copy)]
 pub struct Pair {
     pub zero: [u16; 4],
     pub one: [u16; 4],

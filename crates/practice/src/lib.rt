@@ -1,5 +1,7 @@
 // Practice sheets from a seed. `draw_sheet` is offered to callers: it takes any input and promises what specs/Calls.antt says. A refusal is found
 // before anything is drawn. `draw_row` is for the programs that test: a row of any length by the same draws.
+#![tactic(auto)]
+
 ghost use Rattle.std.specs.Prelude.{◌≡◌, ◌+◌, ◌*◌, ◌^◌, ◌<◌, ◌≤◌, true, length};
 ghost use Rattle.code.specs.Code.{code_good, width};
 ghost use Rattle.code.specs.Bits.{row_long};
@@ -14,7 +16,7 @@ const STEP: u32 = 0x9E3779B9;
 
 // 0 and the state after the last draw, or the number of a refusal and the state as it was lent.
 #[repr(C)]
-#[derive(Drop)]
+#[derive(Clone, Copy)]
 pub struct Drawn {
     pub number: u32,
     pub state: u32,

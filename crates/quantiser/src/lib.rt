@@ -3,6 +3,8 @@
 // specs/Calls.antt says, each sample by specs/Quantise.antt.
 // For the crates above: `quantise_one` of a sample that is a number, and `any_nan`.
 // What a code is, and how long its row, is left to the crate `code`.
+#![tactic(auto)]
+
 ghost use Rattle.std.specs.Prelude.{◌≡◌, false, map, ◌^◌, ◌<◌, ◌≤◌, min, pos, length};
 ghost use Rattle.std.specs.Float.{binary32};
 ghost use Rattle.std.specs.Float.Ieee.{is_nan, of_bits, nan_bits};

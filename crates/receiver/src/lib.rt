@@ -2,6 +2,8 @@
 // `receive`, with a code's number, and `receive_by`, with its m and r, are offered to callers: they take any input and promise what
 // specs/Calls.antt says, each symbol by specs/Receive.antt.
 // What a code is, and how long its row, is left to the crate `code`; the reliability of a sample to the crate `quantiser`.
+#![tactic(auto)]
+
 ghost use Rattle.std.specs.Prelude.{◌≡◌, [], ◌∷◌, ◌≤◌, length};
 ghost use Rattle.code.specs.Code.{number_refusal, width, parameter_refusal};
 ghost use Rattle.code.specs.Within.{Coded};
@@ -12,14 +14,14 @@ ghost use Rattle.receiver.specs.Within.{bits, SymbolWithin, PutSays, RowWithin};
 use code::{Chosen, Shape};
 
 // An in-phase and a quadrature sample.
-#[derive(Drop)]
+#[derive(Clone, Copy)]
 pub struct Pair {
     pub in_phase: f32,
     pub quadrature: f32,
 }
 
 // A received symbol: lost with one bit, lost with two, a single sample, or a pair.
-#[derive(Drop)]
+#[derive(Clone, Copy)]
 pub enum Received {
     LostOne,
     LostTwo,
@@ -28,7 +30,7 @@ pub enum Received {
 }
 
 // How many bits and samples some symbols have.
-#[derive(Drop)]
+#[derive(Clone, Copy)]
 struct Counts {
     bits: usize,
     samples: usize,

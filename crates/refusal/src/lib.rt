@@ -1,4 +1,6 @@
 // What the calls' refusals share: a refusal is a chain of `unless` and `first`, in the order in which its tests are named.
+#![tactic(auto)]
+
 ghost use Rattle.std.specs.Prelude.{◌≡◌};
 ghost use Rattle.refusal.specs.Refusal.{unless, first};
 

@@ -1,5 +1,7 @@
 // The listing of a sheet, written into a lent output. `list` is offered to callers: it takes any bytes and promises by
 // specs/Calls.antt that the text is the one that specs/Listing.antt says.
+#![tactic(auto)]
+
 ghost use Rattle.std.specs.Prelude.{◌≡◌, ℕ, ◌+◌, ◌*◌, ◌≤◌, length};
 ghost use Rattle.sheet.specs.Sheet.{question, questions};
 ghost use Rattle.metric.specs.Scratch.{scratch_long};
@@ -10,7 +12,7 @@ use sheet_reader::Yield;
 
 // 0 and the number of bytes of the text, or the number of a refusal and 0.
 #[repr(C)]
-#[derive(Drop)]
+#[derive(Clone, Copy)]
 pub struct Listed {
     pub number: u32,
     pub long: usize,
@@ -20,7 +22,7 @@ pub struct Listed {
 pub const LONG: usize = 19058;
 
 // Where the next question begins in the sheet, and where its line begins in the output.
-#[derive(Drop)]
+#[derive(Clone, Copy)]
 struct Place {
     word: usize,
     text: usize,

@@ -1,5 +1,7 @@
 // Rows of four numbers in a slice, one to a layer, of 32 bits (keys) and of 16 (costs): one vector register holds a row. Its functions are for the coset
 // search and the soft pass; their promises cite specs/Rows.antt and the crate lanes.
+#![tactic(auto)]
+
 ghost use Rattle.std.specs.Prelude.{◌≡◌, ◌+◌, ◌*◌, ◌^◌, ◌<◌, ◌≤◌, min, length};
 ghost use Rattle.lanes.specs.Lanes as L;
 ghost use Rattle.lanes.specs.Lanes.{row, put};

@@ -2,6 +2,8 @@
 // a word from its layers.
 // proofs/Searching.antt shows that the least total over the tables of an accepted row is the least cost of a codeword, and that the words that are
 // found are those of the first codeword that has it. Its functions are for the decoder and the marker.
+#![tactic(auto)]
+
 ghost use Rattle.std.specs.Prelude.{◌≡◌, true, ℕ, ◌+◌, ◌*◌, ◌/◌, ◌%◌, ◌^◌, ◌<◌, ◌≤◌, length, get_or, replicate, pos};
 ghost use Rattle.field.specs.Field.{width_good};
 ghost use Rattle.code.specs.Within.{Coded};
@@ -177,7 +179,7 @@ fn lay_costs(shape: Shape, g: &[u16], places: &mut [u16], f: &mut [u16])
 }
 
 // The least that a tuple costs, and the words of the first codeword that costs it.
-#[derive(Drop)]
+#[derive(Clone, Copy)]
 pub struct Best {
     pub total: u16,
     pub words: [u16; 4],

@@ -7,7 +7,7 @@ ghost use Rattle.sheet.specs.Calls.{judgement};
 use crate::{Form, words};
 
 // What stands above some digits, and whether they are all good.
-#[derive(Drop)]
+#[derive(Clone, Copy)]
 struct Scan {
     rest: u32,
     good: bool,

@@ -1,6 +1,8 @@
 // Sheets of questions: the format, and judging a sheet. `judge_sheet` is offered to callers: it takes any bytes and promises
 // what specs/Calls.antt says. The modules are for the crates above, which read and write sheets; some of their functions
 // have a `requires`.
+#![tactic(auto)]
+
 ghost use Rattle.std.specs.Prelude.{◌≡◌};
 ghost use Rattle.sheet.specs.Calls.{judged};
 
@@ -8,7 +10,7 @@ mod judging;
 pub mod words;
 
 // A kind of word that holds items: how many, and below what each is.
-#[derive(Drop)]
+#[derive(Clone, Copy)]
 pub struct Form {
     pub kind: u32,
     pub each: usize,

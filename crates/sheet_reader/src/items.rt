@@ -8,7 +8,7 @@ use sheet::Form;
 
 // Where a reader of items stands: the item that it took last, what is left of the word that it took it from with how many items, and the
 // next word.
-#[derive(Drop)]
+#[derive(Clone, Copy)]
 struct Spot {
     item: u32,
     rest: u32,

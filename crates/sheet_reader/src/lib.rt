@@ -1,5 +1,7 @@
 // The questions of a sheet into lent outputs. `question_of` is offered to callers: it takes any input and promises what specs/Calls.antt
 // says. `question_at` is for the crates above, which read an accepted sheet from its first question on.
+#![tactic(auto)]
+
 ghost use Rattle.std.specs.Prelude.{◌≡◌, ℕ, ◌+◌, ◌/◌, ◌<◌, ◌≤◌, length, get_or, drop};
 ghost use Rattle.sheet.specs.Sheet.{reliabilities, as_words};
 ghost use Rattle.sheet.specs.Within.{Fine, RowForm};
@@ -11,7 +13,7 @@ use sheet::Form;
 mod items;
 
 // What a reader answers: a question, that none is left, or a refusal.
-#[derive(Drop)]
+#[derive(Clone, Copy)]
 pub enum Yield {
     Found { code: u32, number: u32 },
     NoneLeft,
@@ -19,7 +21,7 @@ pub enum Yield {
 }
 
 // An answer, and the word at which the next question begins.
-#[derive(Drop)]
+#[derive(Clone, Copy)]
 pub struct Step {
     pub answer: Yield,
     pub next: usize,

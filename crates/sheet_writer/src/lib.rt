@@ -1,5 +1,7 @@
 // Writing a question list as a sheet. `write_sheet` is offered to callers: it takes any input and promises what
 // specs/Calls.antt says. A refusal is found before anything is written. The module `pack` is for the crates above; its functions have a `requires`.
+#![tactic(auto)]
+
 ghost use Rattle.std.specs.Prelude.{◌≡◌, length};
 ghost use Rattle.sheet.specs.Sheet.{written_in};
 ghost use Rattle.sheet_writer.specs.Calls.{listed, WriteSays};

@@ -1,5 +1,7 @@
 // Soft outputs, from the least costs with a 0 and with a 1 at each bit: written position by position, in sixteen signed bits. It knows no code. Its
 // functions are for the decoder; their promises cite specs/Softs.antt.
+#![tactic(auto)]
+
 ghost use Rattle.std.specs.Prelude.{◌≡◌, ◌*◌, ◌^◌, ◌<◌, pos, ◌-ℤ◌};
 ghost use Rattle.softs.specs.Softs.{SoftsWithin, Softened, SoftWithin, SoftWritten};
 

@@ -2,6 +2,8 @@
 // `split`, with a code's number, and `split_by`, with its m and r, are offered to callers: they take any input and promise what specs/Calls.antt says,
 // by the definitions of specs/Split.antt. `leader` and `syndrome_of` are for the crates above. Which configurations are valid, and all of them by
 // number, is left to the crate `configurations`; words and codes are the crate `code`'s.
+#![tactic(auto)]
+
 mod tables;
 
 ghost use Rattle.std.specs.Prelude.{◌≡◌, true, ◌/◌, ◌%◌, ◌^◌, ◌≤◌, ◌<◌, length};
@@ -22,7 +24,7 @@ use tables::{
 
 // The number of a refusal, or 0 with the configuration of the word.
 #[repr(C)]
-#[derive(Drop)]
+#[derive(Clone, Copy)]
 pub struct Splitting {
     pub number: u32,
     pub configuration: [u16; 4],

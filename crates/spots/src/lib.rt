@@ -1,5 +1,7 @@
 // Where the walk of a code goes: columns, slots and steps as constants chosen by m and r, and the entry of a table that each place stands for. Its
 // functions are for the search; their promises cite specs/Spots.antt and the crate tails.
+#![tactic(auto)]
+
 ghost use Rattle.std.specs.Prelude.{◌≡◌, true, ◌+◌, ◌*◌, ◌^◌, ◌<◌, length, get_or, take};
 ghost use Rattle.code.specs.Code.{accepted, long, syndrome_long};
 ghost use Rattle.tails.specs.Tails.{columns, turns};

@@ -1,6 +1,6 @@
 // One row: the decoding and the marks of some words, against the greatest metrics of the listed codewords and the first best one.
-use crate::rows::Row;
-use crate::{rows, words};
+use crate::levels::Row;
+use crate::{levels, words};
 use marker::Mark;
 
 // What is counted: the metrics, first best words, soft outputs and marks that agree, the words with each verdict, none, short and best, and the
@@ -117,7 +117,7 @@ fn with_marks(
     decoded: u32,
     state: u32,
 ) -> [u64; 8] {
-    let drawn = one_of(words, rows::next(state) / 65536 % 512);
+    let drawn = one_of(words, levels::next(state) / 65536 % 512);
     let a = with_mark(t, roots, r, best, decoded);
     let b = with_mark(a, roots, r, best, 0);
     let c = with_mark(b, roots, r, best, 2097151);
@@ -129,7 +129,7 @@ fn with_marks(
 }
 
 // What the decoder answers to a row.
-#[derive(Drop)]
+#[derive(Clone, Copy)]
 struct Answer {
     number: u32,
     metric: i32,
@@ -172,7 +172,7 @@ fn with_decoding(t: [u64; 8], r: Row, best: words::Best, a: Answer, words: &[u32
 
 // One row, decoded and marked.
 pub fn with_row(t: [u64; 8], roots: u32, words: &[u32], k: u32, state: u32) -> [u64; 8] {
-    let r = rows::drawn(k, state);
+    let r = levels::drawn(k, state);
     let levels = r.levels;
     let row = r.row;
     let best = words::best_of(&levels, words);

@@ -167,7 +167,7 @@ pub fn greatest(levels: &[u32; 21], words: &[u32], mask: u32, wanted: u32) -> u3
 }
 
 // The best words: their metric, raised, the first of them, and how many there are.
-#[derive(Drop)]
+#[derive(Clone, Copy)]
 pub struct Best {
     pub metric: u32,
     pub first: u32,

@@ -1,24 +1,31 @@
 // Lists the sheets whose files its arguments name, each under a line with the name.
-fn main() {
-    let count = os::arg_count();
-    let mut i = 1;
-    while i < count {
-        list_named(i);
-        i += 1;
+#![tactic(auto)]
+
+use std::env::{Env, FillError};
+use std::rt::Files;
+use std::{fs, io};
+
+fn main(rt: HostRuntime) -> io::Result<()> {
+    for i in 1..usize::MAX {
+        let mut name = [0u8; 4096];
+        match rt.arg(i, &mut name) {
+            Ok(n) => list_named(&rt, &name[..n])?,
+            Err(FillError::TooLong) => list_named(&rt, &[])?,
+            Err(FillError::NotPresent) => break,
+        }
     }
+    Ok(())
 }
 
-// Lists the sheet that an argument names.
-fn list_named(i: usize) {
-    let mut name = io::buffer();
-    let n = os::arg(i, &mut name);
-    io::write_all(1, &name[..n]);
-    io::write_all(1, b"\n");
-    let fd = os::open_read(&name[..n]);
-    if fd < 0 {
-        io::write_all(1, b"no such file\n");
-        return;
+// Lists the sheet in the file of a name.
+fn list_named<R: Files + Print>(rt: &R, name: &[u8]) -> io::Result<()> {
+    rt.write_all(name)?;
+    println!(rt)?;
+    let Ok(path) = std::str::from_utf8(name) else {
+        return println!(rt; "no such file");
+    };
+    match fs::open(rt, path) {
+        Ok(mut file) => console::list_from(rt, &mut file),
+        Err(_) => println!(rt; "no such file"),
     }
-    console::list_from(fd);
-    libc::close(fd);
 }

@@ -1,4 +1,8 @@
 // The program `listing` again, run on more bytes than it reads: a sheet of 200 questions with six bytes behind it.
-fn main() {
-    console::list_from(0);
+#![tactic(auto)]
+
+use std::io;
+
+fn main(rt: HostRuntime) -> io::Result<()> {
+    console::list_from(&rt, &mut rt.stdin())
 }

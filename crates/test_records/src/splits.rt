@@ -57,7 +57,7 @@ fn by_parameters(tally: Tally) -> Tally {
 }
 
 // A word of m = 4 and r with its parts.
-#[derive(Drop)]
+#[derive(Clone, Copy)]
 pub struct Parts {
     pub r: u32,
     pub word: u64,

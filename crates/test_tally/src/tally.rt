@@ -3,7 +3,7 @@
 ghost use Rattle.std.specs.Prelude.{◌≡◌, ◌%◌, false, not, ◌&&◌, length, replicate, if◌then◌else◌, ◌==◌};
 ghost use Rattle.test_tally.specs.Tally.{counted, stands_at, compared};
 
-#[derive(Drop)]
+#[derive(Clone, Copy)]
 pub struct Tally {
     pub agreed: u64,
     pub total: u64,

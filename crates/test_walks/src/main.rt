@@ -1,21 +1,25 @@
 // Prints for each code that is accepted, by its m and r, how many turns its walk has and how many adjustments it answers.
+#![tactic(auto)]
+
 ghost use Rattle.std.specs.Prelude.{◌≡◌, true, ◌-◌, ◌*◌};
 ghost use Rattle.code.specs.Code.{accepted};
 ghost use Rattle.tails.specs.Tails.{turns};
 ghost use Rattle.walk.specs.Walk.{changes};
 ghost use Rattle.spots.specs.Spots.{slots, all_steps, layers_a_step};
 
-fn main() {
-    report(3, 1);
-    report(3, 2);
-    report(3, 3);
-    report(3, 4);
-    report(3, 5);
-    report(3, 6);
-    report(4, 1);
-    report(4, 2);
-    report(4, 4);
-    report(4, 6);
+use std::io;
+
+fn main(rt: HostRuntime) -> io::Result<()> {
+    report(&rt, 3, 1)?;
+    report(&rt, 3, 2)?;
+    report(&rt, 3, 3)?;
+    report(&rt, 3, 4)?;
+    report(&rt, 3, 5)?;
+    report(&rt, 3, 6)?;
+    report(&rt, 4, 1)?;
+    report(&rt, 4, 2)?;
+    report(&rt, 4, 4)?;
+    report(&rt, 4, 6)
 }
 
 // How many adjustments the walk of a code answers: at each turn but the first as many as layers change. What the places cost plays no part, and here they cost
@@ -41,17 +45,16 @@ fn adjusted(m: u32, r: u32) -> u32
 }
 
 // A number and what it counts.
-fn count(n: u64, what: &[u8]) {
-    io::print_decimal(1, n);
-    io::write_all(1, what);
+fn count(rt: &impl Print, n: u64, what: &str) -> io::Result<()> {
+    print!(rt; "{n}{what}")
 }
 
-fn report(m: u32, r: u32)
+fn report(rt: &impl Print, m: u32, r: u32) -> io::Result<()>
     requires { accepted m r ≡ true }
 {
-    io::write_all(1, b"(");
-    count(m as u64, b", ");
-    count(r as u64, b"): ");
-    count(spots::turns(m, r) as u64, b" turns, ");
-    count(adjusted(m, r) as u64, b" adjustments\n");
+    print!(rt; "(")?;
+    count(rt, m as u64, ", ")?;
+    count(rt, r as u64, "): ")?;
+    count(rt, spots::turns(m, r) as u64, " turns, ")?;
+    count(rt, adjusted(m, r) as u64, " adjustments\n")
 }

@@ -1,6 +1,8 @@
 // The lines of a listing, written into a lent buffer from a place on. The functions are for the crates above: each asks that
 // its text has room, and promises by `Written` of specs/Within.antt that the text of specs/Text.antt stands there, that the
 // rest of the buffer is kept, and which place follows the text.
+#![tactic(auto)]
+
 ghost use Rattle.std.specs.Prelude.{◌≡◌, ◌∷◌, [], ◌++◌, ◌+◌, ◌<◌, ◌≤◌, length, nat_abs};
 ghost use Rattle.metric.specs.Metric.{decided};
 ghost use Rattle.text.specs.Text.{space, digit, decimal, sign, signed, bit_byte, bits_field, least_magnitude, header, question_line, count_line, refused_line};

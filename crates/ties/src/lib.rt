@@ -1,5 +1,7 @@
 // Of the tuples that cost the least, the one whose word comes first: where the words of all places that take part agree, these; else a second walk.
 // Its functions are for the crates above; their promises cite specs/Ties.antt.
+#![tactic(auto)]
+
 ghost use Rattle.std.specs.Prelude.{◌≡◌, true, cond, ◌&&◌, List, ℕ, ◌+◌, ◌<◌, ◌≤◌, eqb, ltb, length, get_or};
 ghost use Rattle.walk.specs.Walk.{start, Slots};
 ghost use Rattle.walk.specs.Turns.{Standing, Movable, Moved, Begins};
@@ -26,7 +28,7 @@ fn word_of(t: &[u32], places: &[u16], p: usize) -> u16
 }
 
 // The bits that all of some entries have, and those that any has: every entry lies between.
-#[derive(Drop)]
+#[derive(Clone, Copy)]
 pub struct Span {
     pub low: u16,
     pub high: u16,
@@ -60,7 +62,7 @@ fn place_of(sl: &[u16], j: usize) -> usize
 }
 
 // A word, and whether it is the one that takes part.
-#[derive(Drop)]
+#[derive(Clone, Copy)]
 pub struct Slot {
     pub word: u16,
     pub one: bool,
@@ -97,7 +99,7 @@ fn both(a: bool, b: bool) -> bool
 }
 
 // Four words, and whether they are all that take part.
-#[derive(Drop)]
+#[derive(Clone, Copy)]
 pub struct Agreed {
     pub words: [u16; 4],
     pub all: bool,

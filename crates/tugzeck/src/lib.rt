@@ -3,6 +3,8 @@
 // one where a result is a struct of numbers. A slice is a pointer and a length, and a configuration that is handed over a pointer to four numbers; a result
 // is a number or a struct of numbers.
 // Nothing here covers what a caller hands over: pointers valid for their lengths, and outputs that overlap nothing.
+#![tactic(auto)]
+
 ghost use Rattle.std.specs.Prelude.{◌≡◌};
 ghost use Rattle.code.specs.Code.{number_refusal, width, roots, parameter_refusal};
 ghost use Rattle.code.specs.Calls.{EncodeSays, ReadSays, checked, number_of};
@@ -27,7 +29,7 @@ use split::Splitting;
 
 // 0 with the count of questions, or the number of a refusal and 0.
 #[repr(C)]
-#[derive(Drop)]
+#[derive(Clone, Copy)]
 pub struct Judgement {
     pub number: u32,
     pub questions: u32,
@@ -35,7 +37,7 @@ pub struct Judgement {
 
 // 0 and found 1 with a question's code and its number; found 0 where none is left. Or the number of a refusal. What is not said is 0.
 #[repr(C)]
-#[derive(Drop)]
+#[derive(Clone, Copy)]
 pub struct Asked {
     pub number: u32,
     pub found: u32,

@@ -1,6 +1,8 @@
 // The walk over tuples of four places, sixteen side by side in the vector registers: the least total, and for the soft outputs the least with each
 // place. The total is kept running: where a slot changes its row, the old row is taken off and the new one put on, and one adjustment is counted. It knows no
 // code. Its functions are for the crates above; their promises cite specs/Walk.antt and specs/Turns.antt.
+#![tactic(auto)]
+
 ghost use Rattle.std.specs.Prelude.{◌≡◌, true, cond, List, ℕ, ◌+◌, ◌-◌, ◌^◌, ◌<◌, ◌≤◌, min, length, get_or};
 ghost use Rattle.lanes.specs.Lanes.{lane, limit};
 ghost use Rattle.trellis.specs.Trellis.{least_of};
@@ -111,7 +113,7 @@ fn lower_rest(g: &mut [u16], a: [usize; 4], t: [u16; 16], w: u32, soft: bool)
 }
 
 // Where the walk stands: the places of the four slots and their rows, the running total, and how many adjustments were made.
-#[derive(Drop)]
+#[derive(Clone, Copy)]
 pub struct At {
     pub places: [usize; 4],
     pub r0: [u16; 16],
@@ -148,7 +150,7 @@ fn first(f: &[u16], sl: &[u16]) -> At
 }
 
 // A slot at a turn: its place and row, the total with it, and how many adjustments were made.
-#[derive(Drop)]
+#[derive(Clone, Copy)]
 pub struct Slot {
     pub place: usize,
     pub row: [u16; 16],
@@ -307,7 +309,7 @@ fn least_lane(m: [u16; 16], cap: u16) -> u16
 }
 
 // What a walk finds: the least total, and how many adjustments it made.
-#[derive(Drop)]
+#[derive(Clone, Copy)]
 pub struct Found {
     pub least: u16,
     pub adjusted: u32,

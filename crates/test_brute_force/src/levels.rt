@@ -1,7 +1,7 @@
 // The rows of the comparison. A level is a reliability raised by 127, so that unsigned numbers hold it.
 
 // A row by its levels, as the decoder takes it, and its hard decisions: a word with a 1 where the reliability is negative.
-#[derive(Drop)]
+#[derive(Clone, Copy)]
 pub struct Row {
     pub levels: [u32; 21],
     pub row: [i16; 21],
