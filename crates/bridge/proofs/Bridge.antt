@@ -1,7 +1,6 @@
 -- From tables to codewords: over the tuples of a code, the least sum of the layers' tables is the least cost of a codeword, with bits held or not.
 -- Assumes nothing.
-use Rattle.basics.proofs.Kit.{◌≡◌, refl, sym, ap, ap₂, ◌∙◌, Bool, true, cond, List, [], ◌∷◌, ℕ, zero, suc, ◌+◌, ◌*◌, ◌/◌, ◌^◌, ◌≤◌, ◌<◌, arith, length, get_or, ℤ, pos}
-use native.Mathlib.Nat.{div-eq_of_lt, lt_of_lt_of_le}
+use Rattle.basics.proofs.Kit.{◌≡◌, refl, sym, ap, ap₂, ◌∙◌, Bool, true, cond, List, [], ◌∷◌, ℕ, zero, suc, ◌+◌, ◌*◌, ◌^◌, ◌≤◌, ◌<◌, arith, length, get_or, ℤ, pos}
 use native.Mathlib.Decide.{dec_le}
 use lib.ListN.{replicate, length-replicate}
 use borrow.Author.Tests.{le-ltb}

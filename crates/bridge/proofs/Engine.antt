@@ -1,8 +1,8 @@
 -- From the walk to the least with one layer's table replaced: where a layer's other table meets what the other layers cost, that is a sum over one
 -- tuple.
 -- Assumes nothing.
-use Rattle.basics.proofs.Kit.{◌≡◌, sym, ap, ◌∙◌, cond, ℕ, ◌+◌, ◌-◌, ◌≤◌, ◌<◌, arith, eqb}
-use Rattle.trellis.specs.Trellis.{least_of, meet}
+use Rattle.basics.proofs.Kit.{◌≡◌, ap, cond, ℕ, ◌+◌, ◌≤◌, ◌<◌, arith, eqb}
+use Rattle.trellis.specs.Trellis.{meet}
 use Rattle.trellis.proofs.Least.{least_le, least_found}
 use Rattle.lanes.proofs.Rows.{four}
 use Rattle.walk.specs.Walk.{sum4}

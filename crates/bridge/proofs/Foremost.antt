@@ -88,7 +88,7 @@ module _ {m r : ℕ} {hs : List ℕ} {N : ℕ} {conf : (k j : ℕ) → ℕ} {rs 
           (λ j lj. free_two 0 (first j (lane s j)) (TT.traced (L j) (final big) 0 (length hs) (lane s j)).held) j lj)
 
   -- no codeword that costs as little as its tuple has a lesser number than the tuple's first word
-  module _ (vs : List ℕ) (cw : is_codeword m r vs ≡ true) (x : ℕ) (cost-is : cost m rs vs ≡ x) (small : x < big)
+  module _ (vs : List ℕ) (cw : is_codeword m r vs ≡ true) (x : ℕ) (cost_is : cost m rs vs ≡ x) (small : x < big)
       (least : (k : ℕ) → k < N → x ≤ over F (conf k)) where
     v : Layered y big (λ j. free) (λ j. free_two) (λ j h. refl) vs
     v = layered y big (λ j. free) (λ j. free_two) (λ j h. refl) vs cw (λ j lj. two_free 0 (layer j vs) (layer_below j vs))
@@ -98,7 +98,7 @@ module _ {m r : ℕ} {hs : List ℕ} {N : ℕ} {conf : (k j : ℕ) → ℕ} {rs 
 
     sum_is : over F s ≡ x
     sum_is =
-        omega (arith, v.no_less 0 (omega arith), v.no_less 1 (omega arith), v.no_less 2 (omega arith), v.no_less 3 (omega arith), v.costs, cost-is, least v.place v.inside)
+        omega (arith, v.no_less 0 (omega arith), v.no_less 1 (omega arith), v.no_less 2 (omega arith), v.no_less 3 (omega arith), v.costs, cost_is, least v.place v.inside)
 
     exact : (j : ℕ) → j < 4 → T.cost (L j) 0 (layer j vs) ≡ F j (s j)
     exact =
@@ -108,13 +108,13 @@ module _ {m r : ℕ} {hs : List ℕ} {N : ℕ} {conf : (k j : ℕ) → ℕ} {rs 
         let n3 = v.no_less 3 (omega arith) in
         let e = v.costs in
         let f = sum_is in
-        four (λ j. T.cost (L j) 0 (layer j vs) ≡ F j (s j)) (omega (arith, cost-is)) (omega (arith, cost-is)) (omega (arith, cost-is)) (omega (arith, cost-is))
+        four (λ j. T.cost (L j) 0 (layer j vs) ≡ F j (s j)) (omega (arith, cost_is)) (omega (arith, cost_is)) (omega (arith, cost_is)) (omega (arith, cost_is))
 
     layer_first : (j : ℕ) → j < 4 → number 16 (first j (s j)) ≤ number 16 (layer j vs)
     layer_first j lj =
         let p : CodewordParts m r vs = codeword_parts m r vs cw in
-        let small-j : F j (s j) < big = four (λ j. F j (s j) < big) (omega (arith, sum_is)) (omega (arith, sum_is)) (omega (arith, sum_is)) (omega (arith, sum_is)) j lj in
-        let n = named (s j) j small-j in
+        let small_j : F j (s j) < big = four (λ j. F j (s j) < big) (omega (arith, sum_is)) (omega (arith, sum_is)) (omega (arith, sum_is)) (omega (arith, sum_is)) j lj in
+        let n = named (s j) j small_j in
         let b = layer_below j vs in
         let own : Adds (L j) (length hs) (s j) (layer j vs) = record { count = layer_length j vs ∙ p.count ∙ sym y.glue.count; held = two_free 0 (layer j vs) b; sum = sym (v.sums j lj) } in
         let f = n.adds in

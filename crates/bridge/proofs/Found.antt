@@ -1,7 +1,7 @@
 -- THE SEARCH IS RIGHT: the least over the configurations is the least cost of a codeword; and where one layer's table with a bit held meets what the
 -- other layers cost, that is the least cost of a codeword with that bit.
 -- Assumes nothing.
-use Rattle.basics.proofs.Kit.{◌≡◌, refl, sym, ap, ◌∙◌, Bool, true, false, cond, List, [], ◌∷◌, ℕ, zero, suc, ◌+◌, ◌-◌, ◌*◌, ◌≤◌, ◌<◌, arith, length, get_or, eqb, ℤ}
+use Rattle.basics.proofs.Kit.{◌≡◌, refl, sym, ap, ◌∙◌, Bool, true, false, cond, List, [], ◌∷◌, ℕ, zero, suc, ◌+◌, ◌*◌, ◌≤◌, ◌<◌, arith, length, get_or, eqb, ℤ}
 use mathlib.Core.Path.{subst}
 use native.Mathlib.Nat.{not-suc-le-zero, le_of_suc-le-suc}
 use borrow.Author.Tests.{eq-eqb, ne_eqb, eqb-true}
@@ -57,7 +57,7 @@ some_with m r w f b h (suc (suc v)) hv = absurd (omega arith)
 
 -- cap is above the cost of every word, and big no less than that
 module _ {m r : ℕ} {hs : List ℕ} {N : ℕ} {conf : (k j : ℕ) → ℕ} {rs : List ℤ} {zs os : List ℕ} (y : Setting m r hs N conf rs zs os) (big cap bound : ℕ)
-    (light : weight_of rs < bound) (under : bound ≤ cap) (over-all : cap ≤ big) where
+    (light : weight_of rs < bound) (under : bound ≤ cap) (over_all : cap ≤ big) where
   w : width_good m ≡ true
   w = y.glue.width
 

@@ -19,11 +19,11 @@ use Rattle.bridge.proofs.Engine.{over}
 use Rattle.bridge.proofs.Bridge.{table, costless, Lane, woven, free_two}
 
 -- a layer that costs nothing is traced as zeros
-module _ (col : Columns) (big n : ℕ) (free-zero : (p : ℕ) → p < n → (col p).c0 ≡ 0) where
+module _ (col : Columns) (big n : ℕ) (free_zero : (p : ℕ) → p < n → (col p).c0 ≡ 0) where
   back_zero : (i k : ℕ) → i + k ≤ n → back free col (final big) i k 0 ≡ 0
   unfolding back step
   back_zero i zero h = refl
-  back_zero i (suc k) h = omega (arith, back_zero (suc i) k (omega arith), free-zero i (omega arith))
+  back_zero i (suc k) h = omega (arith, back_zero (suc i) k (omega arith), free_zero i (omega arith))
 
   trace_zero : (i k : ℕ) → i + k ≤ n → Below 1 (trace col (final big) i k 0)
   unfolding trace choice
@@ -31,7 +31,7 @@ module _ (col : Columns) (big n : ℕ) (free-zero : (p : ℕ) → p < n → (col
   trace_zero i (suc k) h =
       let v : ℕ → ℕ = back free col (final big) (suc i) k in
       let e : bit (leb (v 0 + (col i).c0) (v (xor 0 (col i).h) + (col i).c1)) ≡ 0 =
-      ap bit (le-leb (v 0 + (col i).c0) (v (xor 0 (col i).h) + (col i).c1) (omega (arith, back_zero (suc i) k (omega arith), free-zero i (omega arith)))) in
+      ap bit (le-leb (v 0 + (col i).c0) (v (xor 0 (col i).h) + (col i).c1) (omega (arith, back_zero (suc i) k (omega arith), free_zero i (omega arith)))) in
       rw e (omega arith, rw (X.zero_r 0) (trace_zero (suc i) k (omega arith)))
 
 module _ {m r : ℕ} {hs : List ℕ} {N : ℕ} {conf : (k j : ℕ) → ℕ} {rs : List ℤ} {zs os : List ℕ} (y : Setting m r hs N conf rs zs os) (big : ℕ) where

@@ -171,7 +171,7 @@ module _ (m r : ℕ) (w : width_good m ≡ true) (few : r < long m) where
       let b = passed _ _ _ a.1 in
       record { width = w; count = eqb-true (length ws) (long m) a.0; symbols = (passed _ _ _ b.1).0; few = few }
 
--- a word that is read or split is a codeword, and the output has the room that it needs
+-- a word that is read or split is a codeword, and the output has the room that it rules
 pub record Member (m r : ℕ) (ws : List ℕ) (o k : ℕ) : Type 0 where
   pub count : length ws ≡ long m
   pub room : o ≡ k

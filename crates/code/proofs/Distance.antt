@@ -81,22 +81,22 @@ module _ (m : ℕ) (w : width_good m ≡ true) where
   opened a c p u v y ha hc hp hu hv hy =
       ap (λ (z : ℕ). xor z (xor v (times m y u))) (F.times_assoc m w c (xor a y) p hc (X.below m a y ha hy) hp) ∙ simp (field, times_lt)
 
-  thin-value :
+  thin_value :
       (t y k : ℕ) (cs : List ℕ) → y < 2 ^ m → Below (2 ^ m) cs →
       value_from m t k (thin y k cs) ≡ xor (value_from m (suc t) k cs) (times m y (value_from m t k cs))
   unfolding thin value_from
-  thin-value t y k [] hy b = sym (X.zero_l (times m y 0) ∙ F.times_zero_r m w y hy)
-  thin-value t y k (c ∷ cs) hy b =
-      rw (thin-value t y (suc k) cs hy b.1, next_power k t)
+  thin_value t y k [] hy b = sym (X.zero_l (times m y 0) ∙ F.times_zero_r m w y hy)
+  thin_value t y k (c ∷ cs) hy b =
+      rw (thin_value t y (suc k) cs hy b.1, next_power k t)
       (opened (alpha m k) c (alpha m (k * t)) (value_from m t (suc k) cs) (value_from m (suc t) (suc k) cs) y
       (F.alpha_lt m w k) b.0 (F.alpha_lt m w (k * t)) (value_lt t (suc k) cs b.1) (value_lt (suc t) (suc k) cs b.1) hy)
 
   -- thinned by its own place, the first symbol is 0
-  thin-first :
+  thin_first :
       (t k c : ℕ) (cs : List ℕ) → c < 2 ^ m →
       value_from m t (suc k) (thin (alpha m k) (suc k) cs) ≡ value_from m t k (thin (alpha m k) k (c ∷ cs))
   unfolding thin value_from
-  thin-first t k c cs hc =
+  thin_first t k c cs hc =
       rw (X.self (alpha m k), F.times_zero_r m w c hc, F.times_zero_l m w (alpha m (k * t)) (F.alpha_lt m w (k * t)), X.zero_l (value_from m t (suc k) (thin (alpha m k) (suc k) cs)))
 
   -- by another place, symbols that differ still do
@@ -131,9 +131,9 @@ module _ (m : ℕ) (w : width_good m ≡ true) where
     where
       thinned : (t : ℕ) → s ≤ t → t < s + r → value_from m t (suc k) (thin (alpha m k) (suc k) cs) ≡ value_from m t (suc k) (thin (alpha m k) (suc k) ds)
       thinned t a b =
-          thin-first t k c cs f.0 ∙ thin-value t (alpha m k) k (c ∷ cs) (F.alpha_lt m w k) f
+          thin_first t k c cs f.0 ∙ thin_value t (alpha m k) k (c ∷ cs) (F.alpha_lt m w k) f
           ∙ ap₂ (λ (u v : ℕ). xor u (times m (alpha m k) v)) (same (suc t) (omega arith) (omega arith)) (same t a (omega arith))
-          ∙ sym (thin-first t k d ds g.0 ∙ thin-value t (alpha m k) k (d ∷ ds) (F.alpha_lt m w k) g)
+          ∙ sym (thin_first t k d ds g.0 ∙ thin_value t (alpha m k) k (d ∷ ds) (F.alpha_lt m w k) g)
 
       rest : cs ≡ ds
       rest =

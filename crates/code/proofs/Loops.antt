@@ -10,7 +10,6 @@ use lib.Seq.{take-suc, take_all, drop-cons, drop-length, append_snoc, set_at, le
 use borrow.Author.Tests.{lt-ltb, le-ltb, eq-eqb, ne_eqb}
 use Rattle.field.specs.Field.{xor, times, alpha, width_good}
 use Rattle.field.proofs.Tests.{to_T, widths}
-use Rattle.field.proofs.Xor as X
 use Rattle.field.proofs.Field as F
 use Rattle.code.specs.Code.{long, symbols_good, value_at, vanishes, is_codeword}
 use Rattle.code.specs.Within.{WordWithin}

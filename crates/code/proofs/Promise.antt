@@ -17,7 +17,6 @@ use Rattle.refusal.specs.Refusal.{first, Outcome}
 use Rattle.refusal.proofs.Tests.{first_none, first_free}
 use Rattle.code.specs.Calls.{EncodeSays, ReadSays, encode_refusal, member_refusal, membership, checked}
 use Rattle.code.specs.declared.Membership.{Membership}
-use Rattle.code.specs.declared.Shape.{Shape}
 use Rattle.code.specs.declared.Chosen.{Chosen}
 use Rattle.code.specs.Within.{ChosenSays, MessageWithin}
 use Rattle.code.proofs.Accepted.{

@@ -1,7 +1,7 @@
 -- A sweep down a list in place: from the end to place i it is replaced by F of what stood there, with one number carried along.
 -- Division by X + x and multiplication by it are two such sweeps.
 -- Assumes nothing.
-use Rattle.basics.proofs.Kit.{◌≡◌, refl, sym, ap, ap₂, ◌∙◌, true, List, [], ◌∷◌, ◌++◌, ℕ, zero, suc, ◌+◌, ◌-◌, ◌^◌, ◌≤◌, ◌<◌, arith, length, get_or, take, drop, set}
+use Rattle.basics.proofs.Kit.{◌≡◌, refl, sym, ap, ap₂, ◌∙◌, true, List, [], ◌∷◌, ◌++◌, ℕ, zero, suc, ◌^◌, ◌≤◌, ◌<◌, arith, length, get_or, take, drop, set}
 use mathlib.Core.List.{append-nil}
 use native.Mathlib.Nat.{not-suc-le-zero, le_refl}
 use lib.ListN.{length-set}

@@ -120,8 +120,8 @@ module _ {l q h size step : ℕ} {t₀ z o : List ℕ} (a : Free l q size h t₀
           let k : ℕ = q - suc p.e in
           let e : q ≡ k + suc p.e = omega arith in
           let m : size ≡ 2 ^ k * 2 ^ suc p.e = a.size_is ∙ ap (λ (y : ℕ). 2 ^ y) e ∙ pow-add 2 k (suc p.e) in
-          let c-in : f.c < 2 ^ k = lt_of_mul-lt-mul_right (2 ^ suc p.e) (omega (arith, begin)) in
-          omega (arith, begin, twice, m, mul-le-mul_right (2 ^ suc p.e) c-in, suc-mul f.c (2 ^ suc p.e))
+          let c_in : f.c < 2 ^ k = lt_of_mul-lt-mul_right (2 ^ suc p.e) (omega (arith, begin)) in
+          omega (arith, begin, twice, m, mul-le-mul_right (2 ^ suc p.e) c_in, suc-mul f.c (2 ^ suc p.e))
 
   pub run_asks : Run l h size base (base + step) t z o
   run_asks = record {

@@ -1,6 +1,6 @@
 -- The field, by tests that antt computes at all of its elements, at both widths.
 -- Assumes nothing.
-use Rattle.basics.proofs.Kit.{◌≡◌, refl, sym, ap, ap₂, ◌∙◌, Bool, true, false, ◌||◌, not, cond, ℕ, zero, suc, ◌+◌, ◌-◌, ◌/◌, ◌%◌, ◌^◌, ◌≤◌, ◌<◌, arith, eqb, leb}
+use Rattle.basics.proofs.Kit.{◌≡◌, refl, sym, ap, ap₂, ◌∙◌, Bool, true, false, ◌||◌, not, cond, ℕ, zero, suc, ◌+◌, ◌/◌, ◌%◌, ◌^◌, ◌≤◌, ◌<◌, arith, eqb, leb}
 use mathlib.Core.Path.{subst, subst⁻¹}
 use native.Mathlib.Nat.{mod-lt, zero-add, suc-add}
 use lib.Dec.{T, lit<, eqb→eq}
@@ -167,7 +167,7 @@ module _ (m : ℕ) (w : width_good m ≡ true) where
   pub alpha_apart : (s t : ℕ) → s < 2 ^ m → 1 ≤ t → t < s → T (not (eqb (xor (alpha m s) (alpha m t)) 0))
   alpha_apart s t hs l h = other (leb t 0) (leb s t) _ (lt→nleb t 0 l) (lt→nleb s t h) (apart s t hs (omega arith))
 
--- bounds, for `search`; sums of products in a normal form, for `simp`, to which add the bounds that it needs and no other: times-lt, below
+-- bounds, for `search`; sums of products in a normal form, for `simp`, to which add the bounds that it rules and no other: times-lt, below
 pub ruleset lts = (times_lt, square_lt, below, alpha_lt)
 
 pub ruleset field = (times_add_r, times_add_l, times_left_comm, times_zero_r, times_zero_l, assoc, left_comm, comm, zero_r, zero_l, self)

@@ -115,25 +115,25 @@ module _ (m : ℕ) (among : List ℕ → Bool) (rs : List ℤ) (x : WordsFor m a
     unfolding held
     held_of ws c e = rw (c, eq-eqb (number_of_lem ws) v e) refl
 
-    lowest-held :
+    lowest_held :
         (ws : List ℕ) → among ws ≡ true → number_of_lem ws ≡ v →
         (us : List ℕ) × (among us ≡ true) × (number_of_lem us ≡ v) × ((vs : List ℕ) → among vs ≡ true → number_of_lem vs ≡ v → f us ≤ f vs)
-    lowest-held ws c e =
+    lowest_held ws c e =
         let l : Lowest held f = lowest x.count (2 ^ m) held f (λ vs g. inside vs (held_word vs g)) ws (held_of ws c e) in
         (l.word, held_word l.word l.passes, held_number l.word l.passes, λ vs k h. l.least vs (held_of vs k h))
 
   pub least_with_there : (b v : ℕ) → b < length rs → v < 2 → (d : ℕ) × LeastWith m among rs b v d
   least_with_there b v hb hv =
       let y = x.both b v hb hv in
-      let l = lowest-held (bit_at m b) v (cost m rs) y.0 y.1 y.2 in
+      let l = lowest_held (bit_at m b) v (cost m rs) y.0 y.1 y.2 in
       (cost m rs l.0, record { met = (l.0, l.1, l.2, refl); all = l.3 })
 
   -- the first of the words of least cost
-  pub first-there :
+  pub first_there :
       (d : ℕ) → Least m among rs d →
       (ws : List ℕ) × (among ws ≡ true) × (cost m rs ws ≡ d) × ((vs : List ℕ) → among vs ≡ true → cost m rs vs ≡ d → not_after ws vs ≡ true)
-  first-there d s =
-      let l = lowest-held (cost m rs) d (number (2 ^ m)) s.met.0 s.met.1 s.met.2 in (
+  first_there d s =
+      let l = lowest_held (cost m rs) d (number (2 ^ m)) s.met.0 s.met.1 s.met.2 in (
         l.0,
         l.1,
         l.2,

@@ -26,7 +26,7 @@ use Rattle.metric.proofs.Integers.{minus, same, size, minus_size, le_at_most, at
 use Rattle.metric.proofs.Bounds.{word_size}
 use Rattle.metric.proofs.Costs.{greatest, greatest_with, decoded_with}
 use Rattle.metric.proofs.Marks.{marked_none, marked_short, marked_best}
-use Rattle.metric.proofs.Finite.{least_there, least_with_there, first-there}
+use Rattle.metric.proofs.Finite.{least_there, least_with_there, first_there}
 
 clash {ℓ} : {X : Type ℓ} {b : Bool} → b ≡ true → b ≡ false → X
 clash p q = absurd (false≢true (sym q ∙ p))
@@ -275,7 +275,7 @@ pub decoded_there : DecodedThere
 unfolding DecodedThere GreatestWithThere
 decoded_there m among rs x =
     let s = least_there m among rs x in
-    let w = first-there m among rs x s.0 s.1 in
+    let w = first_there m among rs x s.0 s.1 in
     let so = collected (length rs) (Soft m among rs) soft_at in
     (w.0, top rs s.0, so.0, decoded_with m among rs (filled m among rs x) w.0 s.0 so.0 w.1 w.2 s.1 w.3 so.1 so.2)
   where

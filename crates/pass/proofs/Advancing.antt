@@ -1,6 +1,6 @@
 -- One column from the front, in place by pairs of rows: what a turn of the loop asks, and what it leaves.
 -- Assumes nothing.
-use Rattle.basics.proofs.Kit.{◌≡◌, refl, sym, ap, ◌∙◌, List, [], ◌∷◌, ℕ, zero, suc, ◌+◌, ◌-◌, ◌*◌, ◌%◌, ◌^◌, ◌≤◌, ◌<◌, min, arith, length}
+use Rattle.basics.proofs.Kit.{◌≡◌, refl, sym, ap, ◌∙◌, List, [], ◌∷◌, ℕ, suc, ◌+◌, ◌-◌, ◌*◌, ◌%◌, ◌^◌, ◌≤◌, ◌<◌, min, arith, length}
 use mathlib.Core.Path.{subst}
 use native.Mathlib.Nat.{two-pow-succ, pow-succ', mul_assoc, suc-mul, mul-le-mul_right, lt_of_mul-lt-mul_right}
 use native.Mathlib.Decide.{dec_le, ℕ_discrete}
@@ -133,8 +133,8 @@ module _ {q size h cap : ℕ} {a t z o : List ℕ} (w : Advance q size h cap a t
           let k : ℕ = q - suc e in
           let d : q ≡ k + suc e = omega arith in
           let m : size ≡ 2 ^ k * 2 ^ suc e = w.size_is ∙ ap (λ (y : ℕ). 2 ^ y) d ∙ pow-add 2 k (suc e) in
-          let c-in : p.block < 2 ^ k = lt_of_mul-lt-mul_right (2 ^ suc e) (omega (arith, p.is)) in
-          omega (arith, m, mul-le-mul_right (2 ^ suc e) c-in, suc-mul p.block (2 ^ suc e))
+          let c_in : p.block < 2 ^ k = lt_of_mul-lt-mul_right (2 ^ suc e) (omega (arith, p.is)) in
+          omega (arith, m, mul-le-mul_right (2 ^ suc e) c_in, suc-mul p.block (2 ^ suc e))
 
   pub next : Next e h size s (s + 1 + bit_and (s + 1) top)
   next = subst (λ (y : ℕ). Next e h size s (s + 1 + bit_and (s + 1) y)) (sym t'.power) (go (dec_le (2 ^ e) (p.rest + 1)))

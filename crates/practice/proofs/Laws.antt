@@ -43,15 +43,15 @@ module _ (c : ℕ) where
   abbrev per : ℕ
   per = row_long (width c)
 
-  abbrev rows-from : (i n s : ℕ) → List (List ℤ)
-  rows-from i n s = map (λ q. q.row) (drawn_from i c n s)
+  abbrev rows_from : (i n s : ℕ) → List (List ℤ)
+  rows_from i n s = map (λ q. q.row) (drawn_from i c n s)
 
-  same_rows : (n i j s : ℕ) → rows-from i n s ≡ rows-from j n s
+  same_rows : (n i j s : ℕ) → rows_from i n s ≡ rows_from j n s
   unfolding drawn_from
   same_rows zero i j s = refl
   same_rows (suc n) i j s = ap (λ (l : List (List ℤ)). row_drawn per s ∷ l) (same_rows n (suc i) (suc j) (after per s))
 
-  join_rows : (a b i j s : ℕ) → rows-from i (a + b) s ≡ rows-from i a s ++ rows-from j b (after (a * per) s)
+  join_rows : (a b i j s : ℕ) → rows_from i (a + b) s ≡ rows_from i a s ++ rows_from j b (after (a * per) s)
   unfolding drawn_from after
   join_rows zero b i j s = rw (zero-add b, zero-mul per) (same_rows b i j s)
   join_rows (suc a) b i j s =

@@ -19,6 +19,6 @@ rows bs = map (λ q. q.row) (questions bs)
 -- drawing a questions and then b from the state handed back gives the rows of a draw of a + b, and the state
 unfoldable pub DrawsJoin : Type 0
 DrawsJoin =
-    (code a b state between last last-of-all : ℕ) (first second whole : List ℕ) →
-    Practised code a state between first → Practised code b between last second → Practised code (a + b) state last-of-all whole →
-    (rows whole ≡ rows first ++ rows second) × (last-of-all ≡ last)
+    (code a b state between last last_of_all : ℕ) (first second whole : List ℕ) →
+    Practised code a state between first → Practised code b between last second → Practised code (a + b) state last_of_all whole →
+    (rows whole ≡ rows first ++ rows second) × (last_of_all ≡ last)

@@ -64,18 +64,18 @@ module _ (ks : List ℕ) (xs : List Float) where
       abbrev kind : ℕ
       kind = get_or ks i 0
 
-      abbrev now-received : Received
-      now-received = symbol kind (drop at xs)
+      abbrev now_received : Received
+      now_received = symbol kind (drop at xs)
 
       pub enough : taken kind ≤ length (drop at xs)
       enough = omega (arith, f.spent, total_next taken ks i h, length-drop at xs)
 
-      rest_next : rest i at ≡ reliabilities_of now-received ++ rest (i + 1) (at + taken kind)
+      rest_next : rest i at ≡ reliabilities_of now_received ++ rest (i + 1) (at + taken kind)
       unfolding received received_row
       rest_next = rw (drop-cons ks i 0 h, drop-drop, add-one)
 
       abbrev part_now : List ℤ
-      part_now = reliabilities_of now-received
+      part_now = reliabilities_of now_received
 
       both : length (rest i at) ≡ length part_now + length (rest (i + 1) (at + taken kind))
       both = ap length rest_next ∙ length-append part_now (rest (i + 1) (at + taken kind))
@@ -87,7 +87,7 @@ module _ (ks : List ℕ) (xs : List Float) where
       row_inside : b + length part_now ≤ length row
       row_inside = omega (arith, f.long, both)
 
-      pub fits : SymbolWithin now-received (length (drop b row))
+      pub fits : SymbolWithin now_received (length (drop b row))
       fits = record { numbers = (symbol_numbers kind (drop at xs) enough f.numbers).0; room = omega (arith, row_inside, length-drop b row) }
 
       filled : Filled (take b row ++ (part_now ++ drop (length part_now) (drop b row))) (i + 1) (at + taken kind) (b + length part_now)
@@ -107,7 +107,7 @@ module _ (ks : List ℕ) (xs : List Float) where
 
       -- a turn: the symbol of the samples from sample at on is put to the row from place b on
       module _ {s : Received} (e : s ≡ symbol kind (take (length xs - at) (drop at xs))) where
-        symbol_is : s ≡ now-received
+        symbol_is : s ≡ now_received
         symbol_is = rw tail_is at e
 
         pub put_fits : SymbolWithin s (length (take (length row - b) (drop b row)))

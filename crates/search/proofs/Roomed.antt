@@ -1,4 +1,4 @@
--- Rooms of three sizes hold what a code needs, and the scratch is all 0.
+-- Rooms of three sizes hold what a code rules, and the scratch is all 0.
 -- Assumes nothing.
 use Rattle.basics.proofs.Kit.{◌≡◌, sym, ap, ◌∙◌, List, ℕ, ◌*◌, ◌^◌, ◌≤◌, arith, length, take, ℤ, pos}
 use lib.ListN.{replicate}

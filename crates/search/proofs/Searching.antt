@@ -15,7 +15,7 @@ use Rattle.tails.specs.Promise.{CodewordsVisited}
 use Rattle.spots.specs.Spots.{slots_from, slots}
 use Rattle.spots.specs.Promise.{SpotVisited, VisitedInside, VisitedHigh}
 use Rattle.metric.specs.Row.{row_bound}
-use Rattle.metric.specs.Cost.{weight_of, cost, Least}
+use Rattle.metric.specs.Cost.{weight_of, Least}
 use Rattle.metric.proofs.Bounds.{weight_le}
 use Rattle.trellis.specs.Trellis.{back, free, final, least_of}
 use Rattle.trellis.specs.Rows.{layer as column-of}

@@ -267,10 +267,12 @@ module _ {f : Form} (z : RowForm f) where
   read_from zero ws h e = by ws (rest_parts f 0 ws e)
     where
       by : (ws : List ℕ) → Rest f 0 ws → Back f 0 ws
+      by [] x = elim x [ ]
       by (w ∷ ws) (ends k e) = record { qs = []; fine = refl; few = omega arith; count = most - 0; count_is = omega arith; again = end_back _ w ws k e }
   read_from (suc k) ws h e = by ws (rest_parts f (suc k) ws e) (λ vs. read_from k vs (omega arith))
     where
       by : (ws : List ℕ) → Rest f (suc k) ws → ((vs : List ℕ) → rest_refusal f k vs ≡ 0 → Back f k vs) → Back f (suc k) ws
+      by [] x more = elim x [ ]
       by (w ∷ ws) (ends i e) more = record { qs = []; fine = refl; few = omega arith; count = most - suc k; count_is = omega arith; again = end_back _ w ws i e }
       by (w ∷ ws) (asks i a e) more =
           let p = asked w ws i a in

@@ -172,23 +172,23 @@ module _ (f : Form) where
         (a.1, rw (e, ne_eqb (kind w) end_kind n, h, eq-eqb (kind w) head_kind a.0) (ap (judgement _) (omega arith)))
 
   module _ (bs : List ℕ) (k at : ℕ) (h : at < length bs / 4) where
-    abbrev pub word-here : ℕ
-    word-here = get_or (as_words bs) at 0
+    abbrev pub word_here : ℕ
+    word_here = get_or (as_words bs) at 0
 
-    abbrev pub head-here : ℕ
-    head-here = head_refusal f k word-here (drop (at + 1) (as_words bs))
+    abbrev pub head_here : ℕ
+    head_here = head_refusal f k word_here (drop (at + 1) (as_words bs))
 
-    here : drop at (as_words bs) ≡ word-here ∷ drop (at + 1) (as_words bs)
+    here : drop at (as_words bs) ≡ word_here ∷ drop (at + 1) (as_words bs)
     here = rw add-one (drop-cons (as_words bs) at 0 (omega (arith, as_words_length bs)))
 
-    pub turn_end : kind word-here ≡ end_kind → judged_from f k (drop at (as_words bs)) ≡ judgement (end_refusal (most - k) word-here (length bs / 4 - (at + 1))) (most - k)
+    pub turn_end : kind word_here ≡ end_kind → judged_from f k (drop at (as_words bs)) ≡ judgement (end_refusal (most - k) word_here (length bs / 4 - (at + 1))) (most - k)
     turn_end e = rw (here, ← as_words_length bs, ← length-drop (at + 1) (as_words bs)) (judged_end k _ _ e)
 
-    pub turn_refused : (kind word-here ≡ end_kind → ⊥) → (head-here ≡ 0 → ⊥) → judged_from f k (drop at (as_words bs)) ≡ head-here
+    pub turn_refused : (kind word_here ≡ end_kind → ⊥) → (head_here ≡ 0 → ⊥) → judged_from f k (drop at (as_words bs)) ≡ head_here
     turn_refused n r = rw here (judged_refused _ _ n k r)
 
-    pub turn_more : (kind word-here ≡ end_kind → ⊥) → head-here ≡ 0 → k ≤ most →
-        (0 < k) × (judged_from f k (drop at (as_words bs)) ≡ judged_from f (k - 1) (drop (at + (1 + question_long f (width (head_code word-here)))) (as_words bs)))
+    pub turn_more : (kind word_here ≡ end_kind → ⊥) → head_here ≡ 0 → k ≤ most →
+        (0 < k) × (judged_from f k (drop at (as_words bs)) ≡ judged_from f (k - 1) (drop (at + (1 + question_long f (width (head_code word_here)))) (as_words bs)))
     turn_more n r l =
         let t = judged_more _ _ n k r l in
-        (t.0, rw here (t.1 ∙ ap (judged_from f (k - 1)) (past f (width (head_code word-here)) at (as_words bs))))
+        (t.0, rw here (t.1 ∙ ap (judged_from f (k - 1)) (past f (width (head_code word_here)) at (as_words bs))))

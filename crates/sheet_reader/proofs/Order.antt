@@ -80,5 +80,6 @@ module _ {bs : List ℕ} {i at : ℕ} (t : Stands bs i at) where
   cases = by t.left (drop at words) refl refl (rest_parts reliabilities t.left (drop at words) t.rest)
     where
       by : (k : ℕ) (vs : List ℕ) → t.left ≡ k → drop at words ≡ vs → Rest reliabilities k vs → Done ⊎ More
+      by k [] l e x = elim x [ ]
       by k (w ∷ vs) l e (ends h r) = inl (done e h)
       by (suc k) (w ∷ vs) l e (asks h q r) = inr (more e k l h r)

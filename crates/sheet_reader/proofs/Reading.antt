@@ -16,10 +16,10 @@ use Rattle.sheet_reader.specs.Within.{items_from, spot_items, TakenSays}
 
 module _ (f : Form) (z : Fine f) where
   module _ (ws : List ℕ) where
-    abbrev next-items : (n rest left next : ℕ) → List ℕ
-    next-items n v l k = digits f.base (min l n) v ++ items_from f (n - l) (drop k ws)
+    abbrev next_items : (n rest left next : ℕ) → List ℕ
+    next_items n v l k = digits f.base (min l n) v ++ items_from f (n - l) (drop k ws)
 
-    of_word : (n v l k : ℕ) → (l ≡ 0 → ⊥) → next-items (suc n) v l k ≡ (v % f.base) ∷ next-items n (v / f.base) (l - 1) k
+    of_word : (n v l k : ℕ) → (l ≡ 0 → ⊥) → next_items (suc n) v l k ≡ (v % f.base) ∷ next_items n (v / f.base) (l - 1) k
     unfolding digits
     of_word n v zero k h = absurd (h refl)
     of_word n v (suc l) k h =
@@ -28,7 +28,7 @@ module _ (f : Form) (z : Fine f) where
         let c : suc l - 1 ≡ l = omega arith in
         rw (a, b, c)
 
-    new_word : (n v k : ℕ) → next-items (suc n) v 0 k ≡ next-items (suc n) (body (get_or ws k 0)) f.each (k + 1)
+    new_word : (n v k : ℕ) → next_items (suc n) v 0 k ≡ next_items (suc n) (body (get_or ws k 0)) f.each (k + 1)
     unfolding items_from items_in items used digits
     new_word n v k =
         let a : min 0 (suc n) ≡ 0 = omega arith in

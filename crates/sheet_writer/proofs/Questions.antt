@@ -47,16 +47,16 @@ items_inside {f} {rs} {ws} p = by (eqb f.kind symbols.kind) refl
 
 -- one digit more of a word
 module _ {f : Form} {rs : List ℤ} {ws : List ℕ} (p : Packs f rs ws) (from : ℕ) where
-  abbrev pub packed-from : ℕ → ℕ
-  packed-from i = packed f.base (drop i (take f.each (drop from (items_of f rs ws))))
+  abbrev pub packed_from : ℕ → ℕ
+  packed_from i = packed f.base (drop i (take f.each (drop from (items_of f rs ws))))
 
-  pub packed_fits : (i : ℕ) → packed-from i < 2 ^ 28
+  pub packed_fits : (i : ℕ) → packed_from i < 2 ^ 28
   packed_fits i =
       let g : Below f.base (drop from (items_of f rs ws)) = (below_parts f.base from (items_of f rs ws) (items_inside p)).1 in
       lt_of_lt_of_le (digit_bound f.base f.each (drop from (items_of f rs ws)) i p.form.some g) p.form.fits
 
-  pub packed_more : (i v : ℕ) → 0 < i → i ≤ length (take f.each (drop from (items_of f rs ws))) → v ≡ packed-from i →
-      v * f.base + get_or (items_of f rs ws) (from + (i - 1)) 0 ≡ packed-from (i - 1)
+  pub packed_more : (i v : ℕ) → 0 < i → i ≤ length (take f.each (drop from (items_of f rs ws))) → v ≡ packed_from i →
+      v * f.base + get_or (items_of f rs ws) (from + (i - 1)) 0 ≡ packed_from (i - 1)
   packed_more i v h l e =
       sym (digit_turn f.base f.each (drop from (items_of f rs ws)) i h l ∙ ap₂ (λ (x y : ℕ). x + f.base * y) (get_or-drop from (items_of f rs ws) (i - 1) 0) (sym e)
       ∙ omega (arith, mul_comm v f.base))
@@ -117,10 +117,10 @@ module _ {f : Form} {c n : ℕ} {rs : List ℤ} {ws : List ℕ} (z : RowForm f) 
   abbrev row_part : List ℕ
   row_part = words_of f (length rs) rs ws
 
-  abbrev symbol-part : List ℕ
-  symbol-part = words_of symbols (length ws) rs ws
+  abbrev symbol_part : List ℕ
+  symbol_part = words_of symbols (length ws) rs ws
 
-  parts : (head ++ row_part) ++ symbol-part ≡ question_words f (question c n rs ws)
+  parts : (head ++ row_part) ++ symbol_part ≡ question_words f (question c n rs ws)
   unfolding question_words row_words symbol_words worded head_kind
   parts = rw (items_row f rs ws z.other, items_symbols symbols rs ws refl, g.row_length, g.word_length)
 
@@ -128,8 +128,8 @@ module _ {f : Form} {c n : ℕ} {rs : List ℤ} {ws : List ℕ} (z : RowForm f) 
   question_room = ap length (sym parts) ∙ simp (length-append, items_words_length) (omega arith)
 
   pub question_done : (o : List ℕ) {a b d : List ℕ} {at : ℕ} → a ≡ take 0 o ++ (digits 256 4 (268435456 + (c * 16777216 + n)) ++ drop (0 + 4) o) →
-      (at ≡ 4 + 4 * count f (length rs)) × (b ≡ begun_at 4 row_part a) → d ≡ begun_at at symbol-part b → d ≡ begun (question_words f (question c n rs ws)) o
+      (at ≡ 4 + 4 * count f (length rs)) × (b ≡ begun_at 4 row_part a) → d ≡ begun_at at symbol_part b → d ≡ begun (question_words f (question c n rs ws)) o
   unfolding begun_at
   question_done o e h k =
       let l : 4 + 4 * count f (length rs) ≡ 4 * length (head ++ row_part) = omega (arith, items_words_length f (count f (length rs)) (items_of f rs ws)) in
-      k ∙ rw (h.1, e, begun_one _ o, begun_join head row_part o, h.0, l, begun_join (head ++ row_part) symbol-part o, parts)
+      k ∙ rw (h.1, e, begun_one _ o, begun_join head row_part o, h.0, l, begun_join (head ++ row_part) symbol_part o, parts)

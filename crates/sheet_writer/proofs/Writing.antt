@@ -176,43 +176,43 @@ module _ {f : Form} {cs ns : List ℕ} {rs : List ℤ} {ws o : List ℕ} where
     list = listed cs ns rs ws
 
     -- the question that comes next
-    abbrev pub next-code : ℕ
-    next-code = get_or cs i 0
+    abbrev pub next_code : ℕ
+    next_code = get_or cs i 0
 
     abbrev pub next : Question
-    next = first_of next-code (get_or ns i 0) (drop row rs) (drop word ws)
+    next = first_of next_code (get_or ns i 0) (drop row rs) (drop word ws)
 
     module _ (h : i < length cs) where
       other : i < length ns
       other = omega (arith, b.list_in.same)
 
-      asked : (asked_refusal f next-code (get_or ns i 0) (length cs - (i + 1)) (drop row rs) (drop word ws) ≡ 0)
-          × (list_refusal f (drop (i + 1) cs) (drop (i + 1) ns) (drop (row_long (width next-code)) (drop row rs)) (drop (long (width next-code)) (drop word ws)) ≡ 0)
+      asked : (asked_refusal f next_code (get_or ns i 0) (length cs - (i + 1)) (drop row rs) (drop word ws) ≡ 0)
+          × (list_refusal f (drop (i + 1) cs) (drop (i + 1) ns) (drop (row_long (width next_code)) (drop row rs)) (drop (long (width next_code)) (drop word ws)) ≡ 0)
       asked = first_none _ _ (sym (list_step f cs ns i (drop row rs) (drop word ws) h other) ∙ b.refused)
 
       pub next_good : question_good f next ≡ true
       next_good = parts_good f next (asked_good f _ _ _ _ _ asked.0)
 
-      pub rows_left : row + row_long (width next-code) ≤ length rs
+      pub rows_left : row + row_long (width next_code) ≤ length rs
       rows_left = omega (arith, (room f _ _ _ _ _ asked.0).0, length-drop row rs, b.row_in)
 
-      pub words_left : word + long (width next-code) ≤ length ws
+      pub words_left : word + long (width next_code) ≤ length ws
       words_left = omega (arith, (room f _ _ _ _ _ asked.0).1, length-drop word ws, b.word_in)
 
       pub rest : List Question
-      rest = listed (drop (i + 1) cs) (drop (i + 1) ns) (drop (row_long (width next-code)) (drop row rs)) (drop (long (width next-code)) (drop word ws))
+      rest = listed (drop (i + 1) cs) (drop (i + 1) ns) (drop (row_long (width next_code)) (drop row rs)) (drop (long (width next_code)) (drop word ws))
 
       pub split : drop i list ≡ next ∷ rest
       unfolding listed rest
       split = b.left ∙ rw (drop-cons cs i 0 h, drop-cons ns i 0 other, add-one)
 
-      pub more : {row_now word_now at_now : ℕ} {out_now : List ℕ} → row_now ≡ row + row_long (width next-code) → word_now ≡ word + long (width next-code) →
+      pub more : {row_now word_now at_now : ℕ} {out_now : List ℕ} → row_now ≡ row + row_long (width next_code) → word_now ≡ word + long (width next_code) →
           at_now ≡ at + 4 * length (question_words f next) → out_now ≡ take at out ++ begun (question_words f next) (drop at out) →
           LentBegun f cs ns rs ws o (i + 1) row_now word_now at_now out_now
       unfolding rest
       more p q r e = rw (p, q) (record {
         list_in = b.list_in;
-        refused = rw (drop-drop (row_long (width next-code)) row rs, drop-drop (long (width next-code)) word ws) at asked.1;
+        refused = rw (drop-drop (row_long (width next_code)) row rs, drop-drop (long (width next_code)) word ws) at asked.1;
         left = sym (drop-drop 1 i list) ∙ ap (drop 1) split ∙ rw (drop-drop, drop-drop);
         written = one_more b.written split r e;
         row_in = rows_left;

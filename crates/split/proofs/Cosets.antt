@@ -10,7 +10,6 @@ use Rattle.split.specs.Split.{number, syndrome, cosets}
 use Rattle.split.specs.Promise.{SyndromeInside, SumIsBch}
 use Rattle.field.proofs.Tests.{and_l}
 use Rattle.field.proofs.Xor as X
-use Rattle.field.proofs.Field as F
 use Rattle.code.proofs.Words.{Below}
 use Rattle.split.proofs.Layers as L
 use Rattle.split.proofs.Columns.{syndrome_sum}

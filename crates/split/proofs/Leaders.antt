@@ -240,10 +240,10 @@ module _ (m r : ℕ) (a : accepted m r ≡ true) where
     top : 2 ^ long m ≤ 32768
     top = unfold long in widths (λ m. 2 ^ long m ≤ 32768) (lit≤ tt) (lit≤ tt) m w
 
-    abbrev Below-all : (x : ℕ) → Type 0
-    Below-all x = (ds : List ℕ) → Binary m ds → syndrome m r ds ≡ s → 32768 * ones x + x ≤ 32768 * ones (word_number ds) + word_number ds
+    abbrev BelowAll : (x : ℕ) → Type 0
+    BelowAll x = (ds : List ℕ) → Binary m ds → syndrome m r ds ≡ s → 32768 * ones x + x ≤ 32768 * ones (word_number ds) + word_number ds
 
-    ranked : (z : ℕ) → Of-coset z → Below-all z → Leader m r s (bits_of (long m) z)
+    ranked : (z : ℕ) → Of-coset z → BelowAll z → Leader m r s (bits_of (long m) z)
     unfolding syndrome_at
     ranked z of before = record {
       binary = bits_binary m z;
@@ -284,7 +284,7 @@ module _ (m r : ℕ) (a : accepted m r ≡ true) where
         first_is : x ≡ z
         first_is = let h : z < 32768 = lt_of_lt_of_le least.of.small top in e ∙ ap (λ (l : ℕ). l % 32768) least.is ∙ omega (arith, h)
 
-        before : Below-all z
+        before : BelowAll z
         before ds b f =
             let k = among ds b f in
             rw (← least.is, k.2) (least_le rs base (2 ^ length rs) k.0 (rw rows_many k.1))
@@ -319,7 +319,7 @@ module _ (m r : ℕ) (a : accepted m r ≡ true) where
       unfolding single
       is_single y e t = sym (eqb→eq _ y t) ∙ ap (λ (k : ℕ). get_or (singles m) k 0) e
 
-      before : Below-all single
+      before : BelowAll single
       unfolding syndrome_at
       before ds b f = go (ones y) refl
         where

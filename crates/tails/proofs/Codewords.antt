@@ -109,31 +109,31 @@ values_back (suc k) i m t j = value m t i j ∷ values_back k (i - 1) m t j
 
 module _ (m r : ℕ) where
   -- what a 1 in layer x at position i adds to layer j's coset, and to the number of the sum of vectors
-  abbrev coset-at : (j i x : ℕ) → ℕ
-  coset-at j i x = here x j (get_or (columns m r) i 0)
+  abbrev coset_at : (j i x : ℕ) → ℕ
+  coset_at j i x = here x j (get_or (columns m r) i 0)
 
-  abbrev vector-at : (i x : ℕ) → ℕ
-  vector-at i x = picked (vectors m r x) (get_or (columns m r) i 0)
+  abbrev vector_at : (i x : ℕ) → ℕ
+  vector_at i x = picked (vectors m r x) (get_or (columns m r) i 0)
 
   abbrev part_at : (j i x : ℕ) → ℕ
-  part_at j i x = xor (picked (basis m r j) (vector-at i x)) (returned m r 1 (left_over m r j) i x)
+  part_at j i x = xor (picked (basis m r j) (vector_at i x)) (returned m r 1 (left_over m r j) i x)
 
   -- the value at α^t of each bit of layer j's coset
   abbrev root : (t j : ℕ) → List ℕ
   root t j = values_back (syndrome_long m r) (long m - 1) m t j
 
   abbrev read_at : (t i x : ℕ) → ℕ
-  read_at t i x = four (λ j. picked (root t j) (coset-at j i x))
+  read_at t i x = four (λ j. picked (root t j) (coset_at j i x))
 
   -- THE TESTS
   abbrev counts : Bool
   counts = eqb (length (columns m r)) (long m) && all 4 (λ j. eqb (length (basis m r j)) (basis_long m r))
 
   abbrev numbers : Bool
-  numbers = all (long m) (λ i. all m (λ x. ltb (vector-at i x) (2 ^ configuration_long m r)))
+  numbers = all (long m) (λ i. all m (λ x. ltb (vector_at i x) (2 ^ configuration_long m r)))
 
   abbrev solves : Bool
-  solves = all 4 (λ j. same_below (long m) m (coset-at j) (part_at j))
+  solves = all 4 (λ j. same_below (long m) m (coset_at j) (part_at j))
 
   abbrev reads : Bool
   reads = all r (λ t. same_below (long m) m (value m (suc t)) (read_at (suc t)))
@@ -152,14 +152,14 @@ module _ (m r : ℕ) (a : accepted m r ≡ true) where
   basis_length : (j : ℕ) → j < 4 → length (basis m r j) ≡ basis_long m r
   basis_length j h = eqb→eq _ _ (at 4 (λ j. eqb (length (basis m r j)) (basis_long m r)) (and_r (eqb (length (columns m r)) (long m)) _ counted) j h)
 
-  numbered : (i x : ℕ) → i < long m → x < m → vector-at m r i x < 2 ^ configuration_long m r
+  numbered : (i x : ℕ) → i < long m → x < m → vector_at m r i x < 2 ^ configuration_long m r
   unfolding columns heads tail_columns picked configuration_long message_long bch_dimension long vectors xor
-  numbered i x h l = ltb→lt _ _ (at m (λ x. ltb (vector-at m r i x) (2 ^ configuration_long m r)) (at (long m) _ (tested numbers tt m r a) i h) x l)
+  numbered i x h l = ltb→lt _ _ (at m (λ x. ltb (vector_at m r i x) (2 ^ configuration_long m r)) (at (long m) _ (tested numbers tt m r a) i h) x l)
 
-  solved : (j i x : ℕ) → j < 4 → i < long m → x < m → coset-at m r j i x ≡ part_at m r j i x
+  solved : (j i x : ℕ) → j < 4 → i < long m → x < m → coset_at m r j i x ≡ part_at m r j i x
   unfolding here doubles value returned columns heads tail_columns picked place_columns marked steps step_count moves basis configuration_long message_long bch_dimension long vectors left_over alpha doubled xor
   solved j i x g h l =
-      eq_below (long m) m (coset-at m r j) (part_at m r j) (at 4 (λ j. same_below (long m) m (coset-at m r j) (part_at m r j)) (tested solves tt m r a) j g) i x h l
+      eq_below (long m) m (coset_at m r j) (part_at m r j) (at 4 (λ j. same_below (long m) m (coset_at m r j) (part_at m r j)) (tested solves tt m r a) j g) i x h l
 
   read : (t i x : ℕ) → t < r → i < long m → x < m → value m (suc t) i x ≡ read_at m r (suc t) i x
   unfolding here doubles value values_back columns heads tail_columns picked long alpha doubled xor
@@ -171,28 +171,28 @@ module _ (m r : ℕ) (a : accepted m r ≡ true) where
   none t x g h = eqb→eq _ _ (at (basis_long m r) _ (at r _ (tested vanish tt m r a) t g) x h)
 
   module _ (ws : List ℕ) (n : length ws ≡ long m) (p : Below (2 ^ m) ws) where
-    coset_over : (j : ℕ) → added (columns m r) (layer j ws) ≡ over m (coset-at m r j) ws
+    coset_over : (j : ℕ) → added (columns m r) (layer j ws) ≡ over m (coset_at m r j) ws
     coset_over j = layer_over m j (columns m r) ws (columns_long ∙ sym n) p
 
     -- A TUPLE is the sum of vectors, and of what the values return
-    tuple_is : (j : ℕ) → j < 4 → added (columns m r) (layer j ws) ≡ xor (combined m r (over m (vector-at m r) ws) j) (over m (returned m r 1 (left_over m r j)) ws)
+    tuple_is : (j : ℕ) → j < 4 → added (columns m r) (layer j ws) ≡ xor (combined m r (over m (vector_at m r) ws) j) (over m (returned m r 1 (left_over m r j)) ws)
     unfolding combined
     tuple_is j h =
         coset_over j
-        ∙ over_same m (coset-at m r j) (part_at m r j) ws (λ i x k l. solved j i x h (omega arith) l)
-        ∙ over_sum m (λ i x. picked (basis m r j) (vector-at m r i x)) (returned m r 1 (left_over m r j)) ws
-        ∙ ap (λ (y : ℕ). xor y (over m (returned m r 1 (left_over m r j)) ws)) (sym (over_through m (basis m r j) (vector-at m r) ws))
+        ∙ over_same m (coset_at m r j) (part_at m r j) ws (λ i x k l. solved j i x h (omega arith) l)
+        ∙ over_sum m (λ i x. picked (basis m r j) (vector_at m r i x)) (returned m r 1 (left_over m r j)) ws
+        ∙ ap (λ (y : ℕ). xor y (over m (returned m r 1 (left_over m r j)) ws)) (sym (over_through m (basis m r j) (vector_at m r) ws))
 
-    number_lt : over m (vector-at m r) ws < 2 ^ configuration_long m r
-    number_lt = over_lt m (configuration_long m r) (vector-at m r) ws (λ i x k l. numbered i x (omega arith) l)
+    number_lt : over m (vector_at m r) ws < 2 ^ configuration_long m r
+    number_lt = over_lt m (configuration_long m r) (vector_at m r) ws (λ i x k l. numbered i x (omega arith) l)
 
     -- THE VALUES are those of the tuple
     value_is : (t : ℕ) → t < r → value_at m (suc t) ws ≡ four (λ j. picked (root m r (suc t) j) (added (columns m r) (layer j ws)))
     value_is t h =
         value_over m (width_fine m r a) (suc t) ws p
         ∙ over_same m (value m (suc t)) (read_at m r (suc t)) ws (λ i x k l. read t i x h (omega arith) l)
-        ∙ over_four m (λ j i x. picked (root m r (suc t) j) (coset-at m r j i x)) ws
-        ∙ four_same _ _ (λ j l. sym (over_through m (root m r (suc t) j) (coset-at m r j) ws) ∙ ap (picked (root m r (suc t) j)) (sym (coset_over j)))
+        ∙ over_four m (λ j i x. picked (root m r (suc t) j) (coset_at m r j i x)) ws
+        ∙ four_same _ _ (λ j l. sym (over_through m (root m r (suc t) j) (coset_at m r j) ws) ∙ ap (picked (root m r (suc t) j)) (sym (coset_over j)))
 
     combined_value : (b t : ℕ) → t < r → HasCosets m r ws (combined m r b) → value_at m (suc t) ws ≡ 0
     unfolding combined
@@ -210,7 +210,7 @@ module _ (m r : ℕ) (a : accepted m r ≡ true) where
   pub codeword_sum : (ws : List ℕ) → is_codeword m r ws ≡ true → (b : ℕ) × (b < 2 ^ configuration_long m r) × HasCosets m r ws (combined m r b)
   codeword_sum ws g =
       let p : CodewordParts m r ws = codeword_parts m r ws g in
-      let b : ℕ = over m (vector-at m r) ws in (
+      let b : ℕ = over m (vector_at m r) ws in (
         b,
         number_lt ws p.count p.symbols,
         (λ j h.

@@ -1,7 +1,7 @@
 -- Sums of entries that the 1 bits of a number, of a binary word or of the symbols of a word pick. Such a sum adds; so what holds at each single
 -- bit, which a test computes, holds at all of them.
 -- Assumes nothing.
-use Rattle.basics.proofs.Kit.{◌≡◌, refl, sym, ap, ap₂, ◌∙◌, Bool, true, false, cond, List, [], ◌∷◌, ◌++◌, ℕ, zero, suc, ◌+◌, ◌/◌, ◌%◌, ◌^◌, ◌<◌, arith, length, get_or, take, eqb}
+use Rattle.basics.proofs.Kit.{◌≡◌, refl, sym, ap, ap₂, ◌∙◌, Bool, true, false, cond, List, [], ◌∷◌, ◌++◌, ℕ, zero, suc, ◌/◌, ◌%◌, ◌^◌, ◌<◌, arith, length, get_or, take, eqb}
 use mathlib.Core.List.{map}
 use native.Mathlib.Nat.{mod-lt, zero-lt-suc, mod-one, pow-succ', div-one, div-div-eq-div-mul}
 use lib.Bits as B

@@ -1,5 +1,5 @@
 -- 0 less a number of the lower half fits, at every width. Assumes nothing.
-use Rattle.std.proofs.Common.{◌≡◌, ℕ, zero, suc, ◌^◌, ◌<◌, ℤ, pos, ◌-ℤ◌, neg_ℤ, sym, ap, ◌∙◌, subst, arith, SFits, to_z}
+use Rattle.std.proofs.Common.{ℕ, zero, suc, ◌^◌, ◌<◌, ℤ, pos, ◌-ℤ◌, neg_ℤ, sym, ap, ◌∙◌, subst, arith, SFits, to_z}
 use lib.IntN.{+ℤ_idl}
 use mir.Syntax.{Width}
 use mir.Val.{hbits}

@@ -87,30 +87,30 @@ module _ {n : ℕ} {f sl st : List ℕ} (w : Slots n f sl st) {k : ℕ} (lk : k 
 
     -- its own row is lowered, to the least of d turns from turn u on, over which it stands still
     module _ (u d : ℕ) (b : Block cap f sl st u d t) (lo : i ≤ j) (hi : j < i + c) (stays : (z : ℕ) → z < d → place sl st (u + z) j ≡ place sl st k j) where
-      abbrev with-p : ℕ → ℕ
-      with-p y = cond (eqb (spot sl st y j) p) (total f sl st y) cap
+      abbrev with_p : ℕ → ℕ
+      with_p y = cond (eqb (spot sl st y j) p) (total f sl st y) cap
 
-      hit : (z x : ℕ) → z < d → x < 16 → place sl st k j + x ≡ p → with-p ((u + z) * 16 + x) ≡ total f sl st ((u + z) * 16 + x)
+      hit : (z x : ℕ) → z < d → x < 16 → place sl st k j + x ≡ p → with_p ((u + z) * 16 + x) ≡ total f sl st ((u + z) * 16 + x)
       hit z x lz lx h = rw (eq-eqb (spot sl st ((u + z) * 16 + x) j) p (spot_at sl st (u + z) x lx j ∙ ap (λ (q : ℕ). q + x) (stays z lz) ∙ h)) refl
 
-      miss : (z x : ℕ) → z < d → x < 16 → (place sl st k j + x ≡ p → ⊥) → with-p ((u + z) * 16 + x) ≡ cap
+      miss : (z x : ℕ) → z < d → x < 16 → (place sl st k j + x ≡ p → ⊥) → with_p ((u + z) * 16 + x) ≡ cap
       miss z x lz lx h = rw (ne_eqb (spot sl st ((u + z) * 16 + x) j) p (λ q. h (sym (spot_at sl st (u + z) x lx j ∙ ap (λ (q : ℕ). q + x) (stays z lz)) ∙ q))) refl
 
       -- what is below the turns before and the block is below all
-      all_above : (m : ℕ) → m ≤ least_of with-p cap (u * 16) → ((z x : ℕ) → z < d → x < 16 → place sl st k j + x ≡ p → m ≤ total f sl st ((u + z) * 16 + x)) → m ≤ least_of with-p cap ((u + d) * 16)
-      all_above m l h = le_least with-p cap ((u + d) * 16) m (omega (arith, l, least_cap with-p cap (u * 16))) (λ y ly. go y ly (dec_le (u * 16) y) (ℕ_discrete (place sl st k j + y % 16) p))
+      all_above : (m : ℕ) → m ≤ least_of with_p cap (u * 16) → ((z x : ℕ) → z < d → x < 16 → place sl st k j + x ≡ p → m ≤ total f sl st ((u + z) * 16 + x)) → m ≤ least_of with_p cap ((u + d) * 16)
+      all_above m l h = le_least with_p cap ((u + d) * 16) m (omega (arith, l, least_cap with_p cap (u * 16))) (λ y ly. go y ly (dec_le (u * 16) y) (ℕ_discrete (place sl st k j + y % 16) p))
         where
-          go : (y : ℕ) → y < (u + d) * 16 → Dec (u * 16 ≤ y) → Dec (place sl st k j + y % 16 ≡ p) → m ≤ with-p y
-          go y ly (no b) q = omega (arith, l, least_le with-p cap (u * 16) y (omega arith))
+          go : (y : ℕ) → y < (u + d) * 16 → Dec (u * 16 ≤ y) → Dec (place sl st k j + y % 16 ≡ p) → m ≤ with_p y
+          go y ly (no b) q = omega (arith, l, least_le with_p cap (u * 16) y (omega arith))
           go y ly (yes b) (yes q) =
               let e : (u + (y / 16 - u)) * 16 + y % 16 ≡ y = omega arith in
               omega (arith, rw e at (hit (y / 16 - u) (y % 16) (omega arith) (omega arith) q), rw e at (h (y / 16 - u) (y % 16) (omega arith) (omega arith) q))
           go y ly (yes b) (no q) =
               let e : (u + (y / 16 - u)) * 16 + y % 16 ≡ y = omega arith in
-              omega (arith, l, least_cap with-p cap (u * 16), rw e at (miss (y / 16 - u) (y % 16) (omega arith) (omega arith) q))
+              omega (arith, l, least_cap with_p cap (u * 16), rw e at (miss (y / 16 - u) (y % 16) (omega arith) (omega arith) q))
 
-      more : least_of with-p cap ((u + d) * 16) ≤ least_of with-p cap (u * 16)
-      more = le_least with-p cap (u * 16) (least_of with-p cap ((u + d) * 16)) (least_cap with-p cap ((u + d) * 16)) (λ y ly. least_le with-p cap ((u + d) * 16) y (omega arith))
+      more : least_of with_p cap ((u + d) * 16) ≤ least_of with_p cap (u * 16)
+      more = le_least with_p cap (u * 16) (least_of with_p cap ((u + d) * 16)) (least_cap with_p cap ((u + d) * 16)) (λ y ly. least_le with_p cap ((u + d) * 16) y (omega arith))
 
       pub lowered : get_or g p 0 ≡ least_at cap f sl st u j p → get_or (lows g a t i c) p 0 ≡ least_at cap f sl st (u + d) j p
       lowered m = go (dec_le (place sl st k j) p) (dec_le (place sl st k j + 16) p)
@@ -118,26 +118,26 @@ module _ {n : ℕ} {f sl st : List ℕ} (w : Slots n f sl st) {k : ℕ} (lk : k 
           here : i + (j - i) ≡ j
           here = omega arith
 
-          inside : (x : ℕ) → x < 16 → place sl st k j + x ≡ p → get_or (lows g a t i c) p 0 ≡ least_of with-p cap ((u + d) * 16)
+          inside : (x : ℕ) → x < 16 → place sl st k j + x ≡ p → get_or (lows g a t i c) p 0 ≡ least_of with_p cap ((u + d) * 16)
           inside x lx z =
               let q : lane a (i + (j - i)) + x ≡ p = rw here (omega (arith, at j lj, z)) in
               ap (λ (y : ℕ). get_or (lows g a t i c) y 0) (sym q)
               ∙ lows_at g a t i c (j - i) x (omega arith) lx (rw here (rows_in j lj)) (λ h lh ne r s. apart (i + h) (omega arith) (λ e. ne (omega arith)) (rw q at r) (rw q at s))
               ∙ ap (λ (y : ℕ). min y (lane t x)) (ap (λ (y : ℕ). get_or g y 0) q ∙ m)
               ∙ le_antisymm
-              (all_above (min (least_of with-p cap (u * 16)) (lane t x)) (omega arith) (λ v y lv ly e. let same : y ≡ x = omega arith in rw same (omega (arith, b.under v x lv lx))))
-              (omega (arith, more, b.over (least_of with-p cap ((u + d) * 16)) x lx (least_cap with-p cap ((u + d) * 16)) (λ v lv. omega (arith, hit v x lv lx z, least_le with-p cap ((u + d) * 16) ((u + v) * 16 + x) (omega arith)))))
+              (all_above (min (least_of with_p cap (u * 16)) (lane t x)) (omega arith) (λ v y lv ly e. let same : y ≡ x = omega arith in rw same (omega (arith, b.under v x lv lx))))
+              (omega (arith, more, b.over (least_of with_p cap ((u + d) * 16)) x lx (least_cap with_p cap ((u + d) * 16)) (λ v lv. omega (arith, hit v x lv lx z, least_le with_p cap ((u + d) * 16) ((u + v) * 16 + x) (omega arith)))))
 
-          outside : ((x : ℕ) → x < 16 → place sl st k j + x ≡ p → ⊥) → get_or (lows g a t i c) p 0 ≡ least_of with-p cap ((u + d) * 16)
+          outside : ((x : ℕ) → x < 16 → place sl st k j + x ≡ p → ⊥) → get_or (lows g a t i c) p 0 ≡ least_of with_p cap ((u + d) * 16)
           outside o =
               lows_other g a t i c p (λ h lh r s. away (i + h) (omega arith) (ℕ_discrete (i + h) j) r s) ∙ m
-              ∙ le_antisymm (all_above (least_of with-p cap (u * 16)) (omega arith) (λ v y lv ly e. absurd (o y ly e))) more
+              ∙ le_antisymm (all_above (least_of with_p cap (u * 16)) (omega arith) (λ v y lv ly e. absurd (o y ly e))) more
             where
               away : (h : ℕ) → h < 4 → Dec (h ≡ j) → lane a h ≤ p → p < lane a h + 16 → ⊥
               away h lh (yes e) r s = let q : lane a h ≡ place sl st k j = at h lh ∙ ap (place sl st k) e in o (p - place sl st k j) (omega arith) (omega arith)
               away h lh (no e) r s = apart h lh e r s
 
-          go : Dec (place sl st k j ≤ p) → Dec (place sl st k j + 16 ≤ p) → get_or (lows g a t i c) p 0 ≡ least_of with-p cap ((u + d) * 16)
+          go : Dec (place sl st k j ≤ p) → Dec (place sl st k j + 16 ≤ p) → get_or (lows g a t i c) p 0 ≡ least_of with_p cap ((u + d) * 16)
           go (yes x) (no y) = inside (p - place sl st k j) (omega arith) (omega arith)
           go (no x) y = outside (λ z lz e. omega arith)
           go (yes x) (yes y) = outside (λ z lz e. omega arith)

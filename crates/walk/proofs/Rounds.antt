@@ -10,7 +10,7 @@ use lib.ListN.{replicate}
 use Rattle.lanes.specs.Lanes.{lane, limit}
 use Rattle.trellis.specs.Trellis.{least_of}
 use Rattle.walk.specs.declared.At.{At}
-use Rattle.walk.specs.Walk.{step, changed_bit, place, total, movers, least_at, Slots, Rounds, Marginals}
+use Rattle.walk.specs.Walk.{step, changed_bit, place, movers, least_at, Slots, Rounds, Marginals}
 use Rattle.walk.specs.Turns.{Each, lows, Blank, Standing, Together}
 use Rattle.walk.proofs.Rows.{lows_length, lows_small}
 use Rattle.walk.proofs.Turns.{movers_few, together, within}

@@ -1,6 +1,6 @@
 -- `code::check_word_by` meets its contract.
 -- Assumes nothing.
-use Rattle.basics.proofs.Kit.{needs}
+use Rattle.basics.proofs.Kit.{rules}
 use Rattle.code.proofs.Promise.{checked_as}
 use Rattle.code.proofs.check_word_by.Statement.{statement}
 use Rattle.code.proofs.check_word_by.Tie as tie
@@ -9,6 +9,6 @@ pub check_word_by_spec : {M : Type 1} → statement M
 check_word_by_spec =
     tie.close
     (tie.spec
-    (λ c κs. search needs)
-    (λ c κs. c.by-parameters.ensures.coded)
-    (λ c. checked_as c.before.by-parameters.ensures _ _ c.check-in.ensures))
+    (λ c κs. search rules)
+    (λ c κs. c.by_parameters.ensures.coded)
+    (λ c. checked_as c.before.by_parameters.ensures _ _ c.check_in.ensures))

@@ -1,28 +1,28 @@
 -- `code::copy` meets its contract.
 -- Assumes nothing.
-use Rattle.basics.proofs.Kit.{◌≡◌, refl, ap, ◌∙◌, List, ◌++◌, ℕ, ◌-◌, ◌≤◌, needs, length, get_or, take, drop, set}
+use Rattle.basics.proofs.Kit.{◌≡◌, refl, ap, ◌∙◌, List, ◌++◌, ℕ, ◌-◌, ◌≤◌, rules, length, get_or, take, drop, set}
 use lib.ListN.{length-set}
 use Rattle.code.proofs.Loops.{copy_step, copy_done}
 use Rattle.code.proofs.copy.Statement.{statement}
 use Rattle.code.proofs.copy.Tie as tie
 
-abbrev invariant-loop : tie.invariant-loop
+abbrev invariant-loop : tie.invariant-loop-i
 invariant-loop from to₀ i₀ to i = (i ≤ length from) × (length to ≡ length to₀) × (to ≡ take i from ++ drop i to₀)
 
-abbrev decreases-loop : tie.decreases-loop
+abbrev decreases-loop : tie.decreases-loop-i
 decreases-loop from to₀ i₀ to i = length from - i
 
-loop-again : tie.Need-loop-preserved invariant-loop decreases-loop
+loop-again : tie.Need-loop-i-preserved invariant-loop decreases-loop
 loop-again c = let s = c.before.before in let a = s.before.args in (
-  search needs,
-  length-set s.loop.to s.loop.i (get_or a.from.now s.loop.i 0) ∙ s.loop.invariant.1,
-  ap (λ (l : List ℕ). set l s.loop.i (get_or a.from.now s.loop.i 0)) s.loop.invariant.2
-      ∙ copy_step a.from.now a.to.now s.loop.i c.before.loop-test.true (search needs),
+  search rules,
+  length-set s.loop-i.to s.loop-i.i (get_or a.from.now s.loop-i.i 0) ∙ s.loop-i.invariant.1,
+  ap (λ (l : List ℕ). set l s.loop-i.i (get_or a.from.now s.loop-i.i 0)) s.loop-i.invariant.2
+      ∙ copy_step a.from.now a.to.now s.loop-i.i c.before.loop-i-test.true (search rules),
 )
 
 returns : tie.Need-returns invariant-loop decreases-loop
 returns c = let s = c.before in let a = s.before.args in
-    s.loop.invariant.2 ∙ copy_done a.from.now a.to.now s.loop.i c.loop-test.false (search needs)
+    s.loop-i.invariant.2 ∙ copy_done a.from.now a.to.now s.loop-i.i c.loop-i-test.false (search rules)
 
 pub copy_spec : {M : Type 1} → statement M
 copy_spec =
@@ -30,11 +30,11 @@ copy_spec =
     (tie.spec
     invariant-loop
     decreases-loop
-    (λ c. (search needs, refl, refl))
-    (λ c. search needs)
-    (λ c. search needs)
-    (λ c. search needs)
-    (λ c. search needs)
+    (λ c. (search rules, refl, refl))
+    (λ c. search rules)
+    (λ c. search rules)
+    (λ c. search rules)
+    (λ c. search rules)
     loop-again
-    (λ c. c.before.loop.invariant.1)
+    (λ c. c.before.loop-i.invariant.1)
     returns)

@@ -1,6 +1,6 @@
 -- `code::encode_by` meets its contract.
 -- Assumes nothing.
-use Rattle.basics.proofs.Kit.{needs}
+use Rattle.basics.proofs.Kit.{rules}
 use Rattle.code.proofs.Promise.{encode_as}
 use Rattle.code.proofs.encode_by.Statement.{statement}
 use Rattle.code.proofs.encode_by.Tie as tie
@@ -9,7 +9,7 @@ pub encode_by_spec : {M : Type 1} → statement M
 encode_by_spec =
     tie.close
     (tie.spec
-    (λ c κs. search needs)
-    (λ c κs. c.before.by-parameters.ensures.coded)
-    (λ c. search needs)
-    (λ c. encode_as c.before.before.before.before.by-parameters.ensures _ _ _ _ c.before.before.encode-in.ensures))
+    (λ c κs. search rules)
+    (λ c κs. c.before.by_parameters.ensures.coded)
+    (λ c. search rules)
+    (λ c. encode_as c.before.before.before.before.by_parameters.ensures _ _ _ _ c.before.before.encode_in.ensures))

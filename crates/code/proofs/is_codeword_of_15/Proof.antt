@@ -1,6 +1,6 @@
 -- `code::is_codeword_of_15` meets its contract: the roots decide, by the tables of the field.
 -- Assumes nothing.
-use Rattle.basics.proofs.Kit.{◌∙◌, needs}
+use Rattle.basics.proofs.Kit.{◌∙◌}
 use Rattle.field.proofs.Tables.{tables_4}
 use Rattle.code.proofs.Loops.{roots_decide}
 use Rattle.code.proofs.is_codeword_of_15.Statement.{statement}
@@ -10,7 +10,5 @@ pub is_codeword_of_15_spec : {M : Type 1} → statement M
 is_codeword_of_15_spec =
     tie.close
     (tie.spec
-    (λ c. search needs)
-    (λ c. search needs)
     (λ c κs. (tables_4, c.before.before.before.requires))
     (λ c. c.vanishes.ensures ∙ roots_decide c.before.before.before.before.requires))

@@ -5,13 +5,13 @@ use Rattle.code.specs.Code.{long}
 use Rattle.code.proofs.long_of.Statement.{statement}
 use Rattle.code.proofs.long_of.Tie as tie
 
-returns : tie.Need-returns
+returns : tie.Need-returns-then-m-eq3
 unfolding long
-returns c = rw c.if1.true
+returns c = rw c.if-m-eq3.true
 
-returns-2 : tie.Need-returns-2
+returns-2 : tie.Need-returns-else-m-eq3
 unfolding long
-returns-2 c = rw (not_three c.before.args.m c.before.requires c.if1.false)
+returns-2 c = rw (not_three c.before.args.m c.before.requires c.if-m-eq3.false)
 
 pub long_of_spec : {M : Type 1} → statement M
 long_of_spec = tie.close (tie.spec returns returns-2)

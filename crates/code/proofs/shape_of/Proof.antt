@@ -1,6 +1,6 @@
 -- `code::shape_of` meets its contract.
 -- Assumes nothing.
-use Rattle.basics.proofs.Kit.{◌≡◌, refl, ap, true, ℕ, ◌-◌, ◌<◌, arith, needs}
+use Rattle.basics.proofs.Kit.{◌≡◌, refl, ap, true, ℕ, ◌-◌, ◌<◌, arith, rules}
 use native.Mathlib.Nat.{one-mul, mod-eq_of_lt}
 use lib.Pow.{pow-lt}
 use Rattle.field.specs.Field.{width_good}
@@ -15,8 +15,8 @@ fine c = (accepted_parts c.args.m c.args.r c.requires).wide
 few : (c : tie.Start) → c.args.r < long c.args.m
 few c = (accepted_parts c.args.m c.args.r c.requires).few
 
-short : (c : tie.After-syndrome-long-of) → c.syndrome-long-of.result < 64
-short c = let a = c.before.before.args in rw c.syndrome-long-of.ensures (syndrome_short a.m a.r (fine c.before.before))
+short : (c : tie.After-syndrome_long_of-q) → c.syndrome_long_of-q.result < 64
+short c = let a = c.before.before.args in rw c.syndrome_long_of-q.ensures (syndrome_short a.m a.r (fine c.before.before))
 
 returns : tie.Need-returns
 unfolding message_long
@@ -25,10 +25,10 @@ returns c = let s = c.before.before.before in (
     accepted_is = s.requires;
     width_is = fine s;
     few = few s;
-    n_is = c.before.before.Long-of.ensures;
-    k_is = ap (λ (n : ℕ). n - s.args.r) c.before.before.Long-of.ensures;
-    bits_is = c.row-long-of.ensures;
-    q_is = c.before.syndrome-long-of.ensures;
+    n_is = c.before.before.long_of-n.ensures;
+    k_is = ap (λ (n : ℕ). n - s.args.r) c.before.before.long_of-n.ensures;
+    bits_is = c.row_long_of.ensures;
+    q_is = c.before.syndrome_long_of-q.ensures;
     size_is = rw (one-mul, mod-eq_of_lt (pow-lt (short c.before))) refl;
   },
   refl,
@@ -41,8 +41,8 @@ shape_of_spec =
     (tie.spec
     (λ c κs. fine c)
     (λ c κs. fine c.before)
-    (λ c. omega (arith, few c.before.before, c.before.Long-of.ensures))
+    (λ c. omega (arith, few c.before.before, c.before.long_of-n.ensures))
     (λ c κs. fine c.before.before)
-    (λ c. search needs)
+    (λ c. search rules)
     (λ c. short c.before)
     returns)

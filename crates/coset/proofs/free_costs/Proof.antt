@@ -5,43 +5,43 @@ use Rattle.coset.proofs.Pairs.{power_some, Blocks, blocks_start, block_fits, run
 use Rattle.coset.proofs.free_costs.Statement.{statement}
 use Rattle.coset.proofs.free_costs.Tie as tie
 
-abbrev invariant-loop : tie.invariant-loop
+abbrev invariant-loop : tie.invariant-loop-base
 invariant-loop g₀ q size h z o step base₀ g base = Blocks h size step z o g₀ base g
 
-abbrev decreases-loop : tie.decreases-loop
+abbrev decreases-loop : tie.decreases-loop-base
 decreases-loop g₀ q size h z o step base₀ g base = size - base
 
 abbrev In : Type 0
-In = tie.In-loop invariant-loop decreases-loop
+In = tie.In-loop-base invariant-loop decreases-loop
 
 abbrev st : In → tie.Start invariant-loop decreases-loop
 st c = c.before.before.before.before
 
-room : (c : In) → c.before.loop.base + (c.before.before.top_of.result + c.before.before.top_of.result) ≤ (st c).args.size
-room c = block_fits (st c).requires c.before.before.top_of.ensures c.before.loop.invariant c.loop-test.true
+room : (c : In) → c.loop-base.base + (c.top_of-step.result + c.top_of-step.result) ≤ (st c).args.size
+room c = block_fits (st c).requires c.top_of-step.ensures c.loop-base.invariant c.loop-base-test.true
 
-top-of-requires : tie.Need-top-of-requires invariant-loop decreases-loop
-top-of-requires c κs = c.before.requires.some
+top-of-requires : tie.Need-top_of-step-requires invariant-loop decreases-loop
+top-of-requires c κs = c.requires.some
 
-add-run-costs : tie.Need-overflow-add-run-costs invariant-loop decreases-loop
+add-run-costs : tie.Need-overflow_add-base invariant-loop decreases-loop
 add-run-costs c = let d = c.before in omega (arith, room d, (st d).ranges.size)
 
-run-costs-requires : tie.Need-run-costs-requires invariant-loop decreases-loop
-run-costs-requires c κs = let d = c.before in run_asks (st d).requires d.before.before.top_of.ensures d.before.loop.invariant d.loop-test.true
+run-costs-requires : tie.Need-run_costs-requires invariant-loop decreases-loop
+run-costs-requires c κs = let d = c.before in run_asks (st d).requires d.top_of-step.ensures d.loop-base.invariant d.loop-base-test.true
 
-add-base : tie.Need-overflow-add-base invariant-loop decreases-loop
+add-base : tie.Need-overflow_add-base-in-loop-base invariant-loop decreases-loop
 add-base c = let d = c.before.before.before.before in omega (arith, room d, (st d).ranges.size)
 
-add-base-2 : tie.Need-overflow-add-base-2 invariant-loop decreases-loop
+add-base-2 : tie.Need-overflow_add-base-in-loop-base-2 invariant-loop decreases-loop
 add-base-2 c = let d = c.before.before.before.before in omega (arith, room d, (st d).ranges.size)
 
-loop-less : tie.Need-loop-smaller invariant-loop decreases-loop
-loop-less c = let d = c.before.before.before.before in let p = d.before.before.top_of.ensures in omega (arith, room d, d.loop-test.true, p.power, power_some p.e)
+loop-less : tie.Need-loop-base-smaller invariant-loop decreases-loop
+loop-less c = let d = c.before.before.before.before in let p = d.top_of-step.ensures in omega (arith, room d, d.loop-base-test.true, p.power, power_some p.e)
 
-loop-again : tie.Need-loop-preserved invariant-loop decreases-loop
+loop-again : tie.Need-loop-base-preserved invariant-loop decreases-loop
 loop-again c = let d = c.before.before.before.before in
-    let x = c.before.before.run-costs in
-    blocks_more (st d).requires d.before.before.top_of.ensures d.before.loop.invariant d.loop-test.true x.auto.0 x.ensures
+    let x = c.run_costs in
+    blocks_more (st d).requires d.top_of-step.ensures d.loop-base.invariant d.loop-base-test.true x.auto.g x.ensures
 
 pub free_costs_spec : {M : Type 1} → statement M
 free_costs_spec =
@@ -57,5 +57,5 @@ free_costs_spec =
     add-base-2
     loop-less
     loop-again
-    (λ c. c.before.loop.invariant.long)
-    (λ c. freed_all c.before.loop.invariant c.loop-test.false))
+    (λ c. c.loop-base.invariant.long)
+    (λ c. freed_all c.loop-base.invariant c.loop-base-test.false))

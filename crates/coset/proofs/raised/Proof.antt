@@ -1,6 +1,6 @@
 -- `coset::raised` meets its contract.
 -- Assumes nothing.
-use Rattle.basics.proofs.Kit.{◌∙◌, needs}
+use Rattle.basics.proofs.Kit.{◌∙◌, rules}
 use Rattle.coset.proofs.raised.Statement.{statement}
 use Rattle.coset.proofs.raised.Tie as tie
 
@@ -11,4 +11,4 @@ returns : tie.Need-returns
 returns c = c.plus.ensures ∙ rw c.before.twice.ensures
 
 pub raised_spec : {M : Type 1} → statement M
-raised_spec = tie.close (tie.spec (λ c κs. search needs) plus-requires returns)
+raised_spec = tie.close (tie.spec (λ c κs. search rules) plus-requires returns)

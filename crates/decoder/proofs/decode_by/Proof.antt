@@ -9,23 +9,23 @@ use Rattle.decoder.proofs.decode_by.Lts as lts
 use Rattle.code.proofs.by_parameters.Reads as by-parameters-reads
 use Rattle.decoder.proofs.decode_chosen.Reads as decode-chosen-reads
 
-by-parameters-requires : tie.Need-by-parameters-requires
+by-parameters-requires : tie.Need-by_parameters-requires
 by-parameters-requires c κs = search rules
 
-decode-chosen-requires : tie.Need-decode-chosen-requires
+decode-chosen-requires : tie.Need-decode_chosen-requires
 decode-chosen-requires c κs = search rules
 
-same_length : tie.Need-same-length
+same_length : tie.Need-shape_of-word
 same_length c = search rules
 
-same-length-2 : tie.Need-same-length-2
+same-length-2 : tie.Need-shape_of-soft
 same-length-2 c = search rules
 
-same-length-3 : tie.Need-same-length-3
+same-length-3 : tie.Need-shape_of-scratch
 same-length-3 c = search rules
 
 returns : tie.Need-returns
-returns c = decode_as c.before.before.before.before.before.before.before.before.by-parameters.ensures _ _ _ _ _ _ _ _ c.before.before.before.before.decode-chosen.ensures
+returns c = decode_as c.by_parameters.ensures _ _ _ _ _ _ _ _ c.decode_chosen.ensures
 
 pub decode_by_spec : {M : Type 1} → statement M
 decode_by_spec =

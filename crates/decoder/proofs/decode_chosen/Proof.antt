@@ -1,7 +1,8 @@
 -- `decoder::decode_chosen` meets its contract.
 -- Assumes nothing.
 use mir.Facts.{to_z-of_z}
-use Rattle.basics.proofs.Kit.{◌≡◌, refl, sym, ap, ◌∙◌, length, needs}
+use mir.Syntax.{w32}
+use Rattle.basics.proofs.Kit.{◌≡◌, refl, sym, ap, ◌∙◌, length, rules}
 use Rattle.refusal.specs.Refusal.{first}
 use Rattle.refusal.proofs.Tests.{first_none}
 use Rattle.refusal.proofs.Outcomes.{outcome_done, outcome_refused}
@@ -12,37 +13,37 @@ use Rattle.decoder.proofs.Refusals.{decode_accepted}
 use Rattle.decoder.proofs.decode_chosen.Statement.{statement}
 use Rattle.decoder.proofs.decode_chosen.Tie as tie
 
-abbrev start : tie.After-first → tie.Start
+abbrev start : tie.After-first-number → tie.Start
 start f = f.before.before.before.before
 
-refusal_is : (f : tie.After-first) → let a = (start f).args in
-    f.first.result ≡ first a.chosen.number (decode_refusal a.chosen.shape.m a.row.now (length a.word.now) (length a.soft.now) (length a.scratch.now))
-refusal_is f = f.first.ensures ∙ ap (first _) f.before.decode_refusal.ensures
+refusal_is : (f : tie.After-first-number) → let a = f.args in
+    f.first-number.result ≡ first a.chosen.number (decode_refusal a.chosen.shape.m a.row.now (length a.word.now) (length a.soft.now) (length a.scratch.now))
+refusal_is f = f.first-number.ensures ∙ ap (first _) f.decode_refusal.ensures
 
-taken : (c : tie.Else1) → let a = (start c.before).args in
+taken : (c : tie.Else-number-ne0) → let a = c.args in
     Accepted a.chosen.shape a.row.now (length a.word.now) (length a.soft.now) (length a.scratch.now)
-taken c = decode_accepted (start c.before).requires _ _ _ _ (first_none _ _ (sym (refusal_is c.before) ∙ c.if1.false)).1
+taken c = decode_accepted c.requires _ _ _ _ (first_none _ _ (sym (refusal_is c.before) ∙ c.if-number-ne0.false)).1
 
-returns : tie.Need-returns
+returns : tie.Need-returns-then-number-ne0
 unfolding DecodeSays
-returns c = outcome_refused _ _ _ _ (refusal_is c.before) c.if1.true (refl, refl, refl, refl)
+returns c = outcome_refused _ _ _ _ (refusal_is c.before) c.if-number-ne0.true (refl, refl, refl, refl)
 
-returns-2 : tie.Need-returns-2
+returns-2 : tie.Need-returns
 unfolding DecodeSays
 returns-2 c = let k = c.before in let d = k.before.before.before.before.before.before in let e = d.before.before.before.before in
-    outcome_done _ _ _ _ (sym (refusal_is e.before) ∙ e.if1.false) refl
-    (rw (to_z-of_z (record { sfits = d.decode_accepted.type-inv })) d.decode_accepted.ensures, cleared_is _ k.clear.ensures (d.decode_accepted.auto.1.1.1.1.0 ∙ (taken e).long_scratch))
+    outcome_done _ _ _ _ (sym (refusal_is e.before) ∙ e.if-number-ne0.false) refl
+    (rw (to_z-of_z {w = w32} (record { sfits = d.decode_accepted-metric.type_inv })) d.decode_accepted-metric.ensures, cleared_is _ k.clear.ensures (d.decode_accepted-metric.auto.scratch ∙ (taken e).long_scratch))
 
 pub decode_chosen_spec : {M : Type 1} → statement M
 decode_chosen_spec =
     tie.close
     (tie.spec
-    (λ c κs. search needs)
-    (λ c κs. search needs)
+    (λ c κs. search rules)
+    (λ c κs. search rules)
     returns
     (λ c κs. taken c.before.before.before)
-    (λ c κs. search needs)
-    (λ c. search needs)
-    (λ c. search needs)
-    (λ c. search needs)
+    (λ c κs. search rules)
+    (λ c. search rules)
+    (λ c. search rules)
+    (λ c. search rules)
     returns-2)

@@ -1,6 +1,6 @@
 -- `decoding::soften` meets its contract.
 -- Assumes nothing.
-use Rattle.basics.proofs.Kit.{◌≡◌, refl, ◌∙◌, ◌*◌, ◌≤◌, arith, needs, length, take}
+use Rattle.basics.proofs.Kit.{◌≡◌, refl, ◌∙◌, ◌*◌, ◌≤◌, arith, rules, length, take}
 use lib.Seq.{length-take-le, get_or-take}
 use Rattle.search.proofs.Laying.{sixteens}
 use Rattle.decoding.specs.Within.{Softs}
@@ -29,38 +29,38 @@ abbrev st : tie.After-others → tie.Start
 st o = o.before.before.before.before.before.before.before.before.before.before.before.before.before
 
 -- what the others cost is a table
-states_in : (o : tie.After-others) → ((st o).args.shape.size * 4 ≤ length o.others.new.1.1.0) × ((st o).args.shape.size * 4 ≤ length o.others.new.1.1.1.0)
-states_in o = let r = (st o).requires.1.1.1.1 in (omega (arith, o.others.auto.1.1.0, r.states_f), omega (arith, o.others.auto.1.1.1.0, r.states_g))
+states_in : (o : tie.After-others) → (o.args.shape.size * 4 ≤ length o.others.new.f) × (o.args.shape.size * 4 ≤ length o.others.new.g)
+states_in o = let r = o.requires.1.1.1.1 in (omega (arith, o.others.auto.f, r.states_f), omega (arith, o.others.auto.g, r.states_g))
 
-soft-costs-requires : tie.Need-soft-costs-requires
-soft-costs-requires c κs = let o = c.before.before.before.before.before.before.before.before in let s = st o in let p = s.pre in let i = states_in o in
+soft-costs-requires : tie.Need-soft_costs-requires
+soft-costs-requires c κs = let o = c.before.before.before.before.before.before.before.before in let s = st o in let p = s.requires in let i = states_in o in
     ((i.0, i.1), pass_ok p.0 p.1.0 p.1.1.0 _ p.1.1.1.0 (marginals_long s) o.others.ensures (length-take-le _ _ i.0) p.1.1.1.1 (length-take-le _ _ i.1))
 
-abbrev others-of : tie.After-soft-costs → tie.After-others
+abbrev others-of : tie.After-soft_costs → tie.After-others
 others-of v = v.before.before.before.before.before.before.before.before.before
 
-softs : (v : tie.After-soft-costs) → let s = st (others-of v) in Softs s.args.shape s.args.row.now v.soft-costs.new.1.1.1.1.1.1.1.0 v.soft-costs.new.1.1.1.1.1.1.1.1.0
-softs v = let o = others-of v in let s = st o in let p = s.pre in
-    softs_ok p.0 p.1.0 p.1.1.0 _ p.1.1.1.0 (marginals_long s) o.others.ensures (length-take-le _ _ (states_in o).0) v.soft-costs.new.1.1.1.1.1.1.1.0 v.soft-costs.new.1.1.1.1.1.1.1.1.0 v.soft-costs.ensures.0 v.soft-costs.ensures.1
+softs : (v : tie.After-soft_costs) → let s = st (others-of v) in Softs s.args.shape s.args.row.now v.soft_costs.new.zero v.soft_costs.new.one
+softs v = let o = others-of v in let s = st o in let p = s.requires in
+    softs_ok p.0 p.1.0 p.1.1.0 _ p.1.1.1.0 (marginals_long s) o.others.ensures (length-take-le _ _ (states_in o).0) v.soft_costs.new.zero v.soft_costs.new.one v.soft_costs.ensures.0 v.soft_costs.ensures.1
 
-soft-rows-requires : tie.Need-soft-rows-requires
-soft-rows-requires c κs = let v = c.before.before.before.before.before.before.before.before.before.before.before in let s = st (others-of v) in let r = s.pre.1.1.1.1 in
-    rows_ok s.pre.0 {za = v.soft-costs.new.1.1.1.1.1.1.1.0} {oa = v.soft-costs.new.1.1.1.1.1.1.1.1.0} (v.soft-costs.auto.1.1.1.1.1.1.1.0 ∙ r.length_zero) (v.soft-costs.auto.1.1.1.1.1.1.1.1.0 ∙ r.length_one) r.length_soft (softs v)
+soft-rows-requires : tie.Need-soft_rows-requires
+soft-rows-requires c κs = let v = c.before.before.before.before.before.before.before.before.before in let s = st (others-of v) in let r = s.requires.1.1.1.1 in
+    rows_ok s.requires.0 {za = v.soft_costs.new.zero} {oa = v.soft_costs.new.one} (v.soft_costs.auto.zero ∙ r.length_zero) (v.soft_costs.auto.one ∙ r.length_one) r.length_soft (softs v)
 
 returns : tie.Need-returns
-returns c = let v = c.before.before.before.before.before.before.before.before.before.before.before.before.before in (softs v, c.before.soft-rows.ensures)
+returns c = let v = c.before.before.before.before.before.before.before.before.before.before.before in (softs v, c.soft_rows.ensures)
 
 pub soften_spec : {M : Type 1} → statement M
 soften_spec =
     tie.close
     (tie.spec
-    (λ c. search needs)
+    (λ c. search rules)
     others-requires
     soft-costs-requires
     soft-rows-requires
-    (λ c. search needs)
-    (λ c. search needs)
-    (λ c. search needs)
-    (λ c. search needs)
-    (λ c. search needs)
+    (λ c. search rules)
+    (λ c. search rules)
+    (λ c. search rules)
+    (λ c. search rules)
+    (λ c. search rules)
     returns)

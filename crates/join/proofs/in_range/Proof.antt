@@ -1,6 +1,6 @@
 -- `join::in_range` meets its contract: the places one by one.
 -- Assumes nothing.
-use Rattle.basics.proofs.Kit.{◌≡◌, refl, sym, ap, ◌∙◌, Bool, true, false, ◌&&◌, cond, List, [], ◌∷◌, ℕ, ◌^◌, arith, needs, length, get_or, take, drop, eqb, ltb}
+use Rattle.basics.proofs.Kit.{◌≡◌, refl, sym, ap, ◌∙◌, Bool, true, false, ◌&&◌, cond, List, [], ◌∷◌, ℕ, ◌^◌, arith, rules, length, get_or, take, drop, eqb, ltb}
 use Rattle.field.specs.Field.{width_good}
 use Rattle.field.proofs.Tests.{widths}
 use Rattle.code.specs.Within.{Coded}
@@ -53,20 +53,20 @@ module _ (ss : List ℕ) (l : length ss ≡ 4) where
 
 returns : tie.Need-returns
 returns c = let third = c.before in let second = third.before in let first = second.before in let last = first.before in let s = last.before in
-    rw (c.is-below4.ensures, third.is-below3.ensures, second.is-below2.ensures, first.is_below.ensures, last.last-size.ensures)
-    (sym (range-is s.args.t2 s.well-formed.1.0.1.0.1 s.args.shape s.requires))
+    rw (c.is_below-4.ensures, third.is_below-3.ensures, second.is_below-2.ensures, first.is_below.ensures, last.last_size-last.ensures)
+    (sym (range-is s.args.places s.well_formed.1.0.1.0.1 s.args.shape s.requires))
 
 pub in_range_spec : {M : Type 1} → statement M
 in_range_spec =
     tie.close
     (tie.spec
-    (λ c κs. search needs)
-    (λ c. search needs)
-    (λ c κs. search needs)
-    (λ c. search needs)
-    (λ c κs. search needs)
-    (λ c. search needs)
-    (λ c κs. search needs)
-    (λ c. search needs)
-    (λ c κs. search needs)
+    (λ c κs. search rules)
+    (λ c. search rules)
+    (λ c κs. search rules)
+    (λ c. search rules)
+    (λ c κs. search rules)
+    (λ c. search rules)
+    (λ c κs. search rules)
+    (λ c. search rules)
+    (λ c κs. search rules)
     returns)

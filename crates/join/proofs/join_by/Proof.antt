@@ -1,6 +1,6 @@
 -- `join::join_by` meets its contract.
 -- Assumes nothing.
-use Rattle.basics.proofs.Kit.{needs}
+use Rattle.basics.proofs.Kit.{rules}
 use Rattle.join.proofs.Joining.{join_as}
 use Rattle.join.proofs.join_by.Statement.{statement}
 use Rattle.join.proofs.join_by.Tie as tie
@@ -9,7 +9,7 @@ pub join_by_spec : {M : Type 1} → statement M
 join_by_spec =
     tie.close
     (tie.spec
-    (λ c κs. search needs)
-    (λ c κs. c.before.by-parameters.ensures.coded)
-    (λ c. search needs)
-    (λ c. join_as c.before.before.before.before.by-parameters.ensures _ _ _ _ _ c.before.before.join-in.ensures))
+    (λ c κs. search rules)
+    (λ c κs. c.before.by_parameters.ensures.coded)
+    (λ c. search rules)
+    (λ c. join_as c.before.before.before.before.by_parameters.ensures _ _ _ _ _ c.before.before.join_in.ensures))

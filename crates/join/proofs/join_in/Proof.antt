@@ -1,6 +1,6 @@
 -- `join::join_in` meets its contract.
 -- Assumes nothing.
-use Rattle.basics.proofs.Kit.{◌≡◌, refl, sym, ap, ◌∙◌, Bool, true, false, ◌&&◌, List, ℕ, zero, suc, ◌≤◌, arith, needs, length, take, eqb}
+use Rattle.basics.proofs.Kit.{◌≡◌, refl, sym, ap, ◌∙◌, Bool, true, false, ◌&&◌, List, ℕ, zero, suc, ◌≤◌, arith, rules, length, take, eqb}
 use lib.ListN.{replicate}
 use lib.Seq.{length-take-le}
 use borrow.Author.Tests.{eqb-true}
@@ -62,42 +62,42 @@ joinable h z ss bs o e =
       eqb-true _ _ (passed (eqb o (long h.m)) 3 0 a.1).0,
     )
 
-abbrev start : tie.After-first → tie.Start
+abbrev start : tie.After-first-number → tie.Start
 start f = f.before.before.before.before.before
 
-number_is : (f : tie.After-first) → let a = (start f).args in let h = a.chosen.shape in
-    f.first.result ≡ first a.chosen.number (parts_refusal h.m h.r a.configuration a.bch.now (length a.output.now))
-number_is f = f.first.ensures ∙ ap (first _) f.before.parts_refusal.ensures
+number_is : (f : tie.After-first-number) → let a = (start f).args in let h = a.chosen.shape in
+    f.first-number.result ≡ first a.chosen.number (parts_refusal h.m h.r a.configuration a.bch.now (length a.output.now))
+number_is f = f.first-number.ensures ∙ ap (first _) f.before.parts_refusal.ensures
 
-returns : tie.Need-returns
+returns : tie.Need-returns-then-number-ne0
 unfolding JoinSays
 returns c = let a = (start c.before).args in let h = a.chosen.shape in
     let e = number_is c.before in
-    outcome_refused _ _ _ _ (e ∙ first_refuses _ _ (λ z. c.if1.true (e ∙ z)) ∙ after_both _ _ _ ∙ ap (first _) (sym (join_refusal_is h.m h.r a.configuration a.bch.now (length a.output.now)))) c.if1.true refl
+    outcome_refused _ _ _ _ (e ∙ first_refuses _ _ (λ z. c.if-number-ne0.true (e ∙ z)) ∙ after_both _ _ _ ∙ ap (first _) (sym (join_refusal_is h.m h.r a.configuration a.bch.now (length a.output.now)))) c.if-number-ne0.true refl
 
-join-through-requires : tie.Need-join-through-requires
+join-through-requires : tie.Need-join_through-requires
 join-through-requires c κs = let e = c.before.before.before in let s = start e.before in let a = s.args in let h = a.chosen.shape in
-    joinable h s.pre a.configuration a.bch.now (length a.output.now) (first_none _ _ (sym (number_is e.before) ∙ e.if1.false)).1
+    joinable h s.requires a.configuration a.bch.now (length a.output.now) (first_none _ _ (sym (number_is e.before) ∙ e.if-number-ne0.false)).1
 
-fits : (c : tie.After-word) → (start c.before.before.before).args.chosen.shape.n ≤ 15
-fits c = let s = start c.before.before.before in let h = s.args.chosen.shape in omega (arith, s.pre.n_is, long_small h.m s.pre.width_is)
+fits : (c : tie.After-word-1) → (start c.before.before.before).args.chosen.shape.n ≤ 15
+fits c = let s = start c.before.before.before in let h = s.args.chosen.shape in omega (arith, s.requires.n_is, long_small h.m s.requires.width_is)
 
-returns-2 : tie.Need-returns-2
+returns-2 : tie.Need-returns
 unfolding JoinSays
 returns-2 c = let j = c.before.before.before in let e = j.before.before.before.before in let a = (start e.before).args in let h = a.chosen.shape in
     outcome_as _ _ _ _ _
-    (first_passes _ _ (sym (number_is e.before) ∙ e.if1.false) ∙ after_both _ _ _ ∙ ap (first _) (sym (join_refusal_is h.m h.r a.configuration a.bch.now (length a.output.now))))
-    j.join-through.ensures
+    (first_passes _ _ (sym (number_is e.before) ∙ e.if-number-ne0.false) ∙ after_both _ _ _ ∙ ap (first _) (sym (join_refusal_is h.m h.r a.configuration a.bch.now (length a.output.now))))
+    j.join_through.ensures
 
 pub join_in_spec : {M : Type 1} → statement M
 join_in_spec =
     tie.close
     (tie.spec
-    (λ c κs. search needs)
-    (λ c κs. search needs)
+    (λ c κs. search rules)
+    (λ c κs. search rules)
     returns
-    (λ c. search needs)
+    (λ c. search rules)
     (λ c. sym (length-take-le _ _ (fits c)))
     join-through-requires
-    (λ c. search needs)
+    (λ c. search rules)
     returns-2)

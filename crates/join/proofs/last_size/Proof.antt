@@ -5,4 +5,4 @@ use Rattle.join.proofs.last_size.Statement.{statement}
 use Rattle.join.proofs.last_size.Tie as tie
 
 pub last_size_spec : {M : Type 1} → statement M
-last_size_spec = tie.close (tie.spec (λ c. rw (eq-eqb _ _ c.if1.true)) (λ c. rw (ne_eqb _ _ c.if1.false)))
+last_size_spec = tie.close (tie.spec (λ c. rw (eq-eqb _ _ c.if-m-eq3.true)) (λ c. rw (ne_eqb _ _ c.if-m-eq3.false)))

@@ -1,6 +1,6 @@
 -- `join::write_layer` meets its contract: so many symbols are written, and the rest of the leader's number has the bits of the others.
 -- Assumes nothing.
-use Rattle.basics.proofs.Kit.{◌≡◌, refl, sym, ap, ap₂, ◌∙◌, List, ◌∷◌, ◌++◌, ℕ, suc, ◌+◌, ◌-◌, ◌*◌, ◌/◌, ◌%◌, ◌^◌, ◌≤◌, ◌<◌, arith, needs, length, get_or, take, drop, set}
+use Rattle.basics.proofs.Kit.{◌≡◌, refl, sym, ap, ap₂, ◌∙◌, List, ◌∷◌, ◌++◌, ℕ, suc, ◌+◌, ◌-◌, ◌*◌, ◌/◌, ◌%◌, ◌^◌, ◌≤◌, ◌<◌, arith, rules, length, get_or, take, drop, set}
 use native.Mathlib.Nat.{add-zero}
 use native.Mathlib.Numerals.{add-one}
 use lib.ListN.{length-set}
@@ -40,42 +40,42 @@ unwritten to d i h =
     let e : i ≡ length (take i to) + 0 = omega arith in
     ap (λ (k : ℕ). get_or (take i to ++ drop i d) k 0) e ∙ get_or-append-add (take i to) (drop i d) 0 0 ∙ get_or-drop i d 0 0 ∙ ap (λ (k : ℕ). get_or d k 0) (add-zero i)
 
-abbrev invariant-loop : tie.invariant-loop
+abbrev invariant-loop : tie.invariant-loop-i
 invariant-loop j leader bits word₀ rest₀ i₀ word rest i =
     (i ≤ length bits) × (length word ≡ length bits) × (word ≡ take i (to j leader bits word₀) ++ drop i word₀)
     × (drop i (to j leader bits word₀) ≡ with_layer j (drop i word₀) (sum (drop i bits) (bits_of (length bits - i) rest)))
 
-abbrev decreases-loop : tie.decreases-loop
+abbrev decreases-loop : tie.decreases-loop-i
 decreases-loop j leader bits word₀ rest₀ i₀ word rest i = length bits - i
 
-abbrev start : tie.At-loop invariant-loop decreases-loop → tie.Start invariant-loop decreases-loop
+abbrev start : tie.At-loop-i invariant-loop decreases-loop → tie.Start invariant-loop decreases-loop
 start l = l.before.before.before
 
-loop-holds : tie.Need-loop-init invariant-loop decreases-loop
+loop-holds : tie.Need-loop-i-init invariant-loop decreases-loop
 unfolding to
 loop-holds c = let a = c.before.before.args in
     let n : length a.bits.now - 0 ≡ length a.bits.now = omega arith in
-    (search needs, search needs, refl, rw n refl)
+    (search rules, search rules, refl, rw n refl)
 
-loop-again : tie.Need-loop-preserved invariant-loop decreases-loop
-loop-again c = let i = c.before.before.before.before in let l = i.before.loop in let s = start i.before in let a = s.args in let h = i.loop-test.true in
+loop-again : tie.Need-loop-i-preserved invariant-loop decreases-loop
+loop-again c = let i = c.before.before.before.before in let l = i.before.loop-i in let s = start i.before in let a = s.args in let h = i.loop-i-test.true in
     let w = to a.j a.leader a.bits.now a.word.now in
-    let long = to_length a.j a.leader a.bits.now a.word.now s.pre.1 in
-    let u : get_or l.word l.i 0 ≡ get_or a.word.now l.i 0 = ap (λ (x : List ℕ). get_or x l.i 0) l.invariant.2 ∙ unwritten w a.word.now l.i (omega (arith, long, s.pre.1)) in
-    let n = next w l.i _ _ (l.invariant.3 ∙ one_position a.j l.rest l.i a.bits.now a.word.now s.pre.1 h) in
-    let v : c.add2.result ≡ get_or w l.i 0 =
-    c.add2.ensures ∙ ap₂ (λ (x y : ℕ). xor x (y * 2 ^ a.j % 256)) u c.before.add.ensures ∙ sym n.here in (
-      search needs,
+    let long = to_length a.j a.leader a.bits.now a.word.now s.requires.1 in
+    let u : get_or l.word l.i 0 ≡ get_or a.word.now l.i 0 = ap (λ (x : List ℕ). get_or x l.i 0) l.invariant.2 ∙ unwritten w a.word.now l.i (omega (arith, long, s.requires.1)) in
+    let n = next w l.i _ _ (l.invariant.3 ∙ one_position a.j l.rest l.i a.bits.now a.word.now s.requires.1 h) in
+    let v : c.add-in-loop-i.result ≡ get_or w l.i 0 =
+    c.add-in-loop-i.ensures ∙ ap₂ (λ (x y : ℕ). xor x (y * 2 ^ a.j % 256)) u c.before.add.ensures ∙ sym n.here in (
+      search rules,
       simp (length-set) l.invariant.1,
-      ap₂ (λ (x : List ℕ) (y : ℕ). set x l.i y) l.invariant.2 v ∙ copy_more w a.word.now l.i (omega (arith, s.pre.1)) (omega (arith, long, s.pre.1)),
+      ap₂ (λ (x : List ℕ) (y : ℕ). set x l.i y) l.invariant.2 v ∙ copy_more w a.word.now l.i (omega (arith, s.requires.1)) (omega (arith, long, s.requires.1)),
       n.more,
     )
 
 returns : tie.Need-returns invariant-loop decreases-loop
 unfolding to
 returns c = let l = c.before in let s = start l in let a = s.args in
-    let e = to_length a.j a.leader a.bits.now a.word.now s.pre.1 in
-    l.loop.invariant.2 ∙ copied (to a.j a.leader a.bits.now a.word.now) a.word.now l.loop.i e (omega (arith, e, s.pre.1))
+    let e = to_length a.j a.leader a.bits.now a.word.now s.requires.1 in
+    l.loop-i.invariant.2 ∙ copied (to a.j a.leader a.bits.now a.word.now) a.word.now l.loop-i.i e (omega (arith, e, s.requires.1))
 
 pub write_layer_spec : {M : Type 1} → statement M
 write_layer_spec =
@@ -84,16 +84,16 @@ write_layer_spec =
     invariant-loop
     decreases-loop
     loop-holds
-    (λ c. search needs)
-    (λ c. search needs)
-    (λ c. search needs)
-    (λ c κs. search needs)
-    (λ c. search needs)
-    (λ c. search needs)
-    (λ c κs. search needs)
-    (λ c. search needs)
-    (λ c. search needs)
-    (λ c. search needs)
+    (λ c. search rules)
+    (λ c. search rules)
+    (λ c. search rules)
+    (λ c κs. search rules)
+    (λ c. search rules)
+    (λ c. search rules)
+    (λ c κs. search rules)
+    (λ c. search rules)
+    (λ c. search rules)
+    (λ c. search rules)
     loop-again
-    (λ c. c.before.loop.invariant.1 ∙ sym (start c.before).pre.1)
+    (λ c. c.before.loop-i.invariant.1 ∙ sym (start c.before).requires.1)
     returns)

@@ -5,7 +5,7 @@ use mir.Facts.{to_z_pos}
 use mir.Val.{to_z}
 use mir.Syntax.{w16}
 use lib.Signed.{le_z}
-use Rattle.basics.proofs.Kit.{◌≡◌, sym, ap₂, ◌∙◌, ℕ, ◌<◌, arith, needs, leb}
+use Rattle.basics.proofs.Kit.{◌≡◌, sym, ap₂, ◌∙◌, ℕ, ◌<◌, arith, rules, leb}
 use borrow.Author.Tests.{leb-true, leb-false}
 use Rattle.lanes.proofs.min_of.Statement.{statement}
 use Rattle.lanes.proofs.min_of.Tie as tie
@@ -14,19 +14,19 @@ use Rattle.lanes.proofs.min_of.Tie as tie
 signed : (a b : ℕ) → a < limit → b < limit → le_z (to_z w16 a) (to_z w16 b) ≡ leb a b
 signed a b ha hb = ap₂ le_z (to_z_pos w16 ha) (to_z_pos w16 hb)
 
-cast-if1 : tie.Need-overflow-cast-if1
-cast-if1 c = search needs
+cast-if1 : tie.Need-overflow_cast-a
+cast-if1 c = search rules
 
-cast-if1-2 : tie.Need-overflow-cast-if1-2
-cast-if1-2 c = search needs
+cast-if1-2 : tie.Need-overflow_cast-b
+cast-if1-2 c = search rules
 
-returns : tie.Need-returns
+returns : tie.Need-returns-then-a-b
 returns c = let s = c.before in
-    omega (arith, leb-true s.args.a s.args.b (sym (signed s.args.a s.args.b s.requires.0 s.requires.1) ∙ c.if1.true))
+    omega (arith, leb-true s.args.a s.args.b (sym (signed s.args.a s.args.b s.requires.0 s.requires.1) ∙ c.if-a-b.true))
 
-returns-2 : tie.Need-returns-2
+returns-2 : tie.Need-returns-else-a-b
 returns-2 c = let s = c.before in
-    omega (arith, leb-false s.args.a s.args.b (sym (signed s.args.a s.args.b s.requires.0 s.requires.1) ∙ c.if1.false))
+    omega (arith, leb-false s.args.a s.args.b (sym (signed s.args.a s.args.b s.requires.0 s.requires.1) ∙ c.if-a-b.false))
 
 pub min_of_spec : {M : Type 1} → statement M
 min_of_spec = tie.close (tie.spec cast-if1 cast-if1-2 returns returns-2)

@@ -1,6 +1,6 @@
 -- `marker::judge_word` meets its contract.
 -- Assumes nothing.
-use Rattle.basics.proofs.Kit.{needs}
+use Rattle.basics.proofs.Kit.{rules}
 use Rattle.marker.proofs.Refusals.{mark_as}
 use Rattle.marker.proofs.judge_word.Statement.{statement}
 use Rattle.marker.proofs.judge_word.Tie as tie
@@ -9,7 +9,7 @@ pub judge_word_spec : {M : Type 1} → statement M
 judge_word_spec =
     tie.close
     (tie.spec
-    (λ c κs. search needs)
-    (λ c κs. c.before.by_number.ensures.coded)
-    (λ c. search needs)
-    (λ c. mark_as c.before.before.before.by_number.ensures _ _ _ _ _ c.before.judge-chosen.ensures))
+    (λ c κs. search rules)
+    (λ c κs. c.by_number.ensures.coded)
+    (λ c. search rules)
+    (λ c. mark_as c.by_number.ensures _ _ _ _ _ c.judge_chosen.ensures))

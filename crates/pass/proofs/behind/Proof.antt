@@ -1,6 +1,6 @@
 -- `pass::behind` meets its contract.
 -- Assumes nothing.
-use Rattle.basics.proofs.Kit.{◌≡◌, List, ℕ, suc, ◌+◌, ◌-◌, ◌*◌, ◌≤◌, ◌<◌, arith, needs, length, take, drop, ℤ}
+use Rattle.basics.proofs.Kit.{◌≡◌, List, ℕ, suc, ◌+◌, ◌-◌, ◌*◌, ◌≤◌, ◌<◌, arith, rules, length, take, drop, ℤ}
 use native.Mathlib.Nat.{suc-mul, mul-le-mul_right}
 use Rattle.coset.specs.Coset.{Costs}
 use Rattle.coset.specs.Runs.{Restore, Restored}
@@ -33,52 +33,52 @@ module _ {q size i : ℕ} {hs zs os : List ℕ} {kept : List ℤ} {g : List ℕ}
   part-costs : (g' : List ℕ) → Restored (part i (size * 4) kept) (length g) g g' → Costs size hs zs os (i + 1) g'
   part-costs g' r = restored_costs b.layers kept b.tables (omega arith) l g g' b.length_g (rw part_is at r)
 
-abbrev st : tie.Then1 → tie.Start
+abbrev st : tie.Then-i-hs → tie.Start
 st c = c.before.before.before.before.before
 
-fits : (c : tie.Then1) → (st c).args.i * ((st c).args.size * 4) + (st c).args.size * 4 ≤ length (st c).args.kept.now
-fits c = room (st c).requires c.if1.true
+fits : (c : tie.Then-i-hs) → (st c).args.i * ((st c).args.size * 4) + (st c).args.size * 4 ≤ length (st c).args.kept.now
+fits c = room (st c).requires c.if-i-hs.true
 
-mul-at-2 : tie.Need-overflow-mul-at-2
+mul-at-2 : tie.Need-overflow_mul-at-then-i-hs
 mul-at-2 c = omega (arith, fits c)
 
-add-end : tie.Need-overflow-add-end
+add-end : tie.Need-overflow_add-end
 add-end c = omega (arith, fits c)
 
-mul-restore : tie.Need-overflow-mul-restore
+mul-restore : tie.Need-offset_bounds-kept-at
 mul-restore c = omega (arith, fits c)
 
-part-restore-end : tie.Need-slice-bounds-restore-end
+part-restore-end : tie.Need-slice_bounds-restore-end
 part-restore-end c = omega (arith, fits c)
 
 restore-requires : tie.Need-restore-requires
-restore-requires c κs = let d = c.before.before in part-asks (st d).requires d.if1.true
+restore-requires c κs = let d = c.before.before in part-asks (st d).requires d.if-i-hs.true
 
-returns : tie.Need-returns
-returns c = let d = c.before.before.before.before.before in part-costs (st d).requires d.if1.true c.before.before.restore.new.1.0 c.before.before.restore.ensures
+returns : tie.Need-returns-then-i-hs
+returns c = let d = c.before.before.before.before.before in part-costs (st d).requires d.if-i-hs.true c.before.before.restore.new.g c.before.before.restore.ensures
 
-returns-2 : tie.Need-returns-2
+returns-2 : tie.Need-returns-else-i-hs
 returns-2 c = let s = c.before.before.before.before.before.before.before.before.before in
-    let e : length s.args.hs.now - s.args.q ≡ s.args.i + 1 = omega (arith, s.requires.inside, c.before.before.before.before.if1.false) in
+    let e : length s.args.hs.now - s.args.q ≡ s.args.i + 1 = omega (arith, s.requires.inside, c.before.before.before.before.if-i-hs.false) in
     rw e at c.before.before.tail.ensures
 
 pub behind_spec : {M : Type 1} → statement M
 behind_spec =
     tie.close
     (tie.spec
-    (λ c. search needs)
-    (λ c. search needs)
-    (λ c. search needs)
+    (λ c. search rules)
+    (λ c. search rules)
+    (λ c. search rules)
     mul-at-2
-    (λ c. search needs)
+    (λ c. search rules)
     add-end
     mul-restore
-    (λ c. search needs)
-    (λ c. search needs)
+    (λ c. search rules)
+    (λ c. search rules)
     part-restore-end
     restore-requires
-    (λ c κs. search needs)
-    (λ c. search needs)
+    (λ c κs. search rules)
+    (λ c. search rules)
     returns
-    (λ c. search needs)
+    (λ c. search rules)
     returns-2)

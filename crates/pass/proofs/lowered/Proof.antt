@@ -1,6 +1,6 @@
 -- `pass::lowered` meets its contract.
 -- Assumes nothing.
-use Rattle.basics.proofs.Kit.{◌≡◌, needs}
+use Rattle.basics.proofs.Kit.{◌≡◌, rules}
 use Rattle.rows.specs.Rows.{sum, less}
 use Rattle.rows.proofs.Rows.{small_sum}
 use Rattle.pass.proofs.Rows.{small_less}
@@ -10,7 +10,7 @@ use Rattle.pass.proofs.lowered.Tie as tie
 least-requires : tie.Need-least-requires
 least-requires c κs = let st = c.before.before in
     let a = st.args in
-    rw (c.before.add.ensures, c.add2.ensures) (small_sum a.a a.b st.requires.1.0, small_sum a.c a.d st.requires.1.1)
+    rw (c.before.add.ensures, c.add-2.ensures) (small_sum a.a a.b st.requires.1.0, small_sum a.c a.d st.requires.1.1)
 
 least-requires-2 : tie.Need-least-requires-2
 least-requires-2 c κs = let st = c.before.before.before in
@@ -23,4 +23,4 @@ returns c = cc
 
 pub lowered_spec : {M : Type 1} → statement M
 lowered_spec =
-    tie.close (tie.spec (λ c κs. search needs) (λ c κs. search needs) least-requires least-requires-2 returns)
+    tie.close (tie.spec (λ c κs. search rules) (λ c κs. search rules) least-requires least-requires-2 returns)

@@ -1,6 +1,6 @@
 -- `practice::reliability_of` meets its contract.
 -- Assumes nothing.
-use Rattle.basics.proofs.Kit.{◌≡◌, ℕ, ◌%◌, ◌<◌, arith, needs, pos, ◌-ℤ◌}
+use Rattle.basics.proofs.Kit.{◌≡◌, ℕ, ◌%◌, ◌<◌, arith, rules, pos, ◌-ℤ◌}
 use Rattle.std.proofs.Common.{to_z-of_z, w16, SFits, to_z, of_z}
 use mir.Facts.{to_z_pos}
 use Rattle.practice.specs.Practice.{draw, reliability}
@@ -18,16 +18,12 @@ module _ {d : ℕ} (h : d < 1000) where
   value : to_z w16 (of_z w16 (to_z w16 d -ℤ pos 127)) ≡ pos d -ℤ pos 127
   value = rw plain (to_z-of_z (less_fits d h))
 
-remainder_lt : (d : ℕ) → d % 255 < 1000
-remainder_lt d = omega arith
-
-sub-result : tie.Need-overflow-sub-result
-unfolding draw
-sub-result c = fits (remainder_lt (draw c.args.state))
+sub-result : tie.Need-overflow_sub-result
+sub-result c = search (rules, fits)
 
 returns : tie.Need-returns
 unfolding reliability draw
-returns c = value (remainder_lt (draw c.args.state))
+returns c = value {d = draw c.args.state % 255} (omega arith)
 
 pub reliability_of_spec : {M : Type 1} → statement M
-reliability_of_spec = tie.close (tie.spec (λ c. search needs) sub-result returns)
+reliability_of_spec = tie.close (tie.spec (λ c. search rules) sub-result returns)

@@ -1,6 +1,6 @@
 -- `quantiser::size_of` meets its contract: a range of the exponent's field for each way out.
 -- Assumes nothing.
-use Rattle.basics.proofs.Kit.{◌≡◌, ap, ℕ, ◌+◌, ◌-◌, ◌*◌, ◌/◌, ◌%◌, ◌^◌, ◌<◌, arith, needs, pos}
+use Rattle.basics.proofs.Kit.{◌≡◌, ap, ℕ, ◌+◌, ◌-◌, ◌*◌, ◌/◌, ◌%◌, ◌^◌, ◌<◌, arith, rules, pos}
 use native.Mathlib.Nat.{lt_of_lt_of_le}
 use lib.Pow.{shl_exact, shl_lt, pow_mono}
 use Rattle.quantiser.proofs.Sizes.{of_plain, small, large, middle}
@@ -22,13 +22,13 @@ pub size_of_spec : {M : Type 1} → statement M
 size_of_spec =
     tie.close
     (tie.spec
-    (λ c. search needs)
-    (λ c. (rw (of_plain _ c.before.requires.0 c.before.requires.1) (ap pos (small c.before.args.b c.if1.true)), omega arith))
-    (λ c. (rw (of_plain _ c.before.before.requires.0 c.before.before.requires.1) (ap pos (large _ _ c.if2.true)), omega arith))
-    (λ c. search needs)
-    (λ c κs. room _ c.if2.false)
-    (λ c κs. search needs)
+    (λ c. search rules)
+    (λ c. (rw (of_plain _ c.before.requires.0 c.before.requires.1) (ap pos (small c.args.b (omega arith))), omega arith))
+    (λ c. (rw (of_plain _ c.before.before.requires.0 c.before.before.requires.1) (ap pos (large _ _ c.if-e-ge134.true)), omega arith))
+    (λ c. search rules)
+    (λ c κs. room _ c.if-e-ge134.false)
+    (λ c κs. search rules)
     (λ c. (
-      rw (of_plain _ c.before.before.before.before.requires.0 c.before.before.before.before.requires.1, c.clipped.ensures, c.before.halves-up.ensures, kept _ c.before.before.if2.false, middle (c.before.before.before.before.args.b / 8388608) (c.before.before.before.before.args.b % 8388608) c.before.before.before.if1.false),
+      rw (of_plain _ c.before.before.before.before.requires.0 c.before.before.before.before.requires.1, c.clipped.ensures, c.before.halves_up.ensures, kept _ c.before.before.if-e-ge134.false, middle (c.before.before.before.before.args.b / 8388608) (c.before.before.before.before.args.b % 8388608) (omega arith)),
       omega arith,
     )))

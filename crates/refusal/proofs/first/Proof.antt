@@ -5,4 +5,4 @@ use Rattle.refusal.proofs.first.Statement.{statement}
 use Rattle.refusal.proofs.first.Tie as tie
 
 pub first_spec : {M : Type 1} → statement M
-first_spec = tie.close (tie.spec (λ c. first_passes _ _ c.if1.true) (λ c. first_refuses _ _ c.if1.false))
+first_spec = tie.close (tie.spec (λ c. first_passes _ _ c.if-number-eq0.true) (λ c. first_refuses _ _ c.if-number-eq0.false))

@@ -7,22 +7,22 @@ use Rattle.metric.specs.Scratch.{scratch_long}
 use Rattle.report.proofs.put_lines.Statement.{statement}
 use Rattle.report.proofs.put_lines.Tie as tie
 
-abbrev invariant-loop : tie.invariant-loop
+abbrev invariant-loop : tie.invariant-loop-i
 invariant-loop sheet count scratch₀ out₀ at place₀ i₀ scratch out place i = WalkedSheet sheet count at out₀ out place i × (length scratch ≡ scratch_long)
 
-abbrev decreases-loop : tie.decreases-loop
+abbrev decreases-loop : tie.decreases-loop-i
 decreases-loop sheet count scratch₀ out₀ at place₀ i₀ scratch out place i = count - i
 
-put-next-requires : tie.Need-put-next-requires invariant-loop decreases-loop
-put-next-requires c κs = let l = c.before.before.before in let p = l.before.before.before.requires in let h = c.before.before.loop-test.true in
-    ((l.loop.i, walk_asked p.0 p.1.1 l.loop.invariant.0 h), (l.loop.invariant.1, walk_room p.0 p.1.1 l.loop.invariant.0 h))
+put-next-requires : tie.Need-put_next-place-requires invariant-loop decreases-loop
+put-next-requires c κs = let p = c.requires in let h = c.loop-i-test.true in
+    ((c.loop-i.i, walk_asked p.0 p.1.1 c.loop-i.invariant.0 h), (c.loop-i.invariant.1, walk_room p.0 p.1.1 c.loop-i.invariant.0 h))
 
-loop-again : tie.Need-loop-preserved invariant-loop decreases-loop
-loop-again c = let l = c.before.before.before.before.before.before.before in let p = l.before.before.before.requires in
-    (walk_more p.0 p.1.1 l.loop.invariant.0 c.before.before.before.before.before.before.loop-test.true c.before.before.before.put_next.ensures, c.before.before.before.put_next.auto.1.1.0 ∙ l.loop.invariant.1)
+loop-again : tie.Need-loop-i-preserved invariant-loop decreases-loop
+loop-again c = let p = c.requires in
+    (walk_more p.0 p.1.1 c.loop-i.invariant.0 c.loop-i-test.true c.put_next-place.ensures, c.put_next-place.auto.scratch ∙ c.loop-i.invariant.1)
 
 returns : tie.Need-returns invariant-loop decreases-loop
-returns c = let l = c.before in let p = l.before.before.before.requires in walk_done p.0 p.1.1 l.loop.invariant.0 c.loop-test.false
+returns c = let p = c.requires in walk_done p.0 p.1.1 c.loop-i.invariant.0 c.loop-i-test.false
 
 pub put_lines_spec : {M : Type 1} → statement M
 put_lines_spec =
@@ -30,11 +30,11 @@ put_lines_spec =
     (tie.spec
     invariant-loop
     decreases-loop
-    (λ c. (walk_first c.before.before.requires.0 c.before.before.requires.1.1, c.before.before.requires.1.0))
+    (λ c. (walk_first c.requires.0 c.requires.1.1, c.requires.1.0))
     put-next-requires
-    (λ c. omega (arith, c.before.before.before.before.before.before.before.before.before.before.ranges.count))
+    (λ c. omega (arith, c.ranges.count))
     (λ c. omega arith)
     loop-again
-    (λ c. c.before.loop.invariant.1 ∙ sym c.before.before.before.before.requires.1.0)
-    (λ c. written_length c.before.loop.invariant.0.lines.written)
+    (λ c. c.loop-i.invariant.1 ∙ sym c.requires.1.0)
+    (λ c. written_length c.loop-i.invariant.0.lines.written)
     returns)

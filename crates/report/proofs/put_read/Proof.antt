@@ -5,25 +5,20 @@ use borrow.Author.Rules.{rules}
 use Rattle.report.proofs.put_read.Statement.{statement}
 use Rattle.report.proofs.put_read.Tie as tie
 
-abbrev st : tie.After-question-at → tie.Start
-st y = y.before.before.before.before.before.before.before
+put-answer-requires : tie.Need-put_answer-text-requires
+put-answer-requires c κs = (holds c.requires.0.1 c.requires.1.0 c.question_at-step.ensures c.in-Found.is, c.requires.1.1)
 
-put-answer-requires : tie.Need-put-answer-requires
-put-answer-requires c κs = let a = c.before.before.before.before.before.before.before in let y = a.before.before.before.before.before in let s = st y in
-    (holds s.pre.0.1 s.pre.1.0 y.question-at.ensures a.answer.given.1, s.pre.1.1)
+returns : tie.Need-returns-in-Found
+returns c = record {
+  line = rw (here c.requires.0.1 c.requires.1.0 c.question_at-step.ensures c.in-Found.is) at c.put_answer-text.ensures;
+  next = next_is c.requires.0.1 c.requires.1.0 c.question_at-step.ensures;
+}
 
-returns : tie.Need-returns
-returns c = let p = c.before.before.before.before.before.before in let a = p.before.before.before.before.before.before.before.before in let y = a.before.before.before.before.before in let s = st y in
-    record {
-      line = rw (here s.pre.0.1 s.pre.1.0 y.question-at.ensures a.answer.given.1) at p.put-answer.ensures;
-      next = next_is s.pre.0.1 s.pre.1.0 y.question-at.ensures;
-    }
+returns-2 : tie.Need-returns-in-NoneLeft
+returns-2 c = none_not c.requires.0.1 c.requires.1.0 c.question_at-step.ensures c.in-NoneLeft.is
 
-returns-2 : tie.Need-returns-2
-returns-2 c = let y = c.before.before.before.before.before in let s = st y in none_not s.pre.0.1 s.pre.1.0 y.question-at.ensures c.enum_told.given.1
-
-returns-3 : tie.Need-returns-3
-returns-3 c = let y = c.before.before.before.before.before in let s = st y in refused_not s.pre.0.1 s.pre.1.0 y.question-at.ensures c.enum-told2.given.1
+returns-3 : tie.Need-returns-in-Refused
+returns-3 c = refused_not c.requires.0.1 c.requires.1.0 c.question_at-step.ensures c.in-Refused.is
 
 pub put_read_spec : {M : Type 1} → statement M
 put_read_spec =

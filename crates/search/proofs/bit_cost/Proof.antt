@@ -8,5 +8,5 @@ pub bit_cost_spec : {M : Type 1} → statement M
 bit_cost_spec =
     tie.close
     (tie.spec
-    (λ c. rw c.if1.true)
-    (λ c. let a = c.before.args in pick_one a.b a.z a.o c.if1.false))
+    (λ c. rw c.if-b-eq0.true)
+    (λ c. let a = c.before.args in pick_one a.b a.z a.o c.if-b-eq0.false))

@@ -1,6 +1,6 @@
 -- `search::cost_wide` meets its contract.
 -- Assumes nothing.
-use Rattle.basics.proofs.Kit.{arith, needs}
+use Rattle.basics.proofs.Kit.{arith, rules}
 use Rattle.search.proofs.Prepared.{costed}
 use Rattle.search.proofs.cost_wide.Statement.{statement}
 use Rattle.search.proofs.cost_wide.Tie as tie
@@ -13,10 +13,10 @@ pub cost_wide_spec : {M : Type 1} → statement M
 cost_wide_spec =
     tie.close
     (tie.spec
-    (λ c. search needs)
-    (λ c κs. search needs)
-    (λ c. search needs)
-    (λ c κs. search needs)
-    (λ c. search needs)
-    (λ c. search needs)
+    (λ c. search rules)
+    (λ c κs. search rules)
+    (λ c. search rules)
+    (λ c κs. search rules)
+    (λ c. search rules)
+    (λ c. search rules)
     returns)

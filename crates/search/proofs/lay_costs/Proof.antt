@@ -7,15 +7,15 @@ use Rattle.search.proofs.lay_costs.Statement.{statement}
 use Rattle.search.proofs.lay_costs.Tie as tie
 
 fill-requires : tie.Need-fill-requires
-fill-requires c κs = let s = c.before.before.before.before in let z = s.requires.0 in (z.accepted_is, (z.size_is ∙ ap (λ (q : ℕ). 2 ^ q) z.q_is, s.requires.1.1))
+fill-requires c κs = let z = c.requires.0 in (z.accepted_is, (z.size_is ∙ ap (λ (q : ℕ). 2 ^ q) z.q_is, c.requires.1.1))
 
-gather-costs-requires : tie.Need-gather-costs-requires
-gather-costs-requires c κs = let s = c.before.before.before.before.before.before.before.before.before in let p = c.before.before.before.before.fill.ensures in (sixteens s.requires.0 p s.requires.1.0, s.requires.1.2 ∙ s.requires.1.1 ∙ sym p.long)
+gather-costs-requires : tie.Need-gather_costs-requires
+gather-costs-requires c κs = let p = c.fill.ensures in (sixteens c.requires.0 p c.requires.1.0, c.requires.1.2 ∙ c.requires.1.1 ∙ sym p.long)
 
-same_length : tie.Need-same-length
+same_length : tie.Need-shape_of-places
 same_length c = search rules
 
-same-length-2 : tie.Need-same-length-2
+same-length-2 : tie.Need-shape_of-f
 same-length-2 c = search rules
 
 returns : tie.Need-returns

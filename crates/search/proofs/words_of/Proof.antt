@@ -6,22 +6,22 @@ use borrow.Author.Rules.{rules}
 use Rattle.search.proofs.words_of.Statement.{statement}
 use Rattle.search.proofs.words_of.Tie as tie
 
-agree-requires : tie.Need-agree-requires
+agree-requires : tie.Need-agree-agreed-requires
 agree-requires c κs = search rules
 
-same_length : tie.Need-same-length
+same_length : tie.Need-shape_of-places-then-agreed
 same_length c = search rules
 
-returns : tie.Need-returns
-returns c = let s = c.before.before.before.before.before.before.before.before in let p = s.requires.1.0 in (agreed s.requires.0 p.2 s.args.t.now s.args.g.now _ _ s.requires.1.1.1.1 s.requires.1.1.0 (c.before.before.agree.ensures c.before.if1.true) (rw (← s.requires.1.1.0) at (tied s.requires.0 p.2 p.0 p.1)), refl)
+returns : tie.Need-returns-then-agreed
+returns c = let p = c.requires.1.0 in (agreed c.requires.0 p.2 c.args.t.now c.args.g.now _ _ c.requires.1.1.1.1 c.requires.1.1.0 (c.agree-agreed.ensures c.if-agreed.true) (rw (← c.requires.1.1.0) at (tied c.requires.0 p.2 p.0 p.1)), refl)
 
-first-words-requires : tie.Need-first-words-requires
-first-words-requires c κs = let s = c.before.before.before.before.before.before.before.before in let p = s.requires.1.0 in (s.requires.0, ((p.1, p.2), (slots_ok s.requires.0 p.2 p.0 p.1, rw (← s.requires.1.1.0) at (tied s.requires.0 p.2 p.0 p.1))))
+first-words-requires : tie.Need-first_words-requires
+first-words-requires c κs = let p = c.requires.1.0 in (c.requires.0, ((p.1, p.2), (slots_ok c.requires.0 p.2 p.0 p.1, rw (← c.requires.1.1.0) at (tied c.requires.0 p.2 p.0 p.1))))
 
-same-length-2 : tie.Need-same-length-2
+same-length-2 : tie.Need-shape_of-places
 same-length-2 c = search rules
 
-returns-2 : tie.Need-returns-2
+returns-2 : tie.Need-returns
 returns-2 c = search rules
 
 pub words_of_spec : {M : Type 1} → statement M

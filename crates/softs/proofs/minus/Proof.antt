@@ -6,7 +6,7 @@ use borrow.Author.Rules.{rules}
 use Rattle.softs.proofs.minus.Statement.{statement}
 use Rattle.softs.proofs.minus.Tie as tie
 
-sub-result : tie.Need-overflow-sub-result
+sub-result : tie.Need-overflow_sub-result
 sub-result c = let a = c.args.a in
     let b = c.args.b in
     let e = minus_is a b c.requires.0 c.requires.1 in

@@ -5,7 +5,7 @@ use Rattle.basics.proofs.Kit.{◌*◌, arith, pos, ◌-ℤ◌}
 use Rattle.softs.proofs.soft_from.Statement.{statement}
 use Rattle.softs.proofs.soft_from.Tie as tie
 
-cast-result : tie.Need-overflow-cast-result
+cast-result : tie.Need-overflow_cast-result
 cast-result c = let s = c.before in
     let a = s.args in
     let g = soft_fits a.zero a.one s.requires.0 s.requires.1 in

@@ -1,6 +1,6 @@
 -- `split::columns_of` meets its contract: by a test of each table.
 -- Assumes nothing.
-use Rattle.basics.proofs.Kit.{◌≡◌, List, [], ◌∷◌, ℕ, get_or, eqb}
+use Rattle.basics.proofs.Kit.{[], ◌∷◌, get_or, eqb}
 use lib.Dec.{eqb→eq}
 use Rattle.field.specs.Field.{xor, doubled, alpha}
 use Rattle.field.proofs.Tests.{at, not_three}
@@ -22,5 +22,5 @@ pub columns_of_spec : {M : Type 1} → statement M
 columns_of_spec =
     tie.close
     (tie.spec
-    (λ c. rw c.if1.true three)
-    (λ c. rw (not_three c.before.args.m c.before.requires c.if1.false) four))
+    (λ c. rw c.if-m-eq3.true three)
+    (λ c. rw (not_three c.before.args.m c.before.requires c.if-m-eq3.false) four))

@@ -1,6 +1,6 @@
 -- `split::foremost` meets its contract.
 -- Assumes nothing.
-use Rattle.basics.proofs.Kit.{ap, ◌∙◌, ℕ, ◌%◌, ◌^◌, needs, length}
+use Rattle.basics.proofs.Kit.{ap, ◌∙◌, ℕ, ◌%◌, ◌^◌, rules, length}
 use Rattle.split.specs.Members.{least_rank, foremost}
 use Rattle.split.proofs.foremost.Statement.{statement}
 use Rattle.split.proofs.foremost.Tie as tie
@@ -8,7 +8,7 @@ use Rattle.split.proofs.foremost.Tie as tie
 returns : tie.Need-returns
 unfolding foremost
 returns c = let a = c.before.before.before.before.args in
-    ap (λ (x : ℕ). x % 32768) (c.least_rank.ensures ∙ ap (λ x. least_rank a.rows.now x (2 ^ length a.rows.now)) c.before.picked.ensures)
+    ap (λ (x : ℕ). x % 32768) (c.least_rank.ensures ∙ ap (λ x. least_rank a.rows.now x (2 ^ length a.rows.now)) c.before.picked-word.ensures)
 
 pub foremost_spec : {M : Type 1} → statement M
-foremost_spec = tie.close (tie.spec (λ c κs. search needs) (λ c κs. search needs) (λ c. search needs) returns)
+foremost_spec = tie.close (tie.spec (λ c κs. search rules) (λ c κs. search rules) (λ c. search rules) returns)

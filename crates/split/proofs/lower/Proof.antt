@@ -5,13 +5,13 @@ use Rattle.split.specs.Members.{lower}
 use Rattle.split.proofs.lower.Statement.{statement}
 use Rattle.split.proofs.lower.Tie as tie
 
-returns : tie.Need-returns
+returns : tie.Need-returns-then-b-a
 unfolding lower
-returns c = rw (lt-ltb _ _ c.if1.true)
+returns c = rw (lt-ltb _ _ c.if-b-a.true)
 
-returns-2 : tie.Need-returns-2
+returns-2 : tie.Need-returns-else-b-a
 unfolding lower
-returns-2 c = rw (le-ltb _ _ c.if1.false)
+returns-2 c = rw (le-ltb _ _ c.if-b-a.false)
 
 pub lower_spec : {M : Type 1} → statement M
 lower_spec = tie.close (tie.spec returns returns-2)

@@ -1,6 +1,6 @@
 -- `split::picked` meets its contract: the sum so far, and that of the rest of the table at the rest of the bits.
 -- Assumes nothing.
-use Rattle.basics.proofs.Kit.{◌≡◌, sym, ◌∙◌, List, ℕ, ◌+◌, ◌-◌, ◌/◌, ◌≤◌, ◌<◌, needs, length, drop, get_or}
+use Rattle.basics.proofs.Kit.{◌≡◌, sym, ◌∙◌, List, ℕ, ◌+◌, ◌-◌, ◌/◌, ◌≤◌, ◌<◌, rules, length, drop, get_or}
 use native.Mathlib.Numerals.{add-one}
 use lib.ListN.{drop_of_length-le}
 use lib.Seq.{drop-cons}
@@ -10,10 +10,10 @@ use Rattle.split.specs.Members.{where_odd, picked}
 use Rattle.split.proofs.picked.Statement.{statement}
 use Rattle.split.proofs.picked.Tie as tie
 
-abbrev invariant-loop : tie.invariant-loop
+abbrev invariant-loop : tie.invariant-loop-i
 invariant-loop table k sum₀ rest₀ i₀ sum rest i = (i ≤ length table) × (xor sum (picked (drop i table) rest) ≡ picked table k)
 
-abbrev decreases-loop : tie.decreases-loop
+abbrev decreases-loop : tie.decreases-loop-i
 decreases-loop table k sum₀ rest₀ i₀ sum rest i = length table - i
 
 step : (ts : List ℕ) (i x k : ℕ) → i < length ts →
@@ -25,10 +25,10 @@ end : (ts : List ℕ) (i x k : ℕ) → length ts ≤ i → xor x (picked (drop 
 unfolding picked
 end ts i x k h = rw (drop_of_length-le ts h) (X.zero_r x)
 
-loop-again : tie.Need-loop-preserved invariant-loop decreases-loop
+loop-again : tie.Need-loop-i-preserved invariant-loop decreases-loop
 unfolding xor
-loop-again c = let l = c.before.before.before in let ts = l.before.before.args.table.now in let v = l.loop in
-    (search needs, rw c.where_odd.ensures (step ts v.i v.sum v.rest c.before.before.loop-test.true ∙ v.invariant.1))
+loop-again c = let l = c.before.before.before in let ts = l.before.before.args.table.now in let v = l.loop-i in
+    (search rules, rw c.where_odd-sum.ensures (step ts v.i v.sum v.rest c.before.before.loop-i-test.true ∙ v.invariant.1))
 
 pub picked_spec : {M : Type 1} → statement M
 picked_spec =
@@ -36,11 +36,11 @@ picked_spec =
     (tie.spec
     invariant-loop
     decreases-loop
-    (λ c. (search needs, X.zero_l _))
-    (λ c. search needs)
-    (λ c. search needs)
-    (λ c κs. search needs)
-    (λ c. search needs)
-    (λ c. search needs)
+    (λ c. (search rules, X.zero_l _))
+    (λ c. search rules)
+    (λ c. search rules)
+    (λ c κs. search rules)
+    (λ c. search rules)
+    (λ c. search rules)
     loop-again
-    (λ c. let v = c.before.loop in sym (end c.before.before.before.args.table.now v.i v.sum v.rest c.loop-test.false) ∙ v.invariant.1))
+    (λ c. let v = c.before.loop-i in sym (end c.before.before.before.args.table.now v.i v.sum v.rest c.loop-i-test.false) ∙ v.invariant.1))

@@ -1,13 +1,13 @@
 -- `split::rank` meets its contract.
 -- Assumes nothing.
-use Rattle.basics.proofs.Kit.{refl, ◌≤◌, arith, needs}
+use Rattle.basics.proofs.Kit.{refl, ◌≤◌, arith, rules}
 use lib.Count.{ones, ones-le}
 use Rattle.split.specs.Members.{rank}
 use Rattle.split.proofs.rank.Statement.{statement}
 use Rattle.split.proofs.rank.Tie as tie
 
 light : (c : tie.Start) → ones c.args.x ≤ 16
-light c = ones-le 16 c.args.x (search needs)
+light c = ones-le 16 c.args.x (search rules)
 
 returns : tie.Need-returns
 unfolding rank

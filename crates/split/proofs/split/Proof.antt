@@ -1,6 +1,6 @@
 -- `split::split` meets its contract.
 -- Assumes nothing.
-use Rattle.basics.proofs.Kit.{needs}
+use Rattle.basics.proofs.Kit.{rules}
 use Rattle.split.proofs.Whole.{split_as}
 use Rattle.split.proofs.split.Statement.{statement}
 use Rattle.split.proofs.split.Tie as tie
@@ -9,7 +9,7 @@ pub split_spec : {M : Type 1} → statement M
 split_spec =
     tie.close
     (tie.spec
-    (λ c κs. search needs)
+    (λ c κs. search rules)
     (λ c κs. c.before.by_number.ensures.coded)
-    (λ c. search needs)
-    (λ c. split_as c.before.before.before.before.by_number.ensures _ _ _ _ c.before.before.split-in.ensures))
+    (λ c. search rules)
+    (λ c. split_as c.before.before.before.before.by_number.ensures _ _ _ _ c.before.before.split_in.ensures))

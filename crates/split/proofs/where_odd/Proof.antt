@@ -5,4 +5,4 @@ use Rattle.split.proofs.where_odd.Statement.{statement}
 use Rattle.split.proofs.where_odd.Tie as tie
 
 pub where_odd_spec : {M : Type 1} → statement M
-where_odd_spec = tie.close (tie.spec (λ c. rw (eq-eqb _ _ c.if1.true)) (λ c. rw (ne_eqb _ _ c.if1.false)))
+where_odd_spec = tie.close (tie.spec (λ c. rw (eq-eqb _ _ c.if-k-eq0.true)) (λ c. rw (ne_eqb _ _ c.if-k-eq0.false)))

@@ -4,10 +4,10 @@ use Rattle.std.proofs.Common.{◌-◌, ◌≤◌, rules}
 use Rattle.test_brute_force.proofs.all_rows.Statement.{statement}
 use Rattle.test_brute_force.proofs.all_rows.Tie as tie
 
-abbrev invariant-loop : tie.invariant-loop
+abbrev invariant-loop : tie.invariant-loop-k
 invariant-loop roots from rows words t₀ state₀ k₀ t state k = k ≤ rows
 
-abbrev decreases-loop : tie.decreases-loop
+abbrev decreases-loop : tie.decreases-loop-k
 decreases-loop roots from rows words t₀ state₀ k₀ t state k = rows - k
 
 pub all_rows_spec : {M : Type 1} → statement M

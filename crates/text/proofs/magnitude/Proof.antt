@@ -11,8 +11,8 @@ magnitude_spec =
     tie.close
     (tie.spec
     (λ c. rw (to_z-of_z c.before.ranges.z) (widest _ c.before.ranges.z))
-    (λ c. let e = to_z-of_z c.before.ranges.z in rw e (below_fits _ c.before.ranges.z (rw e at c.if1.true)))
-    (λ c. let e = to_z-of_z c.before.ranges.z in rw e (below_cast _ c.before.ranges.z (rw e at c.if1.true)))
-    (λ c. let e = to_z-of_z c.before.ranges.z in rw e (below_size _ c.before.ranges.z (rw e at c.if1.true)))
-    (λ c. let e = to_z-of_z c.before.ranges.z in rw e (above_cast _ c.before.ranges.z (rw e at c.if1.false)))
+    (λ c. let e = to_z-of_z c.before.ranges.z in rw e (below_fits _ c.before.ranges.z (rw e at c.if-z-lt0.true)))
+    (λ c. let e = to_z-of_z c.before.ranges.z in rw e (below_cast _ c.before.ranges.z (rw e at c.if-z-lt0.true)))
+    (λ c. let e = to_z-of_z c.before.ranges.z in rw e (below_size _ c.before.ranges.z (rw e at c.if-z-lt0.true)))
+    (λ c. let e = to_z-of_z c.before.ranges.z in rw e (above_cast _ c.before.ranges.z (rw e at c.if-z-lt0.false)))
     (λ c. search rules))

@@ -6,10 +6,10 @@ use Rattle.text.proofs.Writing.{start, more, whole, written_length}
 use Rattle.text.proofs.put_bytes.Statement.{statement}
 use Rattle.text.proofs.put_bytes.Tie as tie
 
-abbrev invariant-loop : tie.invariant-loop
+abbrev invariant-loop : tie.invariant-loop-i
 invariant-loop text out₀ at i₀ out i = (i ≤ length text) × Written at (take i text) out₀ out (at + i)
 
-abbrev decreases-loop : tie.decreases-loop
+abbrev decreases-loop : tie.decreases-loop-i
 decreases-loop text out₀ at i₀ out i = length text - i
 
 pub put_bytes_spec : {M : Type 1} → statement M
@@ -21,10 +21,10 @@ put_bytes_spec =
     (λ c. (omega arith, start (omega arith)))
     (λ c. omega arith)
     (λ c. omega arith)
-    (λ c. omega (arith, written_length c.before.before.loop.invariant.1))
+    (λ c. omega (arith, written_length c.before.before.loop-i.invariant.1))
     (λ c. omega arith)
     (λ c. omega arith)
-    (λ c. (omega arith, more _ _ c.before.before.before.requires c.before.loop-test.true refl c.before.before.loop.invariant.1))
+    (λ c. (omega arith, more _ _ c.before.before.before.requires c.before.loop-i-test.true refl c.before.before.loop-i.invariant.1))
     (λ c. omega arith)
-    (λ c. written_length c.before.loop.invariant.1)
-    (λ c. whole _ _ c.loop-test.false c.before.loop.invariant.1))
+    (λ c. written_length c.before.loop-i.invariant.1)
+    (λ c. whole _ _ c.loop-i-test.false c.before.loop-i.invariant.1))

@@ -5,16 +5,14 @@ use borrow.Author.Rules.{rules}
 use Rattle.text.proofs.put_header.Statement.{statement}
 use Rattle.text.proofs.put_header.Tie as tie
 
-put-bytes-requires : tie.Need-put-bytes-requires
+put-bytes-requires : tie.Need-put_bytes-requires
 unfolding header line question_word code_word best_word verdict_word short_word bits_word least_word
-put-bytes-requires c κs = let s = c.before.before.before in
-    s.requires
+put-bytes-requires c κs = c.requires
 
 returns : tie.Need-returns
 unfolding header line question_word code_word best_word verdict_word short_word bits_word least_word
-returns c = let s = c.before.before.before.before.before.before in
-    c.before.before.put-bytes.ensures
+returns c = c.put_bytes.ensures
 
 pub put_header_spec : {M : Type 1} → statement M
 put_header_spec =
-    tie.close (tie.spec (λ c. search rules) put-bytes-requires (λ c. search rules) returns)
+    tie.close (tie.spec put-bytes-requires (λ c. search rules) returns)

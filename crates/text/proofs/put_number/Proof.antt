@@ -1,6 +1,6 @@
 -- `text::put_number` meets its contract: the digits, then the byte that ends the field.
 -- Assumes nothing.
-use Rattle.basics.proofs.Kit.{arith, needs}
+use Rattle.basics.proofs.Kit.{arith, rules}
 use Rattle.text.specs.Within.{ended}
 use Rattle.text.proofs.Lines.{ended_length}
 use Rattle.text.proofs.Writing.{then}
@@ -9,7 +9,7 @@ use Rattle.text.proofs.put_number.Tie as tie
 
 returns : tie.Need-returns
 unfolding ended
-returns c = search (needs, then)
+returns c = search (rules, then)
 
 pub put_number_spec : {M : Type 1} → statement M
 put_number_spec =
@@ -17,5 +17,5 @@ put_number_spec =
     (tie.spec
     (λ c κs. omega (arith, rw ended_length at c.before.before.requires))
     (λ c κs. omega (arith, rw ended_length at c.before.before.before.before.before.before.requires))
-    (λ c. search needs)
+    (λ c. search rules)
     returns)

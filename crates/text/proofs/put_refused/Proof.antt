@@ -1,6 +1,6 @@
 -- `text::put_refused` meets its contract: the word `refused`, then the number.
 -- Assumes nothing.
-use Rattle.basics.proofs.Kit.{arith, needs}
+use Rattle.basics.proofs.Kit.{arith, rules}
 use Rattle.text.specs.Text.{refused_line, line, refused_word}
 use Rattle.text.specs.Within.{ended}
 use Rattle.text.proofs.Writing.{then}
@@ -10,14 +10,13 @@ use Rattle.text.proofs.put_refused.Tie as tie
 
 returns : tie.Need-returns
 unfolding ended refused_line line refused_word
-returns c = then c.before.before.before.before.before.before.put-bytes.ensures c.before.before.put-number.ensures
+returns c = then c.put_bytes-next.ensures c.put_number.ensures
 
 pub put_refused_spec : {M : Type 1} → statement M
 put_refused_spec =
     tie.close
     (tie.spec
-    (λ c. search needs)
-    (λ c κs. omega (arith, rw refused_length at c.before.before.before.requires))
-    (λ c κs. simp ended_length (omega (arith, rw refused_length at c.before.before.before.before.before.before.before.requires)))
-    (λ c. search needs)
+    (λ c κs. omega (arith, rw refused_length at c.requires))
+    (λ c κs. simp ended_length (omega (arith, rw refused_length at c.requires)))
+    (λ c. search rules)
     returns)

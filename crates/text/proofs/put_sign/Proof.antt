@@ -1,6 +1,6 @@
 -- `text::put_sign` meets its contract: a dash below zero, else nothing.
 -- Assumes nothing.
-use Rattle.basics.proofs.Kit.{◌≡◌, cond, [], ◌∷◌, arith, needs, pos}
+use Rattle.basics.proofs.Kit.{◌≡◌, cond, [], ◌∷◌, arith, rules, pos}
 use lib.Signed.{lt_z}
 use mir.Syntax.{w32}
 use mir.Val.{to_z, of_z}
@@ -18,7 +18,7 @@ pub put_sign_spec : {M : Type 1} → statement M
 put_sign_spec =
     tie.close
     (tie.spec
-    (λ c κs. omega (arith, rw (by_test c.before.before.before, c.before.if1.true) at c.before.before.before.requires))
-    (λ c. search needs)
-    (λ c. rw (by_test c.before.before.before.before.before.before, c.before.before.before.before.if1.true) c.before.before.put_byte.ensures)
-    (λ c. rw (by_test c.before.before, c.if1.false) (nothing _ _ (omega arith))))
+    (λ c κs. omega (arith, rw (by_test c.before.before.before, c.before.if-z-lt0.true) at c.before.before.before.requires))
+    (λ c. search rules)
+    (λ c. rw (by_test c.before.before.before.before.before.before, c.before.before.before.before.if-z-lt0.true) c.before.before.put_byte.ensures)
+    (λ c. rw (by_test c.before.before, c.if-z-lt0.false) (nothing _ _ (omega arith))))

@@ -1,6 +1,6 @@
 -- `text::size_of` meets its contract: 32 bits hold every 16-bit number, and 16 its size.
 -- Assumes nothing.
-use Rattle.basics.proofs.Kit.{◌≡◌, arith, needs, nat_abs}
+use Rattle.basics.proofs.Kit.{◌≡◌, arith, rules, nat_abs}
 use mir.Facts.{to_z-of_z}
 use Rattle.text.proofs.Fields.{wider, size_small}
 use Rattle.text.proofs.size_of.Statement.{statement}
@@ -14,6 +14,6 @@ size_of_spec =
     tie.close
     (tie.spec
     (λ c. rw (to_z-of_z c.ranges.s) (wider _ c.ranges.s))
-    (λ c κs. search needs)
+    (λ c κs. search rules)
     (λ c. record { fits = omega (arith, found c, size_small c.before.args.s c.before.ranges.s) })
     found)

@@ -1,6 +1,6 @@
 -- `ties::agree` meets its contract.
 -- Assumes nothing.
-use Rattle.basics.proofs.Kit.{sym, ◌∙◌, needs}
+use Rattle.basics.proofs.Kit.{sym, ◌∙◌, rules}
 use Rattle.lanes.specs.Lanes.{lane}
 use Rattle.ties.specs.Turn.{four, OneWord}
 use Rattle.lanes.proofs.Rows as R
@@ -14,20 +14,20 @@ returns c e j p l = let s3 = c.before.before.before in
     let s1 = s2.before in
     let s0 = s1.before in
     let a = s0.before.before.before.before.before.args in
-    let f = both_true _ _ (sym c.both3.ensures ∙ e) in
+    let f = both_true _ _ (sym c.both-3.ensures ∙ e) in
     let h = both_true _ _ (sym c.before.before.both.ensures ∙ f.0) in
-    let k = both_true _ _ (sym c.before.both2.ensures ∙ f.1) in
-    R.four (λ j. OneWord a.sl.now a.t.now a.places.now a.g.now a.least j (lane (four s0.slot-word.result.word s1.slot-word2.result.word s2.slot-word3.result.word s3.slot-word4.result.word) j)) (s0.slot-word.ensures h.0) (s1.slot-word2.ensures h.1) (s2.slot-word3.ensures k.0) (s3.slot-word4.ensures k.1) j l p
+    let k = both_true _ _ (sym c.before.both-2.ensures ∙ f.1) in
+    R.four (λ j. OneWord a.sl.now a.t.now a.places.now a.g.now a.least j (lane (four s0.slot_word-s0.result.word s1.slot_word-s1.result.word s2.slot_word-s2.result.word s3.slot_word-s3.result.word) j)) (s0.slot_word-s0.ensures h.0) (s1.slot_word-s1.ensures h.1) (s2.slot_word-s2.ensures k.0) (s3.slot_word-s3.ensures k.1) j l p
 
 pub agree_spec : {M : Type 1} → statement M
 agree_spec =
     tie.close
     (tie.spec
-    (λ c κs. search needs)
-    (λ c κs. search needs)
-    (λ c κs. search needs)
-    (λ c κs. search needs)
-    (λ c κs. search needs)
-    (λ c κs. search needs)
-    (λ c κs. search needs)
+    (λ c κs. search rules)
+    (λ c κs. search rules)
+    (λ c κs. search rules)
+    (λ c κs. search rules)
+    (λ c κs. search rules)
+    (λ c κs. search rules)
+    (λ c κs. search rules)
     returns)

@@ -5,4 +5,4 @@ use Rattle.tugzeck.proofs.tugzeck_encode.Statement.{statement}
 use Rattle.tugzeck.proofs.tugzeck_encode.Tie as tie
 
 pub tugzeck_encode_spec : {M : Type 1} → statement M
-tugzeck_encode_spec = tie.close (tie.spec (λ c κs. search rules) (λ c. search rules) (λ c. c.before.before.encode.ensures))
+tugzeck_encode_spec = tie.close (tie.spec (λ c κs. search rules) (λ c. search rules) (λ c. c.encode.ensures))

@@ -6,23 +6,23 @@ use Rattle.walk.proofs.Rows.{Made, made_start, made_more, made_end}
 use Rattle.walk.proofs.lesser.Statement.{statement}
 use Rattle.walk.proofs.lesser.Tie as tie
 
-abbrev invariant-loop : tie.invariant-loop
+abbrev invariant-loop : tie.invariant-loop-x
 invariant-loop a b r₀ x₀ r x = Made 16 (λ y. min (lane a y) (lane b y)) x r
 
-abbrev decreases-loop : tie.decreases-loop
+abbrev decreases-loop : tie.decreases-loop-x
 decreases-loop a b r₀ x₀ r x = 16 - x
 
-loop-holds : tie.Need-loop-init invariant-loop decreases-loop
+loop-holds : tie.Need-loop-x-init invariant-loop decreases-loop
 loop-holds c = made_start (omega arith)
 
-min-of-requires : tie.Need-min-of-requires invariant-loop decreases-loop
-min-of-requires c κs = c.before.before.requires c.before.loop.x (omega arith)
+min-of-requires : tie.Need-min_of-requires invariant-loop decreases-loop
+min-of-requires c κs = c.before.before.requires c.before.loop-x.x (omega arith)
 
-loop-again : tie.Need-loop-preserved invariant-loop decreases-loop
-loop-again c = made_more c.before.before.loop.invariant (omega arith) c.min-of.ensures
+loop-again : tie.Need-loop-x-preserved invariant-loop decreases-loop
+loop-again c = made_more c.before.before.loop-x.invariant (omega arith) c.min_of.ensures
 
 returns : tie.Need-returns invariant-loop decreases-loop
-returns c = made_end c.before.loop.invariant (omega arith)
+returns c = made_end c.before.loop-x.invariant (omega arith)
 
 pub lesser_spec : {M : Type 1} → statement M
 lesser_spec =

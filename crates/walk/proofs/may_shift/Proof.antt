@@ -5,7 +5,7 @@ use Rattle.walk.proofs.Shifts.{stays}
 use Rattle.walk.proofs.may_shift.Statement.{statement}
 use Rattle.walk.proofs.may_shift.Tie as tie
 
-returns : tie.Need-returns
+returns : tie.Need-returns-then-e-eq0
 returns c = let s = c.before.before in
     let a = s.args in
     stays a.f.now a.p a.r a.t a.n a.e (omega arith) s.requires

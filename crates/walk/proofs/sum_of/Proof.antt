@@ -6,29 +6,29 @@ use Rattle.walk.proofs.Rows.{Made, made_start, made_more, made_end}
 use Rattle.walk.proofs.sum_of.Statement.{statement}
 use Rattle.walk.proofs.sum_of.Tie as tie
 
-abbrev invariant-loop : tie.invariant-loop
+abbrev invariant-loop : tie.invariant-loop-x
 invariant-loop a b c d r₀ x₀ r x = Made 16 (λ y. lane a y + lane b y + lane c y + lane d y) x r
 
-abbrev decreases-loop : tie.decreases-loop
+abbrev decreases-loop : tie.decreases-loop-x
 decreases-loop a b c d r₀ x₀ r x = 16 - x
 
-loop-holds : tie.Need-loop-init invariant-loop decreases-loop
+loop-holds : tie.Need-loop-x-init invariant-loop decreases-loop
 loop-holds c = made_start (omega arith)
 
-add_r : tie.Need-overflow-add-r invariant-loop decreases-loop
-add_r c = omega (arith, c.before.before.requires c.before.loop.x (omega arith))
+add_r : tie.Need-overflow_add-r invariant-loop decreases-loop
+add_r c = omega (arith, c.before.before.requires c.before.loop-x.x (omega arith))
 
-add-r-2 : tie.Need-overflow-add-r-2 invariant-loop decreases-loop
-add-r-2 c = omega (arith, c.before.before.requires c.before.loop.x (omega arith))
+add-r-2 : tie.Need-overflow_add-r-in-loop-x invariant-loop decreases-loop
+add-r-2 c = omega (arith, c.before.before.requires c.before.loop-x.x (omega arith))
 
-add-r-3 : tie.Need-overflow-add-r-3 invariant-loop decreases-loop
-add-r-3 c = omega (arith, c.before.before.requires c.before.loop.x (omega arith))
+add-r-3 : tie.Need-overflow_add-r-in-loop-x-2 invariant-loop decreases-loop
+add-r-3 c = omega (arith, c.before.before.requires c.before.loop-x.x (omega arith))
 
-loop-again : tie.Need-loop-preserved invariant-loop decreases-loop
-loop-again c = made_more c.before.loop.invariant (omega arith) refl
+loop-again : tie.Need-loop-x-preserved invariant-loop decreases-loop
+loop-again c = made_more c.before.loop-x.invariant (omega arith) refl
 
 returns : tie.Need-returns invariant-loop decreases-loop
-returns c = made_end c.before.loop.invariant (omega arith)
+returns c = made_end c.before.loop-x.invariant (omega arith)
 
 pub sum_of_spec : {M : Type 1} → statement M
 sum_of_spec =

@@ -1,6 +1,6 @@
 -- `walk::walk` meets its contract.
 -- Assumes nothing.
-use Rattle.basics.proofs.Kit.{refl, needs}
+use Rattle.basics.proofs.Kit.{refl, rules}
 use Rattle.walk.proofs.walk.Statement.{statement}
 use Rattle.walk.proofs.walk.Tie as tie
 
@@ -11,6 +11,6 @@ pub walk_spec : {M : Type 1} → statement M
 walk_spec =
     tie.close
     (tie.spec
-    (λ c κs. search needs)
-    (λ c. search needs)
+    (λ c κs. search rules)
+    (λ c. search rules)
     returns)

@@ -5,4 +5,4 @@ use Rattle.sheet.proofs.judging.is_outside.Statement.{statement}
 use Rattle.sheet.proofs.judging.is_outside.Tie as tie
 
 pub is_outside_spec : {M : Type 1} → statement M
-is_outside_spec = tie.close (tie.spec (λ c. rw (lt-ltb _ _ c.if1.true)) (λ c. rw (le-ltb _ _ c.if1.false)))
+is_outside_spec = tie.close (tie.spec (λ c. rw (lt-ltb _ _ c.if-d-low.true)) (λ c. rw (le-ltb _ _ c.if-d-low.false)))

@@ -1,6 +1,6 @@
 -- `sheet::refused_question` meets its contract.
 -- Assumes nothing.
-use Rattle.basics.proofs.Kit.{◌≡◌, sym, ap, ap₂, ◌∙◌, List, ℕ, ◌+◌, ◌/◌, ◌^◌, arith, needs, drop, now}
+use Rattle.basics.proofs.Kit.{◌≡◌, sym, ap, ap₂, ◌∙◌, List, ℕ, ◌+◌, ◌/◌, ◌^◌, arith, rules, drop}
 use lib.Seq.{drop-drop}
 use Rattle.refusal.specs.Refusal.{first}
 use Rattle.code.specs.Code.{long}
@@ -14,12 +14,12 @@ use Rattle.sheet.proofs.Turns.{row_judged, symbols_judged}
 use Rattle.sheet.proofs.judging.refused_question.Statement.{statement}
 use Rattle.sheet.proofs.judging.refused_question.Tie as tie
 
-count-of-requires : tie.Need-count-of-requires
-count-of-requires c κs = let b = c.before.before.before in (b.before.before.requires.0.form, omega (arith, bits_le b.by_number.ensures.coded))
+count-of-requires : tie.Need-count_of-requires
+count-of-requires c κs = let b = c.before.before.before in (b.before.before.requires.0.form, omega (arith, bits_le b.by_number-chosen.ensures.coded))
 
-add-behind : tie.Need-overflow-add-behind
+add-behind : tie.Need-overflow_add-behind
 add-behind c = let b = c.before.before.before.before in let s = b.before.before in
-    omega (arith, c.count_of.ensures, count_le s.args.f s.requires.0.form b.by_number.result.shape.bits, bits_le b.by_number.ensures.coded)
+    omega (arith, c.count_of.ensures, count_le s.args.f s.requires.0.form b.by_number-chosen.result.shape.bits, bits_le b.by_number-chosen.ensures.coded)
 
 row_is : {f : Form} → RowForm f → (m : ℕ) (ws : List ℕ) {n e : ℕ} → n ≡ row_long m →
     e ≡ items_refusal f 5 (outside (f.base / 2) (f.base / 2 + 1)) (count f n) n ws → e ≡ row_refusal f m ws
@@ -34,24 +34,24 @@ returns : tie.Need-returns
 unfolding question_refusal
 returns c =
     let w = c.before.before in let s = w.before in let k = s.before in let r = k.before in let b = r.before.before.before in
-    let z = b.by_number.ensures in let a = b.before.before in let f = a.args.f in
-    let m : ℕ = b.by_number.result.shape.m in let ws : List ℕ = as_words (now a.args.sheet) in
-    chosen_refusal (λ m r. first (row_refusal f m (drop a.args.at ws)) (symbol_refusal m (after_row f m (drop a.args.at ws)))) z c.first2.ensures
-    (c.before.first.ensures ∙ ap₂ first (row_is a.requires.0 m _ z.coded.bits_is r.refused-items.ensures)
-    (word_is f m a.args.at ws k.count_of.ensures z.coded.bits_is z.coded.n_is s.size.ensures w.refused-items2.ensures))
+    let z = b.by_number-chosen.ensures in let a = b.before.before in let f = a.args.f in
+    let m : ℕ = b.by_number-chosen.result.shape.m in let ws : List ℕ = as_words a.args.sheet.now in
+    chosen_refusal (λ m r. first (row_refusal f m (drop a.args.at ws)) (symbol_refusal m (after_row f m (drop a.args.at ws)))) z c.first-2.ensures
+    (c.before.first.ensures ∙ ap₂ first (row_is a.requires.0 m _ z.coded.bits_is r.refused_items-row.ensures)
+    (word_is f m a.args.at ws k.count_of.ensures z.coded.bits_is z.coded.n_is s.size-size.ensures w.refused_items-word.ensures))
 
 pub refused_question_spec : {M : Type 1} → statement M
 refused_question_spec =
     tie.close
     (tie.spec
-    (λ c κs. search needs)
-    (λ c. search needs)
-    (λ c κs. search needs)
+    (λ c κs. search rules)
+    (λ c. search rules)
+    (λ c κs. search rules)
     count-of-requires
     add-behind
-    (λ c κs. search needs)
-    (λ c. search needs)
-    (λ c κs. search needs)
-    (λ c κs. search needs)
-    (λ c κs. search needs)
+    (λ c κs. search rules)
+    (λ c. search rules)
+    (λ c κs. search rules)
+    (λ c κs. search rules)
+    (λ c κs. search rules)
     returns)

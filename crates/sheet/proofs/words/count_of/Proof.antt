@@ -1,6 +1,6 @@
 -- `sheet::count_of` meets its contract.
 -- Assumes nothing.
-use Rattle.basics.proofs.Kit.{refl, needs}
+use Rattle.basics.proofs.Kit.{refl, rules}
 use Rattle.sheet.specs.Sheet.{count}
 use Rattle.sheet.proofs.words.count_of.Statement.{statement}
 use Rattle.sheet.proofs.words.count_of.Tie as tie
@@ -10,4 +10,4 @@ unfolding count
 returns c = refl
 
 pub count_of_spec : {M : Type 1} → statement M
-count_of_spec = tie.close (tie.spec (λ c. search needs) (λ c. search needs) (λ c. search needs) returns)
+count_of_spec = tie.close (tie.spec (λ c. search rules) (λ c. search rules) (λ c. search rules) returns)

@@ -4,10 +4,10 @@ use Rattle.std.proofs.Common.{◌-◌, ◌≤◌, rules}
 use Rattle.test_brute_force.proofs.compare.softs_agree.Statement.{statement}
 use Rattle.test_brute_force.proofs.compare.softs_agree.Tie as tie
 
-abbrev invariant-loop : tie.invariant-loop
+abbrev invariant-loop : tie.invariant-loop-b
 invariant-loop soft levels words n₀ bit₀ b₀ n bit b = b ≤ 21
 
-abbrev decreases-loop : tie.decreases-loop
+abbrev decreases-loop : tie.decreases-loop-b
 decreases-loop soft levels words n₀ bit₀ b₀ n bit b = 21 - b
 
 pub softs_agree_spec : {M : Type 1} → statement M

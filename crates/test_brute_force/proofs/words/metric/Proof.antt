@@ -4,10 +4,10 @@ use Rattle.std.proofs.Common.{◌-◌, ◌≤◌, rules}
 use Rattle.test_brute_force.proofs.words.metric.Statement.{statement}
 use Rattle.test_brute_force.proofs.words.metric.Tie as tie
 
-abbrev invariant-loop : tie.invariant-loop
+abbrev invariant-loop : tie.invariant-loop-b
 invariant-loop levels word sum₀ rest₀ b₀ sum rest b = b ≤ 21
 
-abbrev decreases-loop : tie.decreases-loop
+abbrev decreases-loop : tie.decreases-loop-b
 decreases-loop levels word sum₀ rest₀ b₀ sum rest b = 21 - b
 
 pub metric_spec : {M : Type 1} → statement M

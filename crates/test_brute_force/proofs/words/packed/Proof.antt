@@ -4,10 +4,10 @@ use Rattle.std.proofs.Common.{◌-◌, ◌≤◌, rules}
 use Rattle.test_brute_force.proofs.words.packed.Statement.{statement}
 use Rattle.test_brute_force.proofs.words.packed.Tie as tie
 
-abbrev invariant-loop : tie.invariant-loop
+abbrev invariant-loop : tie.invariant-loop-i
 invariant-loop w word₀ i₀ word i = i ≤ 7
 
-abbrev decreases-loop : tie.decreases-loop
+abbrev decreases-loop : tie.decreases-loop-i
 decreases-loop w word₀ i₀ word i = 7 - i
 
 pub packed_spec : {M : Type 1} → statement M

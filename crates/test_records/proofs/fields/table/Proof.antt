@@ -6,10 +6,10 @@ use borrow.Author.Rules.{rules}
 use Rattle.test_records.proofs.fields.table.Statement.{statement}
 use Rattle.test_records.proofs.fields.table.Tie as tie
 
-abbrev invariant-loop : tie.invariant-loop
+abbrev invariant-loop : tie.invariant-loop-i
 invariant-loop m antilogs listed t₀ i₀ t i = i ≤ length listed
 
-abbrev decreases-loop : tie.decreases-loop
+abbrev decreases-loop : tie.decreases-loop-i
 decreases-loop m antilogs listed t₀ i₀ t i = length listed - i
 
 pub table_spec : {M : Type 1} → statement M

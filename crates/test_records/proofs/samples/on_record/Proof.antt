@@ -5,10 +5,10 @@ use Prim.Native.Nat.{◌≤◌, ◌-◌}
 use Rattle.test_records.proofs.samples.on_record.Statement.{statement}
 use Rattle.test_records.proofs.samples.on_record.Tie as tie
 
-abbrev invariant-loop : tie.invariant-loop
+abbrev invariant-loop : tie.invariant-loop-i
 invariant-loop samples₀ i₀ samples i = i ≤ 21
 
-abbrev decreases-loop : tie.decreases-loop
+abbrev decreases-loop : tie.decreases-loop-i
 decreases-loop samples₀ i₀ samples i = 21 - i
 
 pub on_record_spec : {M : Type 1} → statement M

@@ -1,6 +1,6 @@
 -- `test_records::splits::leads` is safe and ends.
 -- Assumes nothing.
-use mathlib.Core.Path.{◌≡◌, ap, ap₂, ◌∙◌}
+use mathlib.Core.Path.{ap, ap₂, ◌∙◌}
 use Prim.Native.Nat.{ℕ, ◌^◌}
 use native.Mathlib.Omega.{arith}
 use borrow.Author.Rules.{rules}
@@ -11,7 +11,7 @@ use Rattle.test_records.proofs.splits.leads.Tie as tie
 
 leader-requires : tie.Need-leader-requires
 unfolding width roots
-leader-requires c κs = let n = c.by_number.ensures in let z = n.coded in
+leader-requires c κs = let n = c.by_number-chosen.ensures in let z = n.coded in
     let e = z.size_is ∙ ap (λ (q : ℕ). 2 ^ q) (z.q_is ∙ ap₂ syndrome_long (by_number_m 1 n) (by_number_r 1 n)) in
     record { coded = z; inside = omega (arith, e) }
 

@@ -4,10 +4,10 @@ use Rattle.std.proofs.Common.{◌-◌, ◌≤◌, rules}
 use Rattle.test_tally.proofs.words.reliabilities.Statement.{statement}
 use Rattle.test_tally.proofs.words.reliabilities.Tie as tie
 
-abbrev invariant-loop : tie.invariant-loop
+abbrev invariant-loop : tie.invariant-loop-i
 invariant-loop letters row₀ i₀ row i = i ≤ 60
 
-abbrev decreases-loop : tie.decreases-loop
+abbrev decreases-loop : tie.decreases-loop-i
 decreases-loop letters row₀ i₀ row i = 60 - i
 
 pub reliabilities_spec : {M : Type 1} → statement M

@@ -4,10 +4,10 @@ use Rattle.std.proofs.Common.{◌≤◌, rules}
 use Rattle.test_tally.proofs.words.symbols.Statement.{statement}
 use Rattle.test_tally.proofs.words.symbols.Tie as tie
 
-abbrev invariant-loop : tie.invariant-loop
+abbrev invariant-loop : tie.invariant-loop-i
 invariant-loop n digits word₀ rest₀ i₀ word rest i = i ≤ 16
 
-abbrev decreases-loop : tie.decreases-loop
+abbrev decreases-loop : tie.decreases-loop-i
 decreases-loop n digits word₀ rest₀ i₀ word rest i = i
 
 pub symbols_spec : {M : Type 1} → statement M

@@ -1,13 +1,13 @@
--- `test_brute_force::rows::drawn` is safe and ends.
+-- `test_brute_force::levels::drawn` is safe and ends.
 -- Assumes nothing.
 use Rattle.std.proofs.Common.{◌-◌, ◌≤◌, rules}
-use Rattle.test_brute_force.proofs.rows.drawn.Statement.{statement}
-use Rattle.test_brute_force.proofs.rows.drawn.Tie as tie
+use Rattle.test_brute_force.proofs.levels.drawn.Statement.{statement}
+use Rattle.test_brute_force.proofs.levels.drawn.Tie as tie
 
-abbrev invariant-loop : tie.invariant-loop
+abbrev invariant-loop : tie.invariant-loop-b
 invariant-loop k state levels₀ row₀ hard₀ s₀ b₀ levels row hard s b = b ≤ 21
 
-abbrev decreases-loop : tie.decreases-loop
+abbrev decreases-loop : tie.decreases-loop-b
 decreases-loop k state levels₀ row₀ hard₀ s₀ b₀ levels row hard s b = 21 - b
 
 pub drawn_spec : {M : Type 1} → statement M
