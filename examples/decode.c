@@ -1,6 +1,6 @@
 /* Decodes two rows of code 1, and marks a word handed in for each. From a checkout:
  *
- *     rt staticlib tugzeck
+ *     tools/build tugzeck
  *     cc -Wall -Wextra -Werror -I include examples/decode.c target/staticlib/libtugzeck.a -o target/decode
  *     target/decode
  */

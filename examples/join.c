@@ -1,7 +1,7 @@
 /* Splits a word of code 1, edits the BCH word of layer 2, and joins the parts to a codeword again. Then what joining refuses: a layer that is no BCH
  * word, and a configuration that no codeword has. From a checkout:
  *
- *     rt staticlib tugzeck
+ *     tools/build tugzeck
  *     cc -Wall -Wextra -Werror -I include examples/join.c target/staticlib/libtugzeck.a -o target/join
  *     target/join
  */

@@ -1,7 +1,7 @@
 /* A word of code 1 as a quadrature receiver delivers it: ten symbols of two bits and one of one, the first and the last lost. Turns what was
  * received into a row, and decodes it. From a checkout:
  *
- *     rt staticlib tugzeck
+ *     tools/build tugzeck
  *     cc -Wall -Wextra -Werror -I include examples/receive.c target/staticlib/libtugzeck.a -o target/receive
  *     target/receive
  */

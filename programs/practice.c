@@ -1,6 +1,6 @@
 /* Writes a practice sheet, drawn from a seed, on standard output: the same drill at home as in class. From a checkout:
  *
- *     rt staticlib tugzeck
+ *     tools/build tugzeck
  *     cc -std=c99 -pedantic -Wall -Wextra -Werror -I include programs/practice.c target/staticlib/libtugzeck.a -o target/practice
  *     target/practice 3 20 0x2A > target/drill.sheet
  *

@@ -16,7 +16,8 @@ import re
 import sys
 
 WORD = re.compile(r"[^\s(){}\[\],;.:\"`«»@\\|]+")
-HEAD = re.compile(r"(?m)^(?:(?:pub|abbrev|unfoldable|mutual)[ ]+)*(?:(record|data|ruleset)[ ]+(?:pub[ ]+)?)?([^\s(){}\[\],;:.]+)(?=[ \n])[ ]*(:?)[ ]*([^\n]*)")
+HEAD = re.compile(r"(?m)^(?:(?:pub|abbrev|unfoldable|mutual)[ ]+)*(?:(record|data|ruleset)[ ]+(?:pub[ ]+)?)?([^\s(){}\[\],;:.]+)(?=[ \n])\s*(:?)[ ]*([^\n]*)")
+BOUND = re.compile(r"(?m)(?:^|[\s(])([A-Za-z][\w']*(?:-[\w']+)+)\s*:(?!:)")
 FIELD = re.compile(r"(?m)^[ ]+(?:pub[ ]+)?([^\s(){}\[\],;:.]+)[ ]+:[ ]")
 QUOTED = re.compile(r"`[^`\n]*`")
 IMPORT = re.compile(r"(?m)^(?:ghost )?use ((?:\w+\.)*\w+)\.\{([^}]*)\}")
@@ -131,6 +132,8 @@ def main():
     for path in files("crates", (".antt", ".rt")):
         text = read(path)
         here = {n: spelled(n) for n in local[path]}
+        if path.endswith(".antt") and not of_a_function(path):
+            here.update({n: spelled(n) for n in BOUND.findall(text) if n not in own})
         foreign = of_the_library(text, crates)
         there = {n: new for n, new in own.items() if n not in foreign} | LIBRARY.get(path, {})
         parts = []

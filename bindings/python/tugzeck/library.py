@@ -10,7 +10,7 @@ from typing import Any
 
 NAME = "libtugzeck.so"
 MAKE = (
-    "rt staticlib tugzeck",
+    "tools/build tugzeck",
     "cc -shared -Wl,--whole-archive target/staticlib/libtugzeck.a -Wl,--no-whole-archive -o bindings/python/tugzeck/libtugzeck.so",
 )
 
