@@ -1,6 +1,6 @@
 -- What is known of a call's input where nothing is refused, and what a call says by its refusal.
 -- Assumes nothing.
-use Rattle.basics.proofs.Kit.{◌≡◌, refl, sym, ap, Bool, true, false, ◌&&◌, not, cond, List, ℕ, zero, suc, ◌+◌, ◌-◌, ◌*◌, ◌≤◌, ◌<◌, arith, length, eqb, leb}
+use Rattle.basics.proofs.Kit.{◌≡◌, refl, ap, Bool, true, false, ◌&&◌, not, cond, List, ℕ, ◌+◌, ◌-◌, ◌*◌, ◌≤◌, ◌<◌, arith, length, eqb, leb}
 use mathlib.Core.Logic.{◌⊎◌, inl, inr}
 use lib.Dec.{T, leb→le, nleb→lt, lit≤}
 use borrow.Author.Tests.{eqb-true, eq-eqb}
@@ -8,9 +8,8 @@ use Rattle.field.specs.Field.{width_good}
 use Rattle.field.proofs.Tests.{widths, all, at, and_l, and_r, to_T, from_T}
 use Rattle.refusal.proofs.Tests.{passed, first_none}
 use Rattle.refusal.specs.Refusal.{unless, first}
-use Rattle.code.specs.declared.Membership.TheVariants.{Codeword, NoCodeword, Refused}
 use Rattle.code.specs.Code.{code_good, number_refusal, width, roots, long, message_long, symbols_good, is_codeword, syndrome_long, bch_dimension, configuration_long, roots_good, accepted, parameter_refusal}
-use Rattle.code.specs.Calls.{encode_refusal, word_refusal, member_refusal, check_refusal, membership}
+use Rattle.code.specs.Calls.{encode_refusal, word_refusal, member_refusal, check_refusal}
 use Rattle.code.specs.Within.{WordWithin, MessageWithin}
 pub use Rattle.refusal.proofs.Outcomes.{outcome_done, outcome_refused, outcome_zero, outcome_taken}
 
@@ -188,18 +187,3 @@ module _ (m r : ℕ) (ws : List ℕ) (o k : ℕ) where
   pub member_taken : Member m r ws o k → symbols_good m ws ≡ true → member_refusal m r ws o k ≡ 0
   unfolding member_refusal word_refusal unless first
   member_taken w s = rw (eq-eqb _ _ w.count, eq-eqb _ _ w.room, s, w.codeword) refl
-
-pub refused : (n r : ℕ) (b : Bool) → r ≡ n → (r ≡ 0 → ⊥) → Refused r ≡ membership n b
-unfolding membership
-refused zero r b e f = absurd (f e)
-refused (suc n) r b e f = ap (λ (x : ℕ). Refused x) e
-
-pub member : (n : ℕ) (b : Bool) → n ≡ 0 → b ≡ true → Codeword ≡ membership n b
-unfolding membership
-member zero b e f = ap (λ (x : Bool). cond x Codeword NoCodeword) (sym f)
-member (suc n) b e f = absurd (omega arith)
-
-pub no_member : (n : ℕ) (b : Bool) → n ≡ 0 → b ≡ false → NoCodeword ≡ membership n b
-unfolding membership
-no_member zero b e f = ap (λ (x : Bool). cond x Codeword NoCodeword) (sym f)
-no_member (suc n) b e f = absurd (omega arith)

@@ -9,3 +9,4 @@ pub mod Both
 pub mod Bits
 pub mod Distance
 pub mod Promise
+pub mod Chosen

@@ -1,32 +1,43 @@
 -- One turn of each loop over a word, and what is left of it.
 -- Assumes nothing.
-use Rattle.basics.proofs.Kit.{◌≡◌, refl, sym, ap, ap₂, ◌∙◌, true, false, List, ◌++◌, ℕ, suc, ◌+◌, ◌-◌, ◌*◌, ◌^◌, ◌≤◌, ◌<◌, arith, length, get_or, take, drop, set}
+use Rattle.basics.proofs.Kit.{◌≡◌, refl, sym, ap, ap₂, ◌∙◌, Bool, true, false, List, [], ◌∷◌, ◌++◌, ℕ, zero, suc, ◌+◌, ◌-◌, ◌*◌, ◌^◌, ◌≤◌, ◌<◌, arith, length, get_or, take, drop, set, ltb}
+use Rattle.std.proofs.Common.{◌↔◌, IsTrue, All}
 use mathlib.Core.List.{append-nil}
 use native.Mathlib.Nat.{le_refl, suc-mul}
 use native.Mathlib.Numerals.{add-one}
 use lib.Dec.{lit≤}
 use lib.ListN.{drop_of_length-le}
 use lib.Seq.{take-suc, take_all, drop-cons, drop-length, append_snoc, set_at, length-take-le}
-use borrow.Author.Tests.{lt-ltb, le-ltb, eq-eqb, ne_eqb}
+use borrow.Author.Tests.{ltb-true, lt-ltb, eq-eqb, ne_eqb}
 use Rattle.field.specs.Field.{xor, times, alpha, width_good}
-use Rattle.field.proofs.Tests.{to_T, widths}
+use Rattle.field.proofs.Tests.{to_T, from_T, and_l, and_r, widths}
 use Rattle.field.proofs.Field as F
 use Rattle.code.specs.Code.{long, symbols_good, value_at, vanishes, is_codeword}
 use Rattle.code.specs.Within.{WordWithin}
 use Rattle.code.proofs.Words.{below, horner, horner_inside, value_horner}
 
-module _ (m : ℕ) (ws : List ℕ) (i : ℕ) (h : i < length ws) where
-  pub symbol_good : get_or ws i 0 < 2 ^ m → symbols_good m (drop i ws) ≡ symbols_good m (drop (i + 1) ws)
-  unfolding symbols_good
-  symbol_good l = rw (drop-cons ws i 0 h, lt-ltb _ _ l, add-one i) refl
-
-  pub symbol_bad : 2 ^ m ≤ get_or ws i 0 → symbols_good m (drop i ws) ≡ false
-  unfolding symbols_good
-  symbol_bad l = rw (drop-cons ws i 0 h, le-ltb _ _ l) refl
-
-pub symbols_none : (m : ℕ) (ws : List ℕ) (i : ℕ) → length ws ≤ i → symbols_good m (drop i ws) ≡ true
+-- every symbol is below 2^m, said by the library's word
+pub all_below : (m : ℕ) (ws : List ℕ) → symbols_good m ws ≡ true → All (λ x. x < 2 ^ m) ws
 unfolding symbols_good
-symbols_none m ws i h = rw (drop_of_length-le ws h) refl
+all_below m [] e = λ k d h. absurd (omega arith)
+all_below m (x ∷ ws) e = go (all_below m ws (from_T _ (and_r (ltb x (2 ^ m)) (symbols_good m ws) (to_T e))))
+  where
+    go : All (λ x. x < 2 ^ m) ws → (k d : ℕ) → k < suc (length ws) → get_or (x ∷ ws) k d < 2 ^ m
+    go a zero d h = ltb-true _ _ (from_T _ (and_l (ltb x (2 ^ m)) (symbols_good m ws) (to_T e)))
+    go a (suc k) d h = a k d (omega arith)
+
+pub below_all : (m : ℕ) (ws : List ℕ) → All (λ x. x < 2 ^ m) ws → symbols_good m ws ≡ true
+unfolding symbols_good
+below_all m [] h = refl
+below_all m (x ∷ ws) h = rw (lt-ltb _ _ (h 0 0 (omega arith)), below_all m ws (λ k d l. h (suc k) d (omega arith))) refl
+
+pub all_good : (m : ℕ) (ws : List ℕ) (b : Bool) → IsTrue b ↔ All (λ x. x < 2 ^ m) ws → b ≡ symbols_good m ws
+all_good m ws true h = sym (below_all m ws (h.0 refl))
+all_good m ws false h = go (symbols_good m ws) refl
+  where
+    go : (s : Bool) → symbols_good m ws ≡ s → false ≡ s
+    go true e = absurd (cc (h.1 (all_below m ws e)))
+    go false e = refl
 
 -- Horner's rule from the top symbol down: v is the value at α^t of what stands from place i on
 pub record Valued (m t : ℕ) (ws : List ℕ) (v i : ℕ) : Type 0 where

@@ -1,6 +1,6 @@
 -- The statements of specs/Promise.antt.
 -- Assumes nothing.
-use Rattle.basics.proofs.Kit.{◌≡◌, refl, sym, ap, ◌∙◌, Bool, true, false, ◌&&◌, ◌||◌, not, cond, List, ℕ, zero, suc, ◌-◌, ◌^◌, ◌≤◌, ◌<◌, arith, length, drop, eqb, leb}
+use Rattle.basics.proofs.Kit.{◌≡◌, refl, sym, ap, ◌∙◌, Bool, true, false, ◌&&◌, ◌||◌, not, cond, ℕ, zero, suc, ◌-◌, ◌^◌, ◌≤◌, ◌<◌, arith, length, drop, eqb, leb}
 use native.Mathlib.Nat.{not-suc-le-zero}
 use mathlib.Core.Logic.{◌⊎◌, inl, inr}
 use lib.Dec.{T, leb→le, lit≤}
@@ -8,17 +8,15 @@ use borrow.Author.Tests.{le-leb, lt-leb, ne_eqb}
 use lib.ListN.{length-drop}
 use Rattle.field.specs.Field.{width_good}
 use Rattle.field.proofs.Tests.{and_l, and_r, to_T, widths, all, at}
-use Rattle.code.specs.Code.{code_good, number_refusal, width, roots, long, message_long, symbols_good, is_codeword, message, bch_dimension, configuration_long, roots_good, accepted}
+use Rattle.code.specs.Code.{code_good, long, message_long, symbols_good, is_codeword, message, bch_dimension, configuration_long, roots_good, accepted}
 use Rattle.code.specs.Bits.{row_long}
 use Rattle.code.specs.Promise.{AcceptedTen, CodesAccepted, ParametersAccepted, AcceptedInside, EncodesOnce, MessageGood, EncodedRead, ReadEncoded}
 use Rattle.code.proofs.Words as W
 use Rattle.code.proofs.Words.{drop_below, CodewordParts, codeword_parts}
-use Rattle.refusal.specs.Refusal.{first, Outcome}
+use Rattle.refusal.specs.Refusal.{first}
 use Rattle.refusal.proofs.Tests.{first_none, first_free}
-use Rattle.code.specs.Calls.{EncodeSays, ReadSays, encode_refusal, member_refusal, membership, checked}
-use Rattle.code.specs.declared.Membership.{Membership}
-use Rattle.code.specs.declared.Chosen.{Chosen}
-use Rattle.code.specs.Within.{ChosenSays, MessageWithin}
+use Rattle.code.specs.Calls.{EncodeSays, ReadSays, encode_refusal, member_refusal}
+use Rattle.code.specs.Within.{MessageWithin}
 use Rattle.code.proofs.Accepted.{
   le_or_lt,
   accepted_parts,
@@ -52,17 +50,6 @@ pub few_codes : (c : ℕ) → code_good c ≡ true → c ≤ 5
 unfolding code_good
 few_codes c g = leb→le c 5 (and_r (leb 1 c) (leb c 5) (to_T g))
 
--- a code by its number
-abbrev pub ByNumber : (c : ℕ) → (a : Chosen) → Type 0
-ByNumber c a = ChosenSays (number_refusal c) (width c) (roots c) a
-
-module _ (c : ℕ) {a : Chosen} (s : ByNumber c a) where
-  pub by_number_m : a.shape.m ≡ width c
-  by_number_m = s.m_is (number_accepted c)
-
-  pub by_number_r : a.shape.r ≡ roots c
-  by_number_r = s.r_is (number_accepted c)
-
 -- what holds of a code's m and r, and the other way round
 module _ (P : ℕ → ℕ → Type 0) {a b m r : ℕ} (m_is : a ≡ m) (r_is : b ≡ r) where
   pub of_shape : P m r → P a b
@@ -70,38 +57,6 @@ module _ (P : ℕ → ℕ → Type 0) {a b m r : ℕ} (m_is : a ≡ m) (r_is : b
 
   pub of_number : P a b → P m r
   of_number x = rw (← m_is, ← r_is) x
-
--- what a call is refused by, from what it is refused by over the chosen m and r
-pub chosen_refusal : (X : ℕ → ℕ → ℕ) {z m r n b : ℕ} {a : Chosen} →
-    ChosenSays z m r a → n ≡ first a.number b → b ≡ X a.shape.m a.shape.r → n ≡ first z (X m r)
-unfolding first
-chosen_refusal X {z} s e f = go z s.number_is (λ q. s.m_is (s.taken q)) (λ q. s.r_is (s.taken q)) e f
-  where
-    go : {n p b m m' r r' : ℕ} → (z : ℕ) → p ≡ z → (z ≡ 0 → m ≡ m') → (z ≡ 0 → r ≡ r') → n ≡ first p b → b ≡ X m r → n ≡ first z (X m' r')
-    go zero p m r e f = rw (← m refl, ← r refl, ← f) (rw p at e)
-    go (suc z) p m r e f = rw p at e
-
--- what a call says of the chosen m and r it says of those that were asked for: where the choice is refused, nothing is said of them
-pub as_chosen : (P : (z m r : ℕ) → Type 0) → ((n m r k l : ℕ) → P (suc n) m r → P (suc n) k l) →
-    {z m r : ℕ} {a : Chosen} → ChosenSays z m r a → P a.number a.shape.m a.shape.r → P z m r
-as_chosen P other {z} s x = go z s.number_is (λ q. s.m_is (s.taken q)) (λ q. s.r_is (s.taken q)) x
-  where
-    go : {p m m' r r' : ℕ} → (z : ℕ) → p ≡ z → (z ≡ 0 → m ≡ m') → (z ≡ 0 → r ≡ r') → P p m r → P z m' r'
-    go zero p m r x = rw (← m refl, ← r refl) (rw p at x)
-    go (suc z) p m r x = other z _ _ _ _ (rw p at x)
-
-module _ {z m r : ℕ} {a : Chosen} (s : ChosenSays z m r a) where
-  pub encode_as : (ms : List ℕ) (n : ℕ) (o p : List ℕ) → EncodeSays a.number a.shape.m a.shape.r ms n o p → EncodeSays z m r ms n o p
-  unfolding EncodeSays first Outcome
-  encode_as ms n o p = as_chosen (λ z m r. EncodeSays z m r ms n o p) (λ n m r k l x. x) s
-
-  pub read_as : (ws : List ℕ) (n : ℕ) (o p : List ℕ) → ReadSays a.number a.shape.m a.shape.r ws n o p → ReadSays z m r ws n o p
-  unfolding ReadSays first Outcome
-  read_as ws n o p = as_chosen (λ z m r. ReadSays z m r ws n o p) (λ n m r k l x. x) s
-
-  pub checked_as : (ws : List ℕ) (x : Membership) → x ≡ checked a.number a.shape.m a.shape.r ws → x ≡ checked z m r ws
-  unfolding checked membership first
-  checked_as ws x = as_chosen (λ z m r. x ≡ checked z m r ws) (λ n m r k l e. e) s
 
 -- a row has at most 60 entries
 pub row_small : (m : ℕ) → width_good m ≡ true → row_long m ≤ 60

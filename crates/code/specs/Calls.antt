@@ -1,9 +1,8 @@
 -- What the calls on words answer and leave behind, for every input. A code is chosen by its number or by m and r; z is what that choice is refused by.
 -- Refusals in document 01's order: code 1, 16; lengths 3, 4; symbols 6; membership 8. Assumes nothing: these are definitions.
-use Rattle.std.specs.Prelude.{◌≡◌, Bool, true, cond, List, ℕ, zero, suc, eqb, length}
-use Rattle.refusal.specs.Refusal.{unless, first, Outcome}
-use Rattle.code.specs.declared.Membership.{Membership}
-use Rattle.code.specs.declared.Membership.TheVariants.{Codeword, NoCodeword, Refused}
+use Rattle.std.specs.Prelude.{◌≡◌, Bool, true, List, ℕ, eqb, length, Result, Ok}
+use Rattle.refusal.specs.declared.Refusal.{Refusal}
+use Rattle.refusal.specs.Refusal.{unless, first, number_of, Outcome}
 use Rattle.code.specs.Code.{long, message_long, symbols_good, is_codeword, message}
 
 -- what follows the code's own refusal, over its m and r; the refusals of the other calls below are meant so too
@@ -38,15 +37,9 @@ unfoldable pub check_refusal : (m : ℕ) → (word : List ℕ) → ℕ
 check_refusal m ws = unless (eqb (length ws) (long m)) 3 (unless (symbols_good m ws) 6 0)
 
 -- whether the word is a codeword, where nothing is refused
-unfoldable pub membership : (refusal : ℕ) → (codeword : Bool) → Membership
-membership zero b = cond b Codeword NoCodeword
-membership (suc n) b = Refused (suc n)
-
-unfoldable pub checked : (z m r : ℕ) → (word : List ℕ) → Membership
-checked z m r ws = membership (first z (check_refusal m ws)) (is_codeword m r ws)
+unfoldable pub CheckSays : (z m r : ℕ) → (word : List ℕ) → Result Bool Refusal → Type 0
+CheckSays z m r ws a = Outcome (first z (check_refusal m ws)) (number_of a) (a ≡ Ok (is_codeword m r ws)) (Unit {0})
 
 -- document 01's number of an answer; a word that is no codeword has 8, as where it is to be read
-abbrev pub number_of : Membership → ℕ
-number_of Codeword = 0
-number_of NoCodeword = 8
-number_of (Refused n) = n
+unfoldable pub checked : (z m r : ℕ) → (word : List ℕ) → ℕ
+checked z m r ws = first z (first (check_refusal m ws) (unless (is_codeword m r ws) 8 0))

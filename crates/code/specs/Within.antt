@@ -1,29 +1,13 @@
 -- What the functions for the crates above ask of their inputs. Assumes nothing: these are definitions.
 use Rattle.std.specs.Prelude.{◌≡◌, true, List, ℕ, ◌+◌, ◌^◌, ◌≤◌, ◌<◌, length, drop}
 use Rattle.field.specs.Field.{width_good}
-use Rattle.code.specs.declared.Shape.{Shape}
-use Rattle.code.specs.declared.Chosen.{Chosen}
-use Rattle.code.specs.Code.{long, message_long, symbols_good, is_codeword, message, syndrome_long, accepted}
-use Rattle.code.specs.Bits.{row_long}
+use Rattle.code.specs.declared.shape.Shape.{Shape}
+use Rattle.code.specs.Code.{long, message_long, symbols_good, is_codeword, message}
+use Rattle.code.specs.Numbers.{Numbers}
 
--- m and r of a code that may be chosen, with the numbers that follow from them
-pub record Coded (s : Shape) : Type 0 where
-  pub accepted_is : accepted s.m s.r ≡ true
-  pub width_is : width_good s.m ≡ true
-  pub few : s.r < long s.m
-  pub n_is : s.n ≡ long s.m
-  pub k_is : s.k ≡ message_long s.m s.r
-  pub bits_is : s.bits ≡ row_long s.m
-  pub q_is : s.q ≡ syndrome_long s.m s.r
-  pub size_is : s.size ≡ 2 ^ s.q
-
--- what the choice of m and r is refused by, where they may be chosen their code, and otherwise some code
-pub record ChosenSays (z m r : ℕ) (a : Chosen) : Type 0 where
-  pub number_is : a.number ≡ z
-  pub taken : z ≡ 0 → accepted m r ≡ true
-  pub coded : Coded a.shape
-  pub m_is : accepted m r ≡ true → a.shape.m ≡ m
-  pub r_is : accepted m r ≡ true → a.shape.r ≡ r
+-- the numbers of a code that was chosen follow from its m and r: every code keeps this
+abbrev pub Coded : Shape → Type 0
+Coded s = Numbers s.m s.r s.n s.k s.bits s.q s.size
 
 -- a word of n symbols below 2^m, and a number of roots, or the exponent of one, below n
 pub record WordWithin (m r : ℕ) (ws : List ℕ) : Type 0 where

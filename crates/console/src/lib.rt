@@ -13,12 +13,12 @@ pub fn list_from(rt: &impl Print, from: &mut impl Read) -> io::Result<()> {
     let mut sheet = [0u8; 19208];
     let n = read_full(from, &mut sheet);
     let mut out = [0u8; report::LONG];
-    let listed = report::list(&sheet[..n], &mut out);
-    let long = listed.long;
+    let long = report::list(&sheet[..n], &mut out).unwrap_or(0);
     rt.write_all(&out[..long])
 }
 
 // Reads until a buffer is full, the input ends or a read fails: how many bytes it put at the start of the buffer.
+// A loop over `read`, since `read_exact` tells no count where the input ends, and `read_to_end` needs the heap.
 fn read_full(from: &mut impl Read, to: &mut [u8]) -> usize
     ensures { result ≤ length to.new }
 {

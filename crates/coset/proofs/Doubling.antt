@@ -36,11 +36,11 @@ module _ {half : ℕ} {g₀ z o : List ℕ} (a : Double half g₀ z o) {n : ℕ}
 
   pub doubled_more : {g' : List ℕ} → g' ≡ put_two (put_two g n (sum (two g n) (twofold z))) (half + n) (sum (two g n) (twofold o)) → Doubled half (n + 2) z o g₀ g'
   doubled_more e = rw e record {
-    long = length_put_two g' (half + n) y ∙ length_put_two g n x ∙ f.long;
-    zeros = λ s j ls lj. put_two_other g' (half + n) y (s * 4 + j) (λ c d. omega (arith, pair_in)) ∙ zero_at s j ls lj (ℕ_discrete s n) (ℕ_discrete s (n + 1));
+    long = length_put_two g' (half + n) y fits ∙ length_put_two g n x here_fits ∙ f.long;
+    zeros = λ s j ls lj. put_two_other g' (half + n) y fits (s * 4 + j) (λ c d. omega (arith, pair_in)) ∙ zero_at s j ls lj (ℕ_discrete s n) (ℕ_discrete s (n + 1));
     ones = λ s j ls lj. one_at s j ls lj (ℕ_discrete s n) (ℕ_discrete s (n + 1));
     left = λ s j b i lj.
-        put_two_other g' (half + n) y (s * 4 + j) (λ c d. omega arith) ∙ put_two_other g n x (s * 4 + j) (λ c d. omega arith) ∙ f.left s j (omega arith) i lj;
+        put_two_other g' (half + n) y fits (s * 4 + j) (λ c d. omega arith) ∙ put_two_other g n x here_fits (s * 4 + j) (λ c d. omega arith) ∙ f.left s j (omega arith) i lj;
   }
     where
       x : List ℕ
@@ -52,13 +52,16 @@ module _ {half : ℕ} {g₀ z o : List ℕ} (a : Double half g₀ z o) {n : ℕ}
       g' : List ℕ
       g' = put_two g n x
 
+      here_fits : n * 4 + 8 ≤ length g
+      here_fits = omega (arith, double_in)
+
       fits : (half + n) * 4 + 8 ≤ length g'
-      fits = omega (arith, double_in, length_put_two g n x)
+      fits = omega (arith, double_in, length_put_two g n x here_fits)
 
       zero_at : (s j : ℕ) → s < n + 2 → j < 4 → Dec (s ≡ n) → Dec (s ≡ n + 1) → entry g' s j ≡ entry g₀ s j + lane z j
-      zero_at s j ls lj (yes e) d = rw e (put_two_first g n x (omega (arith, double_in)) j lj ∙ sum_here z j lj)
-      zero_at s j ls lj (no m) (yes e) = rw e (put_two_second g n x (omega (arith, double_in)) j lj ∙ sum_next z j lj)
-      zero_at s j ls lj (no m) (no k) = put_two_other g n x (s * 4 + j) (λ c d. omega arith) ∙ f.zeros s j (omega arith) lj
+      zero_at s j ls lj (yes e) d = rw e (put_two_first g n x here_fits j lj ∙ sum_here z j lj)
+      zero_at s j ls lj (no m) (yes e) = rw e (put_two_second g n x here_fits j lj ∙ sum_next z j lj)
+      zero_at s j ls lj (no m) (no k) = put_two_other g n x here_fits (s * 4 + j) (λ c d. omega arith) ∙ f.zeros s j (omega arith) lj
 
       one_at : (s j : ℕ) → s < n + 2 → j < 4 → Dec (s ≡ n) → Dec (s ≡ n + 1) → entry (put_two g' (half + n) y) (half + s) j ≡ entry g₀ s j + lane o j
       one_at s j ls lj (yes e) d = rw e (put_two_first g' (half + n) y fits j lj ∙ sum_here o j lj)
@@ -66,12 +69,16 @@ module _ {half : ℕ} {g₀ z o : List ℕ} (a : Double half g₀ z o) {n : ℕ}
           let p : half + s ≡ half + n + 1 = omega arith in
           rw p (put_two_second g' (half + n) y fits j lj ∙ sum_next o j lj ∙ rw e)
       one_at s j ls lj (no m) (no k) =
-          put_two_other g' (half + n) y ((half + s) * 4 + j) (λ c d. omega arith) ∙ put_two_other g n x ((half + s) * 4 + j) (λ c d. omega arith) ∙ f.ones s j (omega arith) lj
+          put_two_other g' (half + n) y fits ((half + s) * 4 + j) (λ c d. omega arith) ∙ put_two_other g n x here_fits ((half + s) * 4 + j) (λ c d. omega arith) ∙ f.ones s j (omega arith) lj
 
 -- KEYS
 pub keyed_at : (r : List ℕ) (low j : ℕ) → j < 4 → lane (keyed r low) j ≡ lane r j * 65536 + low
 unfolding keyed
 keyed_at r low = lanes_at (λ j. lane r j * 65536 + low)
+
+length_keyed : (r : List ℕ) (low : ℕ) → length (keyed r low) ≡ 4
+unfolding keyed
+length_keyed r low = refl
 
 module _ {size : ℕ} {g t₀ : List ℕ} (a : Tails size g t₀) {n : ℕ} {t : List ℕ} (f : Numbered g n t) (l : n < size) where
   pub tails_key : Keyable (row g n) n
@@ -81,11 +88,14 @@ module _ {size : ℕ} {g t₀ : List ℕ} (a : Tails size g t₀) {n : ℕ} {t :
   tails_in = omega (arith, f.long, a.length_g)
 
   pub numbered_more : {t' : List ℕ} → t' ≡ put t n (keyed (row g n) n) → Numbered g (n + 1) t'
-  numbered_more e = rw e record { long = length_put t n x ∙ f.long; keys = λ s j ls lj. go s j ls lj (ℕ_discrete s n) }
+  numbered_more e = rw e record { long = length_put t n x tails_in four_x ∙ f.long; keys = λ s j ls lj. go s j ls lj (ℕ_discrete s n) }
     where
       x : List ℕ
       x = keyed (row g n) n
 
+      four_x : length x ≡ 4
+      four_x = length_keyed (row g n) n
+
       go : (s j : ℕ) → s < n + 1 → j < 4 → Dec (s ≡ n) → entry (put t n x) s j ≡ entry g s j * 65536 + s
-      go s j ls lj (yes e) = rw e (put_at t n x tails_in j lj ∙ keyed_at (row g n) n j lj ∙ rw (row_at g n j lj))
-      go s j ls lj (no m) = put_other t n x (s * 4 + j) (λ c d. m (omega arith)) ∙ f.keys s j (omega arith) lj
+      go s j ls lj (yes e) = rw e (put_at t n x tails_in four_x j lj ∙ keyed_at (row g n) n j lj ∙ rw (row_at g n j lj))
+      go s j ls lj (no m) = put_other t n x tails_in four_x (s * 4 + j) (λ c d. m (omega arith)) ∙ f.keys s j (omega arith) lj

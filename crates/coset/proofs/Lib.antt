@@ -1,8 +1,8 @@
 pub mod Runs
 pub mod Pairs
-pub mod Keeping
 pub mod Doubling
 pub mod Columns
 pub mod Least
+pub mod Fitting
 pub mod Tables
 pub mod Search

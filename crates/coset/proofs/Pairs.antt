@@ -1,6 +1,6 @@
 -- A column in place, in rows of four layers: a pair, a run and the blocks.
 -- Assumes nothing.
-use Rattle.basics.proofs.Kit.{◌≡◌, refl, ap, ◌∙◌, List, ℕ, suc, ◌+◌, ◌-◌, ◌*◌, ◌^◌, ◌≤◌, ◌<◌, min, arith, length}
+use Rattle.basics.proofs.Kit.{◌≡◌, ap, ◌∙◌, List, ℕ, suc, ◌+◌, ◌-◌, ◌*◌, ◌^◌, ◌≤◌, ◌<◌, min, arith, length}
 use native.Mathlib.Nat.{two-pow-succ, suc-mul, mul-le-mul_right, lt_of_mul-lt-mul_right, pow-le-pow_right, zero-lt-suc}
 use native.Mathlib.Decide.{dec_le}
 use lib.Pow.{pow-add}
@@ -9,11 +9,11 @@ use Rattle.field.proofs.Xor as X
 use Rattle.lanes.specs.Lanes.{entry, lane, row, put}
 use Rattle.lanes.proofs.Rows.{row_at, length_put, put_other, put_at}
 use Rattle.rows.specs.Rows.{sum, less}
-use Rattle.rows.proofs.Rows.{sum_at, less_at}
+use Rattle.rows.proofs.Rows.{sum_at, less_at, length_less}
 use Rattle.trellis.specs.Trellis.{step}
 use Rattle.coset.specs.Coset.{Free, Freed}
 use Rattle.coset.specs.Runs.{leader, RanRows, Pair, paired, Run, Top}
-use Rattle.coset.proofs.Runs.{same_leader, ran_none, ran_then, ran_skip, ran_pair, block_up, block_down}
+use Rattle.coset.proofs.Runs.{same_leader, ran_then, ran_skip, ran_pair, block_up, block_down}
 
 pub powers : (a b : ℕ) → a ≤ b → 2 ^ a ≤ 2 ^ b
 powers a b l = pow-le-pow_right (zero-lt-suc 1) l
@@ -71,7 +71,7 @@ module _ {l h size from to : ℕ} {t₀ z o : List ℕ} (a : Run l h size from t
   run_more e = rw e record {
     at_least = omega (arith, f.at_least);
     at_most = omega arith;
-    long = length_put (put t s x) (xor s h) y ∙ length_put t s x ∙ f.long;
+    long = length_put (put t s x) (xor s h) y u_in four_y ∙ same_long ∙ f.long;
     ran = λ j lj. ran_then wide f.at_least (omega arith) (f.ran j lj) (ran_pair up (at_s j lj) (at_u j lj) (else j lj));
   }
     where
@@ -81,16 +81,28 @@ module _ {l h size from to : ℕ} {t₀ z o : List ℕ} (a : Run l h size from t
       y : List ℕ
       y = less (sum (row t (xor s h)) z) (sum (row t s) o)
 
+      four_x : length x ≡ 4
+      four_x = length_less (sum (row t s) z) (sum (row t (xor s h)) o)
+
+      four_y : length y ≡ 4
+      four_y = length_less (sum (row t (xor s h)) z) (sum (row t s) o)
+
+      same_long : length (put t s x) ≡ length t
+      same_long = length_put t s x pair_asks.s_in four_x
+
+      u_in : xor s h * 4 + 4 ≤ length (put t s x)
+      u_in = omega (arith, same_long, pair_asks.u_in)
+
       at_s : (j : ℕ) → j < 4 → entry (put (put t s x) (xor s h) y) s j ≡ min (entry t s j + lane z j) (entry t (xor s h) j + lane o j)
       at_s j lj =
-          put_other (put t s x) (xor s h) y (s * 4 + j) (λ c d. omega (arith, up)) ∙ put_at t s x pair_asks.s_in j lj ∙ chosen_at t s (xor s h) z o j lj
+          put_other (put t s x) (xor s h) y u_in four_y (s * 4 + j) (λ c d. omega (arith, up)) ∙ put_at t s x pair_asks.s_in four_x j lj ∙ chosen_at t s (xor s h) z o j lj
 
       at_u : (j : ℕ) → j < 4 → entry (put (put t s x) (xor s h) y) (xor s h) j ≡ min (entry t (xor s h) j + lane z j) (entry t s j + lane o j)
-      at_u j lj = put_at (put t s x) (xor s h) y (omega (arith, length_put t s x, pair_asks.u_in)) j lj ∙ chosen_at t (xor s h) s z o j lj
+      at_u j lj = put_at (put t s x) (xor s h) y u_in four_y j lj ∙ chosen_at t (xor s h) s z o j lj
 
       else : (j : ℕ) → j < 4 → (v : ℕ) → (v ≡ s → ⊥) → (v ≡ xor s h → ⊥) → entry (put (put t s x) (xor s h) y) v j ≡ entry t v j
       else j lj v n m =
-          put_other (put t s x) (xor s h) y (v * 4 + j) (λ c d. m (omega arith)) ∙ put_other t s x (v * 4 + j) (λ c d. n (omega arith))
+          put_other (put t s x) (xor s h) y u_in four_y (v * 4 + j) (λ c d. m (omega arith)) ∙ put_other t s x pair_asks.s_in four_x (v * 4 + j) (λ c d. n (omega arith))
 
 -- the blocks: base is a multiple of twice the step
 pub record Blocks (h size step : ℕ) (z o t₀ : List ℕ) (base : ℕ) (t : List ℕ) : Type 0 where
@@ -99,9 +111,6 @@ pub record Blocks (h size step : ℕ) (z o t₀ : List ℕ) (base : ℕ) (t : Li
   pub base_in : base ≤ size
   pub long : length t ≡ length t₀
   pub ran : RanRows h size 0 base z o t₀ t
-
-pub blocks_start : {h size step : ℕ} {z o t₀ : List ℕ} → Blocks h size step z o t₀ 0 t₀
-blocks_start = record { c = 0; base_is = omega arith; base_in = omega arith; long = refl; ran = λ j lj. ran_none }
 
 module _ {l q h size step : ℕ} {t₀ z o : List ℕ} (a : Free l q size h t₀ z o) (p : Top h step) {base : ℕ} {t : List ℕ} (f : Blocks h size step z o t₀ base t) (below : base < size) where
   twice : step + step ≡ 2 ^ suc p.e

@@ -1,7 +1,7 @@
 -- What the search and the soft pass need of the tables: every coset has a word that costs less than `none`, the first of the cheapest is named, its
 -- number is that of a word, and a table that was kept comes back whole.
 -- Assumes nothing.
-use Rattle.basics.proofs.Kit.{◌≡◌, ap, ◌∙◌, List, ℕ, ◌+◌, ◌-◌, ◌*◌, ◌/◌, ◌%◌, ◌^◌, ◌≤◌, ◌<◌, arith, length, get_or, take, drop, ℤ, pos, nat_abs}
+use Rattle.basics.proofs.Kit.{◌≡◌, ap, ◌∙◌, List, ℕ, ◌+◌, ◌-◌, ◌*◌, ◌/◌, ◌%◌, ◌^◌, ◌≤◌, ◌<◌, arith, length, get_or, take, drop, ℤ, pos}
 use native.Mathlib.Nat.{mul-le-mul_right}
 use lib.ListN.{length-drop}
 use lib.Seq.{get_or-take, get_or-drop, length-take-le}
@@ -9,8 +9,8 @@ use Rattle.order.specs.Number.{number}
 use Rattle.trellis.specs.Trellis.{back, free, final, first_word, First, NamesFirst}
 use Rattle.trellis.specs.Rows.{layer}
 use Rattle.trellis.proofs.Firsts.{names_first}
-use Rattle.coset.specs.Coset.{none, least, first, Layers, Costs, Kept}
-use Rattle.coset.specs.Runs.{Restore, Restored}
+use Rattle.coset.specs.Coset.{none, least, first, Layers, Kept}
+use Rattle.coset.specs.Runs.{Restore}
 use Rattle.coset.proofs.Least.{first_lt, least_le}
 
 -- from position 0 on
@@ -68,6 +68,3 @@ module _ {q size : ℕ} {hs zs os : List ℕ} (a : Layers q size hs zs os) (kept
         let lj : k % 4 < 4 = omega arith in
         record { value = least hs zs os i (k % 4) (k / 4); is = ap (λ (x : ℕ). get_or part x (pos 0)) d ∙ held (k / 4) (k % 4) ls lj; small = omega (arith, cost_lt a lj i (k / 4) (omega arith) ls) };
   }
-
-  pub restored_costs : (g g' : List ℕ) → length g ≡ size * 4 → Restored part (length g) g g' → Costs size hs zs os i g'
-  restored_costs g g' e r = record { long = r.long ∙ e; costs = λ s j ls lj. ap nat_abs (r.same (s * 4 + j) (omega arith) ∙ held s j ls lj) }

@@ -6,10 +6,10 @@ use native.Mathlib.Decide.{dec_le, ℕ_discrete}
 use Rattle.field.specs.Field.{xor}
 use Rattle.lanes.specs.Lanes as L
 use Rattle.lanes.specs.Lanes.{entry, lane, row, put}
-use Rattle.lanes.proofs.Rows.{row_at, length_put, put_other, put_at}
+use Rattle.lanes.proofs.Rows.{row_at, length_row, length_put, put_other, put_at}
 use Rattle.rows.specs.Rows.{limit, Small}
 use Rattle.trellis.specs.Trellis.{step}
-use Rattle.coset.specs.Coset.{least, Layers, Costs, Keys, Kept, Free, Freed}
+use Rattle.coset.specs.Coset.{least, Layers, Costs, Keys, Free, Freed}
 use Rattle.coset.specs.Runs.{Double, Doubled, keyed, Keyable, Tails, Numbered, Behind, Keeps}
 use Rattle.coset.proofs.Pairs.{powers, over}
 use Rattle.coset.proofs.Doubling.{keyed_at}
@@ -47,7 +47,7 @@ module _ {q size : ℕ} {hs zs os : List ℕ} (a : Layers q size hs zs os) where
   pub tail_start : (g : List ℕ) {g' : List ℕ} → length g ≡ size * 4 → g' ≡ put (put g 0 (row zs (n - 1))) 1 (row os (n - 1)) →
       Tailing q size hs zs os 2 (n - 1) g'
   tail_start g e x = rw x record {
-    long = length_put g0 1 o ∙ length_put g 0 z ∙ e;
+    long = length_put g0 1 o second_in four_o ∙ length_put g 0 z first_in four_z ∙ e;
     inside = omega (arith, some_column);
     from = omega (arith, a.some);
     half_is = let d : n - (n - 1) ≡ 1 = omega (arith, some_column) in rw d;
@@ -63,16 +63,25 @@ module _ {q size : ℕ} {hs zs os : List ℕ} (a : Layers q size hs zs os) where
       g0 : List ℕ
       g0 = put g 0 z
 
-      fits : 8 ≤ length g0
-      fits = omega (arith, length_put g 0 z, rows_in g e)
+      four_z : length z ≡ 4
+      four_z = length_row zs (n - 1) (omega (arith, a.length_zs, some_column))
+
+      four_o : length o ≡ 4
+      four_o = length_row os (n - 1) (omega (arith, a.length_os, some_column))
+
+      first_in : 0 * 4 + 4 ≤ length g
+      first_in = omega (arith, rows_in g e)
+
+      second_in : 1 * 4 + 4 ≤ length g0
+      second_in = omega (arith, length_put g 0 z first_in four_z, rows_in g e)
 
       go : (s j : ℕ) → j < 4 → Dec (s ≡ 0) → s < 2 → entry (put g0 1 o) s j ≡ least hs zs os (n - 1) j s
       go s j lj (yes d) ls =
           let t = tail_at a lj 0 (omega arith) in
           rw d (omega (
             arith,
-            put_other g0 1 o (0 * 4 + j) (λ c d. omega arith),
-            put_at g 0 z (omega (arith, rows_in g e)) j lj,
+            put_other g0 1 o second_in four_o (0 * 4 + j) (λ c d. omega arith),
+            put_at g 0 z first_in four_z j lj,
             row_at zs (n - 1) j lj,
             tail_zero a lj a.some t 0 (omega arith),
             t.near 0 (omega arith),
@@ -80,7 +89,7 @@ module _ {q size : ℕ} {hs zs os : List ℕ} (a : Layers q size hs zs os) where
       go s j lj (no d) ls =
           let t = tail_at a lj 0 (omega arith) in
           let c : s ≡ 1 = omega arith in
-          rw c (omega (arith, put_at g0 1 o (omega (arith, fits)) j lj, row_at os (n - 1) j lj, tail_one a lj a.some t 0 (omega arith), t.near 0 (omega arith)))
+          rw c (omega (arith, put_at g0 1 o second_in four_o j lj, row_at os (n - 1) j lj, tail_one a lj a.some t 0 (omega arith), t.near 0 (omega arith)))
 
   module _ {half i : ℕ} {g : List ℕ} (f : Tailing q size hs zs os half i g) (l : n - q < i) where
     abbrev k : ℕ
@@ -167,13 +176,6 @@ module _ {q size : ℕ} {hs zs os : List ℕ} (a : Layers q size hs zs os) where
               ap (λ (x : ℕ). least hs zs os x j s) next,
               ap (λ (x : ℕ). entry os x j) next,
             )
-
-  pub tail_end : {half i : ℕ} {g : List ℕ} → Tailing q size hs zs os half i g → i ≤ n - q → Costs size hs zs os (n - q) g
-  tail_end {half} {i} {g} f l =
-      let e : i ≡ n - q = omega (arith, a.fits, f.from, f.inside) in
-      let d : n - i ≡ q = omega (arith, a.fits) in
-      let h : half ≡ size = f.half_is ∙ ap (λ (x : ℕ). 2 ^ x) d ∙ sym a.size_is in
-      record { long = f.long; costs = λ s j ls lj. rw (← e) (f.costs s j (omega arith) lj) }
 
   -- THEIR KEYS
   pub size_small : size ≤ 2 ^ 15
@@ -318,20 +320,7 @@ module _ {q size : ℕ} {hs zs os : List ℕ} (a : Layers q size hs zs os) where
     whole : suc (i - 1) ≡ i
     whole = omega arith
 
-    pub make_asks : Behind q size hs zs os (i - 1) bit t
-    make_asks = record { inside = omega (arith, f.inside); bit_is = rw whole f.bit_is; keys = rw whole f.keys }
-
-    pub bit_fits : bit + bit < 2 ^ 32
-    bit_fits =
-        let e : suc (length hs - i) ≤ 15 = omega (arith, a.few, f.inside, a.some) in
-        omega (arith, f.bit_is, two-pow-succ (length hs - i), powers (suc (length hs - i)) 15 e)
-
     module _ {t' : List ℕ} (b : Keys size hs zs os (i - 1) t') where
-      pub keep_asks : (length hs - q - 1) * (size * 4) ≤ length kept₀ → (i - 1) * length t' ≤ length kept
-      keep_asks r =
-          let l : i - 1 ≤ length hs - q - 1 = omega (arith, f.inside) in
-          rw b.long (omega (arith, mul-le-mul_right (size * 4) l, f.long))
-
       pub make_next : {kept' : List ℤ} → Keeps (i - 1) t' kept kept' → Making q size hs zs os kept₀ t' kept' (i - 1) (bit + bit)
       make_next {kept'} r = record {
         inside = omega (arith, f.inside);
@@ -351,9 +340,3 @@ module _ {q size : ℕ} {hs zs os : List ℕ} (a : Layers q size hs zs os) where
           go k s j l o u ls lj (no x) =
               let m : i - 1 ≤ k - 1 = omega arith in
               r.rest ((k - 1) * (size * 4) + (s * 4 + j)) (rw b.long (omega (arith, mul-le-mul_right (size * 4) m))) ∙ f.tables k s j (omega arith) o u ls lj
-
-  pub make_keys : {kept₀ kept : List ℤ} {t : List ℕ} {i bit : ℕ} → Making q size hs zs os kept₀ t kept i bit → i ≡ 0 → Keys size hs zs os 0 t
-  make_keys f e = rw e at f.keys
-
-  pub make_kept : {kept₀ kept : List ℤ} {t : List ℕ} {i bit : ℕ} → Making q size hs zs os kept₀ t kept i bit → i ≡ 0 → Kept q size hs zs os kept
-  make_kept f e i s j p = f.tables i s j (omega arith) p

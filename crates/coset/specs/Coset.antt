@@ -38,6 +38,20 @@ pub record Layers (q size : ℕ) (hs zs os : List ℕ) : Type 0 where
   pub cost_os : (i j : ℕ) → i < length hs → j < 4 → entry os i j ≤ top
   pub room : length hs * top < 2 ^ 15
 
+-- the same with no greatest cost named: each cost, as many times as there are columns, stays below 2^15
+pub record Fit (q size : ℕ) (hs zs os : List ℕ) : Type 0 where
+  pub some : 0 < q
+  pub fits : q ≤ length hs
+  pub few : length hs ≤ 15
+  pub size_is : size ≡ 2 ^ q
+  pub length_zs : length zs ≡ length hs * 4
+  pub length_os : length os ≡ length hs * 4
+  pub inside : (i : ℕ) → i < length hs → get_or hs i 0 < size
+  pub heads : (i : ℕ) → i < length hs → 0 < get_or hs i 0
+  pub tails : (k : ℕ) → k < q → get_or hs (length hs - suc k) 0 ≡ 2 ^ k
+  pub room_zs : (i j : ℕ) → i < length hs → j < 4 → entry zs i j * length hs < 2 ^ 15
+  pub room_os : (i j : ℕ) → i < length hs → j < 4 → entry os i j * length hs < 2 ^ 15
+
 -- a table of the least costs from position i on, and one of the keys
 pub record Costs (size : ℕ) (hs zs os : List ℕ) (i : ℕ) (g : List ℕ) : Type 0 where
   pub long : length g ≡ size * 4

@@ -7,7 +7,6 @@ use Rattle.refusal.specs.Refusal.{unless, first, Outcome}
 use Rattle.metric.specs.Row.{row_bound, row_good}
 use Rattle.metric.specs.Scratch.{scratch_long, cleared}
 use Rattle.metric.specs.Metric.{Decoded}
-use Rattle.decoder.specs.declared.Decoding.{Decoding}
 
 -- what follows the code's own refusal
 unfoldable pub decode_refusal : (m : ℕ) → (row : List ℤ) → (word soft scratch : ℕ) → ℕ
@@ -19,7 +18,7 @@ decode_refusal m rs a b x =
     (unless (row_good row_bound rs) 5 0))))
 
 -- the first best word, its metric and every soft output, and the scratch all zero; refused, the metric is 0, and the outputs and the scratch are kept
-unfoldable pub DecodeSays : (z m r : ℕ) → (row : List ℤ) → Decoding → (word word_now : List ℕ) → (soft soft_now scratch scratch_now : List ℤ) → Type 0
-DecodeSays z m r rs d a b e f x y =
-    Outcome (first z (decode_refusal m rs (length a) (length e) (length x))) d.number
-    (Decoded m (is_codeword m r) rs b d.metric f × (y ≡ cleared)) ((d.metric ≡ pos 0) × (b ≡ a) × (f ≡ e) × (y ≡ x))
+unfoldable pub DecodeSays : (z m r : ℕ) → (row : List ℤ) → (answer : ℕ) → (metric : ℤ) → (word word_now : List ℕ) → (soft soft_now scratch scratch_now : List ℤ) → Type 0
+DecodeSays z m r rs n g a b e f x y =
+    Outcome (first z (decode_refusal m rs (length a) (length e) (length x))) n
+    (Decoded m (is_codeword m r) rs b g f × (y ≡ cleared)) ((g ≡ pos 0) × (b ≡ a) × (f ≡ e) × (y ≡ x))

@@ -4,7 +4,7 @@ use Rattle.basics.proofs.Kit.{◌≡◌, sym, ap, ◌∙◌, List, ℕ, ◌+◌,
 use mathlib.Core.Path.{subst}
 use native.Mathlib.Nat.{div-add-mod', mod-lt, div-lt_iff_lt-mul}
 use Rattle.field.proofs.Tests.{widths}
-use Rattle.code.specs.declared.Shape.{Shape}
+use Rattle.code.specs.declared.shape.Shape.{Shape}
 use Rattle.code.specs.Code.{is_codeword}
 use Rattle.code.specs.Bits.{row_long}
 use Rattle.code.proofs.Promise.{row_small}
@@ -20,7 +20,7 @@ use Rattle.decoding.specs.Within.{BestWord, Softs}
 
 module _ {s : Shape} {row : List ℤ} (z : Input s row) where
   pub row_60 : length row ≤ 60
-  row_60 = omega (arith, z.length_row, row_small s.m z.coded.width_is)
+  row_60 = omega (arith, z.length_row, row_small s.m s.numbers.width_is)
 
   pub weight_small : weight_of row ≤ 7620
   weight_small = omega (arith, weight_le row_bound row z.good_row, row_60)
@@ -30,7 +30,7 @@ module _ {s : Shape} {row : List ℤ} (z : Input s row) where
 
   pub rows_ok : {za oa : List ℕ} {soft : List ℤ} → length za ≡ s.n * 4 → length oa ≡ s.n * 4 → length soft ≡ s.n * s.m → Softs s row za oa → SoftsWithin s.m s.n za oa soft
   rows_ok lz lo ls f = record {
-    width = z.coded.width_is;
+    width = s.numbers.width_is;
     length_zero = lz;
     length_one = lo;
     length_soft = ls;
@@ -47,10 +47,10 @@ module _ {s : Shape} {row : List ℤ} (z : Input s row) where
       (w.long ∙ lb ∙ sym row_is) each)
     where
       row_is : length row ≡ s.n * s.m
-      row_is = z.length_row ∙ ap (λ (a : ℕ). a * s.m) (sym z.coded.n_is)
+      row_is = z.length_row ∙ ap (λ (a : ℕ). a * s.m) (sym s.numbers.n_is)
 
       three : 3 ≤ s.m
-      three = widths (λ (m : ℕ). 3 ≤ m) (omega arith) (omega arith) s.m z.coded.width_is
+      three = widths (λ (m : ℕ). 3 ≤ m) (omega arith) (omega arith) s.m s.numbers.width_is
 
       each : (k : ℕ) → k < length row →
           LeastWith s.m (is_codeword s.m s.r) row k 0 (entry za (k / s.m) (k % s.m)) × LeastWith s.m (is_codeword s.m s.r) row k 1 (entry oa (k / s.m) (k % s.m))

@@ -3,11 +3,11 @@
 use Rattle.basics.proofs.Kit.{◌≡◌, refl, sym, ap, ◌∙◌, Bool, true, false, cond, List, ℕ, ◌+◌, ◌-◌, ◌*◌, ◌≤◌, ◌<◌, arith, length, get_or, take, eqb, ℤ}
 use borrow.Author.Tests.{eqb-true}
 use native.Mathlib.Nat.{mul-le-mul_right}
-use Rattle.code.specs.declared.Shape.{Shape}
+use Rattle.code.specs.declared.shape.Shape.{Shape}
 use Rattle.lanes.specs.Lanes.{entry, lane}
 use Rattle.trellis.specs.Rows.{weave}
 use Rattle.gather.specs.Gather.{key_cost, Scattered}
-use Rattle.walk.specs.Walk.{sum4, start, spot, total, least_at, Marginals}
+use Rattle.walk.specs.Walk.{sum4, spot, total, least_at, Marginals}
 use Rattle.trellis.proofs.Least.{le_least, least_cap}
 use Rattle.lanes.proofs.Rows.{four}
 use Rattle.coset.specs.Coset.{none}
@@ -73,23 +73,25 @@ module _ {s : Shape} {row : List ℤ} {hs zs os t : List ℕ} {kept : List ℤ} 
       pub pass_ok : {f₀ g₀ g' zero one : List ℕ} {soft : List ℤ} → SoftenRoom s places f₀ g₀ kept zero one soft → length g' ≡ s.size * 4 →
           Pass s.q s.size cap a g' hs zs os kept zero one
       pass_ok r e = record {
-        layers = b.layered.layers;
+        top = b.layered.layers.top;
+        cost_zs = b.layered.layers.cost_zs;
+        cost_os = b.layered.layers.cost_os;
         tables = b.tables;
-        head = omega (arith, A.n_is z b.layered, z.coded.q_is, H.head_there s.m s.r z.coded.accepted_is);
+        head = omega (arith, A.n_is z b.layered, s.numbers.q_is, H.head_there s.m s.r s.numbers.accepted_is);
         length_a = long_a;
         length_g = e;
-        length_kept = rw (A.n_is z b.layered, z.coded.size_is, z.coded.q_is, r.length_scratch) (H.kept_in s.m s.r z.coded.accepted_is);
+        length_kept = rw (A.n_is z b.layered, s.numbers.size_is, s.numbers.q_is, r.length_scratch) (H.kept_in s.m s.r s.numbers.accepted_is);
         start = λ x j lx lj. omega (arith, sc.others (x * 4 + j) (omega (arith, long_a)), least_cap (λ p. cond (eqb (get_or places p 0) (x * 4 + j)) (get_or g p 0 - get_or f p 0) cap) cap (length places));
         cap_small = rw b.layered.top_is (omega (arith, mul-le-mul_right 127 (A.few z b.layered)));
-        length_zero = r.length_zero ∙ ap (λ (n : ℕ). n * 4) (z.coded.n_is ∙ sym (A.n_is z b.layered));
-        length_one = r.length_one ∙ ap (λ (n : ℕ). n * 4) (z.coded.n_is ∙ sym (A.n_is z b.layered));
+        length_zero = r.length_zero ∙ ap (λ (n : ℕ). n * 4) (s.numbers.n_is ∙ sym (A.n_is z b.layered));
+        length_one = r.length_one ∙ ap (λ (n : ℕ). n * 4) (s.numbers.n_is ∙ sym (A.n_is z b.layered));
       }
 
       pub softs_ok : (za oa : List ℕ) → Passed s.size cap a hs zs os 0 (length hs) za → Passed s.size cap a hs zs os 1 (length hs) oa → Softs s row za oa
       softs_ok za oa p0 p1 i j li lj =
-          let l4 : j < 4 = omega (arith, width_small s.m z.coded.width_is) in
-          let hi : i < long s.m = omega (arith, z.coded.n_is) in
-          let hn : i < length hs = omega (arith, A.n_is z b.layered, z.coded.n_is) in
+          let l4 : j < 4 = omega (arith, width_small s.m s.numbers.width_is) in
+          let hi : i < long s.m = omega (arith, s.numbers.n_is) in
+          let hn : i < length hs = omega (arith, A.n_is z b.layered, s.numbers.n_is) in
           let o = A.others_ok z b.layered costing l mg lg sc long_a j l4 in
           let e0 = p0 i j hn l4 in
           let e1 = p1 i j hn l4 in

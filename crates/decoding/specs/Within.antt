@@ -1,6 +1,6 @@
 -- What the decoder's functions ask of their buffers, and leave in them. A reader need not believe these definitions. Assumes nothing.
 use Rattle.std.specs.Prelude.{◌≡◌, true, List, ℕ, ◌+◌, ◌*◌, ◌<◌, ◌≤◌, length, take, ℤ}
-use Rattle.code.specs.declared.Shape.{Shape}
+use Rattle.code.specs.declared.shape.Shape.{Shape}
 use Rattle.code.specs.Code.{is_codeword}
 use Rattle.order.specs.Order.{not_after}
 use Rattle.metric.specs.Cost.{cost, Least, LeastWith}

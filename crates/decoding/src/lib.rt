@@ -4,17 +4,17 @@
 
 ghost use Rattle.std.specs.Prelude.{◌≡◌, ◌*◌, ◌≤◌, length, take};
 ghost use Rattle.code.specs.Code.{is_codeword};
-ghost use Rattle.code.specs.Within.{Coded};
 ghost use Rattle.metric.specs.Metric.{Decoded};
 ghost use Rattle.tails.specs.Tails.{columns};
 ghost use Rattle.gather.specs.Gather.{key_cost, Scattered};
 ghost use Rattle.walk.specs.Walk.{Marginals};
 ghost use Rattle.pass.specs.Pass.{Pass, Passed};
 ghost use Rattle.softs.specs.Softs.{Softened};
-ghost use Rattle.search.specs.Within.{cap, Input, Roomy, Tabled, Cheap, Walked, Laid, slots_of, steps_of, turns_of};
+ghost use Rattle.search.specs.Within.{cap, Input, Roomy, Sizes, Tabled, Cheap, Walked, Laid, slots_of, steps_of, turns_of};
 ghost use Rattle.decoding.specs.Within.{Softs, TablesRoom, Rooms, OthersRoom, Found, SoftenRoom, Outputs, Accepted};
 
 use code::Shape;
+use coset::FourLayers;
 use search::Best;
 
 // The tables of a row. The tails take their turn in the first part of g.
@@ -29,7 +29,7 @@ fn tabulate(
     scratch: &mut [i32],
 )
     requires input { Input shape row.now }
-    requires hs_value { hs.now ≡ columns shape.m shape.r }
+    requires columns { hs.now ≡ columns shape.m shape.r }
     requires tables_room { TablesRoom shape zs.old os.old t.old g.old scratch.old }
     ensures { Tabled shape row.now hs.now zs.new os.new t.new scratch.new }
 {
@@ -39,7 +39,6 @@ fn tabulate(
 
 // The walk over the tables. The costs of the places take their turn in the first part of f, and the marginals in that of g.
 fn walk_over(shape: Shape, t: &[u32], places: &mut [u16], f: &mut [u16], g: &mut [u16]) -> Best
-    requires coded { Coded shape }
     requires cheap { Cheap (key_cost t.now) (length t.now) }
     requires rooms { Rooms shape t.now places.old f.old g.old }
     ensures { Walked shape t.now places.new (take (length places.old) f.new) (take (length places.old) g.new) result.total result.words }
@@ -59,31 +58,24 @@ fn others(states: usize, places: &[u16], f: &mut [u16], g: &mut [u16])
 
 // The soft pass, over the first part of f. The tables behind the columns take their turn in the first part of g.
 fn soft_costs(
-    shape: Shape,
-    hs: &[u16],
-    zs: &[u32],
-    os: &[u32],
+    layers: FourLayers,
     f: &mut [u16],
     g: &mut [u16],
     scratch: &[i32],
     zero: &mut [u16],
     one: &mut [u16],
 )
-    requires size_in_bounds { (shape.size * 4 ≤ length f.old) × (shape.size * 4 ≤ length g.old) }
-    requires pass { Pass shape.q shape.size cap (take (shape.size * 4) f.old) (take (shape.size * 4) g.old) hs.now zs.now os.now scratch.now zero.old one.old }
-    ensures passed { Passed shape.size cap (take (shape.size * 4) f.old) hs.now zs.now os.now 0 (length hs.now) zero.new }
-    ensures passed_2 { Passed shape.size cap (take (shape.size * 4) f.old) hs.now zs.now os.now 1 (length hs.now) one.new }
+    requires rooms { (layers.size * 4 ≤ length f.old) × (layers.size * 4 ≤ length g.old) }
+    requires pass { Pass layers.q layers.size cap (take (layers.size * 4) f.old) (take (layers.size * 4) g.old) layers.hs.now layers.zs.now layers.os.now scratch.now zero.old one.old }
+    ensures with_zero { Passed layers.entry.size cap (take (layers.entry.size * 4) f.old) layers.entry.hs.now layers.entry.zs.now layers.entry.os.now 0 (length layers.entry.hs.now) zero.new }
+    ensures with_one { Passed layers.entry.size cap (take (layers.entry.size * 4) f.old) layers.entry.hs.now layers.entry.zs.now layers.entry.os.now 1 (length layers.entry.hs.now) one.new }
 {
-    let states = shape.size * 4;
+    let states = layers.size * 4;
     pass::pass(
         &mut f[..states],
         &mut g[..states],
         scratch,
-        shape.q,
-        shape.size,
-        hs,
-        zs,
-        os,
+        layers,
         search::CAP,
         zero,
         one,
@@ -105,7 +97,7 @@ fn find_word(
     scratch: &mut [i32],
 ) -> u16
     requires input { Input shape row.now }
-    requires hs_value { hs.now ≡ columns shape.m shape.r }
+    requires columns { hs.now ≡ columns shape.m shape.r }
     requires tables_room { TablesRoom shape zs.old os.old t.old g.old scratch.old }
     requires rooms { Rooms shape t.old places.old f.old g.old × (length word.old ≡ shape.n) }
     ensures { Found shape row.now hs.now zs.new os.new t.new places.new f.new g.new scratch.new word.new result }
@@ -142,12 +134,20 @@ fn soften(
     ensures softened { Softened shape.m zero.new one.new shape.n soft.old soft.new }
 {
     others(shape.size * 4, places, f, g);
-    soft_costs(shape, hs, zs, os, f, g, scratch, zero, one);
+    let layers = FourLayers {
+        q: shape.q,
+        size: shape.size,
+        hs,
+        zs,
+        os,
+    };
+    soft_costs(layers, f, g, scratch, zero, one);
     softs::soft_rows(shape.m, shape.n, zero, one, soft);
 }
 
 // A decoding, with every buffer lent. Marginals, tails and the tables behind the columns take turns in g; the costs of the places and what the others cost
 // in f.
+// The slices stand apart, and in no struct: of a `&mut` field that is lent as `&` a proof knows the length alone afterwards.
 fn decode_with(
     shape: Shape,
     row: &[i16],
@@ -165,7 +165,7 @@ fn decode_with(
     scratch: &mut [i32],
 ) -> i32
     requires input { Input shape row.now }
-    requires hs_value { hs.now ≡ columns shape.m shape.r }
+    requires columns { hs.now ≡ columns shape.m shape.r }
     requires rooms { Rooms shape t.old places.old f.old g.old }
     requires outputs { Outputs shape zs.old os.old zero.old one.old word.old soft.old scratch.old }
     ensures { Decoded shape.m (is_codeword shape.m shape.r) row.now word.new result soft.new }
@@ -194,15 +194,10 @@ fn decode_in(
     ensures { Decoded shape.m (is_codeword shape.m shape.r) row.now word.new result soft.new }
 {
     let columns = spots::columns(shape.m, shape.r);
-    let hs: &[u16] = &columns;
-    let mut zs_room = [0u32; 60];
-    let zs: &mut [u32] = &mut zs_room;
-    let mut os_room = [0u32; 60];
-    let os: &mut [u32] = &mut os_room;
-    let mut zero_room = [0u16; 60];
-    let zero: &mut [u16] = &mut zero_room;
-    let mut one_room = [0u16; 60];
-    let one: &mut [u16] = &mut one_room;
+    let mut zs = [0u32; 60];
+    let mut os = [0u32; 60];
+    let mut zero = [0u16; 60];
+    let mut one = [0u16; 60];
     let n = shape.n;
     let wide = n * 4;
     let states = shape.size * 4;
@@ -210,7 +205,7 @@ fn decode_in(
     decode_with(
         shape,
         row,
-        &hs[..n],
+        &columns[..n],
         &mut zs[..wide],
         &mut os[..wide],
         &mut t[..states],
@@ -225,60 +220,23 @@ fn decode_in(
     )
 }
 
-// A decoding of an accepted call, which leaves in the scratch what it does. The rooms are of the size that its code needs: making the largest would cost
-// the smallest code as much as its search. They are filled with a number that is not 0, which takes a tenth of what zeroing takes; nothing reads them before
-// they are written.
-pub fn decode_accepted(
+// The same with rooms for so many entries of a table, and for so many places. They are filled with a number that is not 0, which takes a tenth of what
+// zeroing takes; nothing reads them before they are written.
+fn decode_sized<const STATES: usize, const PLACES: usize>(
     shape: Shape,
     row: &[i16],
     word: &mut [u8],
     soft: &mut [i16],
     scratch: &mut [i32],
 ) -> i32
-    requires { Accepted shape row.now (length word.old) (length soft.old) (length scratch.old) }
+    requires accepted { Accepted shape row.now (length word.old) (length soft.old) (length scratch.old) }
+    requires sizes { Sizes shape STATES PLACES }
     ensures { Decoded shape.m (is_codeword shape.m shape.r) row.now word.new result soft.new }
 {
-    let count = search::places_of(shape);
-    if count <= 64 {
-        if shape.size <= 16 {
-            let mut t = [search::CAP as u32; 64];
-            let mut places = [search::CAP; 64];
-            let mut f = [search::CAP; 64];
-            let mut g = [search::CAP; 64];
-            return decode_in(
-                shape,
-                row,
-                &mut t,
-                &mut places,
-                &mut f,
-                &mut g,
-                word,
-                soft,
-                scratch,
-            );
-        }
-    }
-    if count <= 336 {
-        let mut t = [search::CAP as u32; 256];
-        let mut places = [search::CAP; 336];
-        let mut f = [search::CAP; 336];
-        let mut g = [search::CAP; 336];
-        return decode_in(
-            shape,
-            row,
-            &mut t,
-            &mut places,
-            &mut f,
-            &mut g,
-            word,
-            soft,
-            scratch,
-        );
-    }
-    let mut t = [search::CAP as u32; 4096];
-    let mut places = [search::CAP; 4096];
-    let mut f = [search::CAP; 4096];
-    let mut g = [search::CAP; 4096];
+    let mut t = [search::CAP as u32; STATES];
+    let mut places = [search::CAP; PLACES];
+    let mut f = [search::CAP; PLACES];
+    let mut g = [search::CAP; PLACES];
     decode_in(
         shape,
         row,
@@ -290,4 +248,26 @@ pub fn decode_accepted(
         soft,
         scratch,
     )
+}
+
+// A decoding of an accepted call, which leaves in the scratch what it does. The rooms are of the size that its code needs: making the largest would cost
+// the smallest code as much as its search.
+pub fn decode_accepted(
+    shape: Shape,
+    row: &[i16],
+    word: &mut [u8],
+    soft: &mut [i16],
+    scratch: &mut [i32],
+) -> i32
+    requires { Accepted shape row.now (length word.old) (length soft.old) (length scratch.old) }
+    ensures { Decoded shape.m (is_codeword shape.m shape.r) row.now word.new result soft.new }
+{
+    let count = search::places_of(shape);
+    if count <= 64 && shape.size <= 16 {
+        decode_sized::<64, 64>(shape, row, word, soft, scratch)
+    } else if count <= 336 {
+        decode_sized::<256, 336>(shape, row, word, soft, scratch)
+    } else {
+        decode_sized::<4096, 4096>(shape, row, word, soft, scratch)
+    }
 }

@@ -1,30 +1,34 @@
 -- What a refusal says of the answer, and that nothing is refused of the elements.
 -- Assumes nothing.
-use Rattle.basics.proofs.Kit.{◌≡◌, ap, ℕ, zero, suc, arith}
+use Rattle.basics.proofs.Kit.{◌≡◌, refl, ap, ℕ}
+use Rattle.std.specs.Prelude.{Result, Ok, Err}
 use borrow.Author.Tests.{ltb-true}
+use Rattle.refusal.specs.declared.Refusal.{Refusal}
+use Rattle.refusal.specs.Refusal.{number_of}
+use Rattle.refusal.proofs.Outcomes.{outcome_done}
+use Rattle.refusal.proofs.Results as R
 use Rattle.refusal.proofs.Tests.{passed}
 use Rattle.field.specs.declared.Element.{Element}
-use Rattle.field.specs.declared.Answer.TheVariants.{Found, Refused}
 use Rattle.field.specs.Within.{Elements, Inside}
-use Rattle.field.specs.Answers.{one_refusal, two_refusal, answer}
+use Rattle.field.specs.Answers.{one_refusal, two_refusal, Answers}
 
-pub refused : (n r m v : ℕ) → r ≡ n → (r ≡ 0 → ⊥) → Refused r ≡ answer n m v
-unfolding answer
-refused zero r m v e f = absurd (f e)
-refused (suc n) r m v e f = ap (λ (x : ℕ). Refused x) e
+module _ {A : Type 0} (a : Result A Refusal) {z : ℕ} (m v : ℕ) (answers : number_of a ≡ z) where
+  pub refused : (e : Refusal) → a ≡ Err e → Answers z m v (Err e)
+  unfolding Answers
+  refused e f = R.refused a z answers e _ _ f tt
 
-pub found : (n r m v u : ℕ) → r ≡ n → r ≡ 0 → u ≡ v → Found (record { m = m; value = u }) ≡ answer n m v
-unfolding answer
-found zero r m v u e z h = ap (λ (x : ℕ). Found (record { m = m; value = x })) h
-found (suc n) r m v u e z h = absurd (omega arith)
+  pub found : (x : A) (u : ℕ) → a ≡ Ok x → u ≡ v → Answers z m v (Ok (record { m = m; value = u }))
+  unfolding Answers
+  found x u f h = outcome_done _ _ _ _ (R.taken a z answers x f) refl (ap (λ (w : ℕ). Ok (record { m = m; value = w })) h)
 
-pub one_good : (a : Element) → one_refusal a ≡ 0 → Inside a.m a.value
-unfolding one_refusal
-one_good a e = let p = passed _ _ _ e in record { width = p.0; inside = ltb-true _ _ (passed _ _ _ p.1).0 }
+module _ {A : Type 0} (a : Result A Refusal) (x : A) (f : a ≡ Ok x) where
+  pub one_good : (e : Element) → number_of a ≡ one_refusal e → Inside e.m e.value
+  unfolding one_refusal
+  one_good e h = let p = passed _ _ _ (R.taken a _ h x f) in record { width = p.0; inside = ltb-true _ _ (passed _ _ _ p.1).0 }
 
-pub two_good : (a b : Element) → two_refusal a b ≡ 0 → Elements a.m a.value b.value
-unfolding two_refusal
-two_good a b e =
-    let p = passed _ _ _ e in
-    let q = passed _ _ _ (passed _ _ _ p.1).1 in
-    record { width = p.0; first = ltb-true _ _ q.0; second = ltb-true _ _ (passed _ _ _ q.1).0 }
+  pub two_good : (d e : Element) → number_of a ≡ two_refusal d e → Elements d.m d.value e.value
+  unfolding two_refusal
+  two_good d e h =
+      let p = passed _ _ _ (R.taken a _ h x f) in
+      let q = passed _ _ _ (passed _ _ _ p.1).1 in
+      record { width = p.0; first = ltb-true _ _ q.0; second = ltb-true _ _ (passed _ _ _ q.1).0 }

@@ -1,12 +1,18 @@
 // The fields of 8 and of 16 elements. An element is a value with its sum, product and inverse; each call refuses by itself
 // and promises, for every input, the answer that specs/Answers.antt gives it. `is_width`, `size`, `add`, `multiply`, `power` and
-// `times_power` are for the crates above, on numbers that are known to be elements.
+// `FieldTables` are for the crates above, on numbers that are known to be elements.
 #![tactic(auto)]
 
 ghost use Rattle.std.specs.Prelude.{◌≡◌, true, ◌-◌, ◌^◌, ◌<◌};
 ghost use Rattle.field.specs.Field.{width_good, xor, times, alpha, inverse};
 ghost use Rattle.field.specs.Within.{Elements, Inside, Nonzero, Log, Tables};
-ghost use Rattle.field.specs.Answers.{one_refusal, two_refusal, made, sum_of, product_of, inverse_of};
+ghost use Rattle.field.specs.Answers.{one_refusal, two_refusal, Made, SumOf, ProductOf, InverseOf};
+ghost use Rattle.refusal.specs.Refusal.{number_of};
+
+mod lookup;
+
+pub use lookup::FieldTables;
+use refusal::{Refusal, ensure};
 
 // The powers of α from exponent 0.
 pub const ANTILOG_3: [u8; 7] = [1, 2, 4, 3, 6, 7, 5];
@@ -25,75 +31,75 @@ pub struct Element {
     pub value: u8,
 }
 
-// An element, or the number of a refusal.
-#[derive(Clone, Copy)]
-pub enum Answer {
-    Found(Element),
-    Refused(u32),
-}
-
 impl Element {
     // The element of the field of 2^m with a number.
-    pub fn new(m: u32, number: u8) -> Answer
-        ensures { result ≡ made m number }
+    pub fn new(m: u32, number: u8) -> Result<Element, Refusal>
+        ensures { Made m number result }
     {
         let made = Element { m, value: number };
-        let refusal = one_refusal(made);
-        if refusal != 0 {
-            return Answer::Refused(refusal);
-        }
-        Answer::Found(made)
+        made.check()?;
+        Ok(made)
     }
 
-    pub fn sum(self, other: Element) -> Answer
-        ensures { result ≡ sum_of self other }
+    pub fn sum(self, other: Element) -> Result<Element, Refusal>
+        ensures { SumOf self other result }
     {
-        let refusal = two_refusal(self, other);
-        if refusal != 0 {
-            return Answer::Refused(refusal);
-        }
-        Answer::Found(Element {
+        self.check_with(other)?;
+        Ok(Element {
             m: self.m,
             value: add(self.value, other.value),
         })
     }
 
-    pub fn product(self, other: Element) -> Answer
-        ensures { result ≡ product_of self other }
+    pub fn product(self, other: Element) -> Result<Element, Refusal>
+        ensures { ProductOf self other result }
     {
-        let refusal = two_refusal(self, other);
-        if refusal != 0 {
-            return Answer::Refused(refusal);
-        }
-        Answer::Found(Element {
+        self.check_with(other)?;
+        Ok(Element {
             m: self.m,
             value: multiply(self.m, self.value, other.value),
         })
     }
 
     // The inverse of 0 is given as 0.
-    pub fn inverse(self) -> Answer
-        ensures { result ≡ inverse_of self }
+    pub fn inverse(self) -> Result<Element, Refusal>
+        ensures { InverseOf self result }
     {
-        let refusal = one_refusal(self);
-        if refusal != 0 {
-            return Answer::Refused(refusal);
-        }
-        Answer::Found(Element {
+        self.check()?;
+        Ok(Element {
             m: self.m,
             value: invert(self.m, self.value),
         })
     }
+
+    // Refused, unless this is an element of a field.
+    #[tactic(auto, using(refusal::proofs::Results::stops, refusal::proofs::Results::goes_on), unfolding(crate::specs::Answers::one_refusal, refusal::specs::Refusal::unless))]
+    fn check(self) -> Result<(), Refusal>
+        ensures { number_of result ≡ one_refusal self }
+    {
+        ensure(is_width(self.m), Refusal::Code)?;
+        ensure(self.value < size(self.m), Refusal::Symbol)
+    }
+
+    // Refused, unless these are two elements of one field.
+    #[tactic(auto, using(refusal::proofs::Results::stops, refusal::proofs::Results::goes_on), unfolding(crate::specs::Answers::two_refusal, refusal::specs::Refusal::unless))]
+    fn check_with(self, other: Element) -> Result<(), Refusal>
+        ensures { number_of result ≡ two_refusal self other }
+    {
+        ensure(is_width(self.m), Refusal::Code)?;
+        ensure(self.m == other.m, Refusal::Code)?;
+        let top = size(self.m);
+        ensure(self.value < top, Refusal::Symbol)?;
+        ensure(other.value < top, Refusal::Symbol)
+    }
 }
 
 // Whether there is a field of 2^m here.
+#[tactic(auto, unfolding(crate::specs::Field::width_good))]
 pub fn is_width(m: u32) -> bool
     ensures { result ≡ width_good m }
 {
-    if m < 3 {
-        return false;
-    }
-    m <= 4
+    3 <= m && m <= 4
 }
 
 // How many elements a field has: 2^m.
@@ -102,29 +108,6 @@ pub fn size(m: u32) -> u8
     ensures { result ≡ 2 ^ m }
 {
     if m == 3 { 8 } else { 16 }
-}
-
-// What a call on one element is refused by, 0 for nothing.
-fn one_refusal(e: Element) -> u32
-    ensures { result ≡ one_refusal e }
-{
-    if !is_width(e.m) {
-        return 1;
-    }
-    refusal::unless(e.value < size(e.m), 6, 0)
-}
-
-// What a call on two elements is refused by, 0 for nothing.
-fn two_refusal(a: Element, b: Element) -> u32
-    ensures { result ≡ two_refusal a b }
-{
-    if !is_width(a.m) {
-        return 1;
-    }
-    let top = size(a.m);
-    let second = refusal::unless(b.value < top, 6, 0);
-    let first = refusal::unless(a.value < top, 6, second);
-    refusal::unless(a.m == b.m, 1, first)
 }
 
 // The sum of two elements.
@@ -171,24 +154,6 @@ pub fn multiply(m: u32, a: u8, b: u8) -> u8
         return 0;
     }
     power(m, log(m, a) + log(m, b))
-}
-
-// An element times α^t, t below 2^m - 1, by the tables of its field: exponents add, and come round once at most.
-pub fn times_power(m: u32, logs: &[u8], antilogs: &[u8], a: u8, t: usize) -> u8
-    requires tables { Tables m logs.now antilogs.now }
-    requires a_bound { (a < 2 ^ m) × (t < 2 ^ m - 1) }
-    ensures { result ≡ times m a (alpha m t) }
-{
-    if a == 0 {
-        return 0;
-    }
-    let i = a as usize;
-    let e = (logs[i] as usize) + t;
-    if e < antilogs.len() {
-        return antilogs[e];
-    }
-    let k = e - antilogs.len();
-    antilogs[k]
 }
 
 // The inverse of an element: the rest of a turn from its exponent; that of 0 is itself.

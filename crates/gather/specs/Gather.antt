@@ -12,6 +12,11 @@ pub record Priced (cost : ℕ → ℕ) (places : List ℕ) (n : ℕ) (f : List �
   pub long : length f ≡ length places
   pub costs : (p : ℕ) → p < n → get_or f p 0 ≡ cost (get_or places p 0)
 
+-- what `answer` allows at the entry of each of the first n places
+pub record Answered (answer : ℕ → ℕ → Type 0) (places : List ℕ) (n : ℕ) (f : List ℕ) : Type 0 where
+  pub long : length f ≡ length places
+  pub answers : (p : ℕ) → p < n → answer (get_or places p 0) (get_or f p 0)
+
 abbrev pub Gathered : (cost : ℕ → ℕ) → (places f : List ℕ) → Type 0
 Gathered cost places f = Priced cost places (length places) f
 

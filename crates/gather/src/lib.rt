@@ -2,28 +2,21 @@
 // functions are for the crates above; their promises cite specs/Gather.antt.
 #![tactic(auto)]
 
-ghost use Rattle.std.specs.Prelude.{◌≡◌, ℕ, ◌+◌, ◌/◌, ◌<◌, ◌≤◌, min, [], length, get_or, set, take};
-ghost use Rattle.gather.specs.Gather.{key_cost, Priced, Gathered, Lowered, Scattered, LessOwn, Sixteens, Scatter};
+ghost use Rattle.std.specs.Prelude.{◌≡◌, ℕ, ◌+◌, ◌/◌, ◌%◌, ◌<◌, ◌≤◌, min, [], length, get_or, set, take};
+ghost use Rattle.gather.specs.Gather.{key_cost, Answered, Gathered, Lowered, Scattered, LessOwn, Sixteens, Scatter};
 
-// The cost in entry s of a table of keys.
-fn cost_at(t: &[u32], s: u16) -> u16
-    requires { s < length t.now }
-    ensures { result ≡ key_cost t.now s }
+// What each place costs, where `cost` says what the entry that it stands for does. The compiler writes a loop of sixteen out.
+fn gather_by<F: Fn(u16) -> u16>(cost: F, places: &[u16], f: &mut [u16])
+    requires in_sixteens { length places.now % 16 ≡ 0 }
+    requires answers_each { (p : ℕ) → p < length places.now → F.pre cost (get_or places.now p 0) }
+    requires f_len { length f.old ≡ length places.now }
+    ensures { Answered (F.post cost) places.now (length places.now) f.new }
 {
-    let i = s as usize;
-    (t[i] / 65536) as u16
-}
-
-// What sixteen places cost, from place p on. The compiler writes a loop of sixteen out.
-fn gather_sixteen(t: &[u32], places: &[u16], p: usize, f: &mut [u16])
-    requires sixteens { Sixteens (length t.now) places.now × (p + 16 ≤ length places.now) }
-    requires priced { Priced (key_cost t.now) places.now p f.old }
-    ensures { Priced (key_cost t.now) places.now (p + 16) f.new }
-{
-    let mut x = 0;
-    while x < 16 {
-        f[p + x] = cost_at(t, places[p + x]);
-        x += 1;
+    for row in 0..places.len() / 16 {
+        let p = row * 16;
+        for x in 0..16 {
+            f[p + x] = cost(places[p + x]);
+        }
     }
 }
 
@@ -32,36 +25,15 @@ pub fn gather(t: &[u32], places: &[u16], f: &mut [u16])
     requires { Sixteens (length t.now) places.now × (length f.old ≡ length places.now) }
     ensures { Gathered (key_cost t.now) places.now f.new }
 {
-    let mut p = 0;
-    while p < places.len() {
-        gather_sixteen(t, places, p, f);
-        p += 16;
-    }
+    gather_by(|s| (t[s as usize] / 65536) as u16, places, f);
 }
 
-// The same from a table of costs: sixteen places, and all.
-fn gather_sixteen_costs(t: &[u16], places: &[u16], p: usize, f: &mut [u16])
-    requires sixteens { Sixteens (length t.now) places.now × (p + 16 ≤ length places.now) }
-    requires priced { Priced (λ x. get_or t.now x 0) places.now p f.old }
-    ensures { Priced (λ x. get_or t.now x 0) places.now (p + 16) f.new }
-{
-    let mut x = 0;
-    while x < 16 {
-        let i = places[p + x] as usize;
-        f[p + x] = t[i];
-        x += 1;
-    }
-}
-
+// The same from a table of costs.
 pub fn gather_costs(t: &[u16], places: &[u16], f: &mut [u16])
     requires { Sixteens (length t.now) places.now × (length f.old ≡ length places.now) }
     ensures { Gathered (λ x. get_or t.now x 0) places.now f.new }
 {
-    let mut p = 0;
-    while p < places.len() {
-        gather_sixteen_costs(t, places, p, f);
-        p += 16;
-    }
+    gather_by(|s| t[s as usize], places, f);
 }
 
 // Entry s of a table lowered to x.
@@ -75,28 +47,12 @@ fn lower_at(a: &mut [u16], s: u16, x: u16)
 
 // What each place costs itself taken off.
 fn less_own(f: &[u16], g: &mut [u16])
-    requires f_len { length f.now ≡ length g.old }
-    requires by_index { (p : ℕ) → p < length g.old → get_or f.now p 0 ≤ get_or g.old p 0 }
+    requires same_length { length f.now ≡ length g.old }
+    requires own_within { (p : ℕ) → p < length g.old → get_or f.now p 0 ≤ get_or g.old p 0 }
     ensures { LessOwn f.now g.old (length g.old) g.new }
 {
-    let mut p = 0;
-    while p < g.len() {
-        g[p] = g[p] - f[p];
-        p += 1;
-    }
-}
-
-// Sixteen entries of a table lowered, to the numbers of the places from p on that stand for them.
-fn lower_sixteen(g: &[u16], places: &[u16], p: usize, a: &mut [u16], cap: u16)
-    requires sixteens { Sixteens (length a.old) places.now × (length g.now ≡ length places.now) × (p + 16 ≤ length places.now) }
-    requires lowered { Lowered cap [] g.now places.now p a.old }
-    ensures lowered_2 { Lowered cap [] g.now places.now (p + 16) a.new }
-    ensures a_len_unchanged { length a.new ≡ length a.old }
-{
-    let mut x = 0;
-    while x < 16 {
-        lower_at(a, places[p + x], g[p + x]);
-        x += 1;
+    for p in 0..g.len() {
+        g[p] -= f[p];
     }
 }
 
@@ -104,10 +60,9 @@ fn lower_sixteen(g: &[u16], places: &[u16], p: usize, a: &mut [u16], cap: u16)
 pub fn reset(g: &mut [u16], x: u16)
     ensures { (length g.new ≡ length g.old) × ((p : ℕ) → p < length g.old → get_or g.new p 0 ≡ x) }
 {
-    let mut p = 0;
-    while p < g.len() {
-        g[p] = x;
-        p += 1;
+    // tried with the slice's `fill`, which takes more instructions
+    for one in g.iter_mut() {
+        *one = x;
     }
 }
 
@@ -118,10 +73,11 @@ fn lower_places(g: &[u16], places: &[u16], a: &mut [u16], cap: u16)
     ensures a_len_unchanged { length a.new ≡ length a.old }
 {
     reset(a, cap);
-    let mut p = 0;
-    while p < places.len() {
-        lower_sixteen(g, places, p, a, cap);
-        p += 16;
+    for row in 0..places.len() / 16 {
+        let p = row * 16;
+        for x in 0..16 {
+            lower_at(a, places[p + x], g[p + x]);
+        }
     }
 }
 

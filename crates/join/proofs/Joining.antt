@@ -4,15 +4,11 @@ use Rattle.basics.proofs.Kit.{◌≡◌, sym, ap, ap₂, ◌∙◌, true, List, 
 use native.Mathlib.Nat.{not-suc-le-zero, le_of_suc-le-suc, eq-or-lt_of_le}
 use mathlib.Core.Logic.{◌⊎◌, inl, inr}
 use lib.Seq.{ext_get_or, get_or-take, length-take-le}
-use Rattle.refusal.specs.Refusal.{first, Outcome}
 use Rattle.field.specs.Field.{width_good, xor}
 use Rattle.field.proofs.Tests.{and_l, to_T}
 use Rattle.field.proofs.Xor as X
 use Rattle.code.specs.Code.{long, symbols_good, is_codeword, accepted}
 use Rattle.code.specs.Bits.{bits_of, row_long}
-use Rattle.code.specs.declared.Chosen.{Chosen}
-use Rattle.code.specs.Within.{ChosenSays}
-use Rattle.code.proofs.Promise.{as_chosen}
 use Rattle.code.proofs.Accepted.{accepted_parts, width_small}
 use Rattle.code.proofs.Words.{Below, below, good, widen}
 use Rattle.split.specs.Split.{layer, syndrome, syndromes, cosets, valid, all_below, Binary, Leader, sum}
@@ -22,7 +18,7 @@ use Rattle.split.proofs.Glue.{glued_right}
 use Rattle.split.proofs.Columns.{syndrome_sum}
 use Rattle.split.proofs.Syndromes.{size_small, place_at, places}
 use Rattle.split.proofs.Leaders.{the_leader, the_leader_leads, one_leader}
-use Rattle.join.specs.Calls.{part, all_bch, in_range, JoinSays}
+use Rattle.join.specs.Calls.{part, all_bch, in_range}
 use Rattle.join.specs.Within.{with_layer, Joined}
 use Rattle.join.proofs.Raising.{raised_length, raised_below, raised_here, raised_others}
 use Rattle.join.proofs.Bch.{Bch, word_of}
@@ -114,9 +110,3 @@ symbols_small m ws w g = L.all_of 16 ws (widen (size_small m w) ws (below m ws (
 
 pub none_written : (m r : ℕ) (ss bs ws : List ℕ) → length ws ≡ long m → all_below 1 ws ≡ true → Written m r ss bs ws 0
 none_written m r ss bs ws n z = record { count = n; small = L.below 1 ws (to_T z); layers = λ j h. absurd (not-suc-le-zero h) }
-
--- what a join says of the chosen m and r it says of those that were asked for
-pub join_as : {z m r : ℕ} {a : Chosen} → ChosenSays z m r a → (ss bs : List ℕ) (x : ℕ) (o p : List ℕ) →
-    JoinSays a.number a.shape.m a.shape.r ss bs x o p → JoinSays z m r ss bs x o p
-unfolding JoinSays first Outcome
-join_as s ss bs x o p = as_chosen (λ z m r. JoinSays z m r ss bs x o p) (λ n m r k l e. e) s

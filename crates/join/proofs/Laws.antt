@@ -196,12 +196,12 @@ parts_differ z m r ss ts bs ds o q ws a l k i j = one_split m r ws ss ts bs ds (
 
 pub joined_split : JoinedSplit
 unfolding JoinedSplit SplitSays
-joined_split z m r ss bs o ws q u a g l j n s =
+joined_split z m r answer ss ts bs o ws q u g l j n s =
     let c = codeword_parts m r ws (nothing z m r ss bs o ws g l j).1.codeword in
     let t : member_refusal m r ws (length q) (row_long m) ≡ 0 =
     member_taken m r ws (length q) (row_long m) (record { count = c.count; room = n; codeword = (nothing z m r ss bs o ws g l j).1.codeword }) (good m ws c.symbols) in
-    let d : (a.number ≡ 0) × SplitRight m r ws a.configuration u = outcome_taken _ _ _ _ (first_free _ _ (chosen z m r ss bs o ws g l j) t) s in
-    let e = one_split m r ws a.configuration ss u bs d.1 (back z m r ss bs o ws g l j) in
+    let d : (answer ≡ 0) × SplitRight m r ws ts u = outcome_taken _ _ _ _ (first_free _ _ (chosen z m r ss bs o ws g l j) t) s in
+    let e = one_split m r ws ts ss u bs d.1 (back z m r ss bs o ws g l j) in
     (d.0, e.0, e.1)
 
 -- WHAT WAS SPLIT JOINS to the codeword
@@ -251,11 +251,11 @@ module _ (m r : ℕ) (ws ss bs : List ℕ) (a : accepted m r ≡ true) (c : is_c
 
 pub split_joined : SplitJoined
 unfolding SplitJoined SplitSays JoinSays JoinedOne
-split_joined z m r answer ws q bs o u a g e s n j =
-    let f : (first z (member_refusal m r ws (length q) (row_long m)) ≡ 0) × SplitRight m r ws a.configuration bs = outcome_zero _ _ _ (rw e at s) in
+split_joined z m r answer ws ss q bs o u g s n j =
+    let f : (first z (member_refusal m r ws (length q) (row_long m)) ≡ 0) × SplitRight m r ws ss bs = outcome_zero _ _ _ s in
     let h = first_none _ _ f.0 in
     let y = g h.0 in
     let c = (member_accepts m r ws (length q) (row_long m) h.1).codeword in
-    let t = join_taken m r a.configuration bs (length o) (its_taken m r ws a.configuration bs y c f.1 (length o) n) in
-    let d : (answer ≡ 0) × JoinRight m r a.configuration bs u = outcome_taken _ _ _ _ (first_free _ _ h.0 t) j in
-    (d.0, joined_one m r a.configuration bs u ws d.1 (joins m r ws a.configuration bs y c f.1))
+    let t = join_taken m r ss bs (length o) (its_taken m r ws ss bs y c f.1 (length o) n) in
+    let d : (answer ≡ 0) × JoinRight m r ss bs u = outcome_taken _ _ _ _ (first_free _ _ h.0 t) j in
+    (d.0, joined_one m r ss bs u ws d.1 (joins m r ws ss bs y c f.1))

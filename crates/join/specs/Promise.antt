@@ -3,7 +3,6 @@
 use Rattle.std.specs.Prelude.{◌≡◌, true, List, ℕ, eqb, length, take}
 use Rattle.code.specs.Code.{long, is_codeword, accepted}
 use Rattle.code.specs.Bits.{row_long}
-use Rattle.split.specs.declared.Splitting.{Splitting}
 use Rattle.split.specs.Split.{syndrome, padded, Configuration, Binary}
 use Rattle.split.specs.Calls.{SplitSays}
 use Rattle.join.specs.Calls.{is_configuration, JoinRight, JoinSays}
@@ -30,14 +29,14 @@ JoinedCodeword = (z m r : ℕ) (ss bs o ws : List ℕ) → JoinSays z m r ss bs 
 -- (Laws) splitting what was joined, by the same choice of a code, gives the configuration, an array of four places, and the BCH words back
 unfoldable pub JoinedSplit : Type 0
 JoinedSplit =
-    (z m r : ℕ) (ss bs o ws q u : List ℕ) (a : Splitting) → (z ≡ 0 → accepted m r ≡ true) → length ss ≡ 4 → JoinSays z m r ss bs 0 o ws →
-    length q ≡ row_long m → SplitSays z m r ws a q u → (a.number ≡ 0) × (a.configuration ≡ ss) × (u ≡ bs)
+    (z m r answer : ℕ) (ss ts bs o ws q u : List ℕ) → (z ≡ 0 → accepted m r ≡ true) → length ss ≡ 4 → JoinSays z m r ss bs 0 o ws →
+    length q ≡ row_long m → SplitSays z m r ws answer ts q u → (answer ≡ 0) × (ts ≡ ss) × (u ≡ bs)
 
 -- (Laws) joining what a codeword was split into gives the codeword back
 unfoldable pub SplitJoined : Type 0
 SplitJoined =
-    (z m r answer : ℕ) (ws q bs o u : List ℕ) (a : Splitting) → (z ≡ 0 → accepted m r ≡ true) → a.number ≡ 0 → SplitSays z m r ws a q bs →
-    length o ≡ long m → JoinSays z m r a.configuration bs answer o u → (answer ≡ 0) × (u ≡ ws)
+    (z m r answer : ℕ) (ws ss q bs o u : List ℕ) → (z ≡ 0 → accepted m r ≡ true) → SplitSays z m r ws 0 ss q bs → length o ≡ long m →
+    JoinSays z m r ss bs answer o u → (answer ≡ 0) × (u ≡ ws)
 
 -- (Laws) different parts never join to the same word
 unfoldable pub PartsDiffer : Type 0

@@ -1,19 +1,19 @@
 -- What the parts of `join` ask and promise. Assumes nothing: these are definitions.
 use Rattle.std.specs.Prelude.{◌≡◌, true, List, [], ◌∷◌, ℕ, ◌*◌, ◌%◌, ◌^◌, eqb, length, take}
-use Rattle.refusal.specs.Refusal.{unless, first}
+use Rattle.refusal.specs.Refusal.{unless}
 use Rattle.field.specs.Field.{xor}
-use Rattle.code.specs.declared.Shape.{Shape}
 use Rattle.code.specs.Code.{long, symbols_good, is_codeword}
 use Rattle.code.specs.Bits.{row_long}
-use Rattle.code.specs.Within.{Coded}
 use Rattle.split.specs.Split.{valid, all_below}
 use Rattle.join.specs.Calls.{all_bch, in_range, JoinRight}
 
--- what is refused before anything is joined: by the lengths, then by the contents
+-- what is refused before anything is joined
 unfoldable pub parts_refusal : (m r : ℕ) → (configuration words : List ℕ) → (output : ℕ) → ℕ
 parts_refusal m r ss bs o =
-    first (unless (eqb (length bs) (row_long m)) 3 (unless (eqb o (long m)) 4 0))
-    (first (unless (all_bch m 0 m r bs) 18 0) (unless (in_range m r ss) 19 0))
+    unless (eqb (length bs) (row_long m)) 3
+    (unless (eqb o (long m)) 4
+    (unless (all_bch m 0 m r bs) 18
+    (unless (in_range m r ss) 19 0)))
 
 -- bits are put in as layer j
 unfoldable pub with_layer : (j : ℕ) → (word bits : List ℕ) → List ℕ
@@ -21,18 +21,12 @@ with_layer j [] bs = []
 with_layer j (c ∷ cs) [] = []
 with_layer j (c ∷ cs) (b ∷ bs) = xor c (b * 2 ^ j % 256) ∷ with_layer j cs bs
 
--- n values for each layer
-pub record WordsOf (shape : Shape) (words : List ℕ) : Type 0 where
-  pub coded : Coded shape
-  pub count : length words ≡ row_long shape.m
-
 -- BCH words, a configuration in range, and zeros to be written over
-pub record Joinable (shape : Shape) (configuration words zeros : List ℕ) : Type 0 where
-  pub coded : Coded shape
-  pub count : length words ≡ row_long shape.m
-  pub are_bch : all_bch shape.m 0 shape.m shape.r words ≡ true
-  pub inside : in_range shape.m shape.r configuration ≡ true
-  pub room : length zeros ≡ long shape.m
+pub record Joinable (m r : ℕ) (configuration words zeros : List ℕ) : Type 0 where
+  pub count : length words ≡ row_long m
+  pub are_bch : all_bch m 0 m r words ≡ true
+  pub inside : in_range m r configuration ≡ true
+  pub room : length zeros ≡ long m
   pub are_zero : all_below 1 zeros ≡ true
 
 -- the word of these: it is a codeword exactly when the configuration is valid, and then the right one

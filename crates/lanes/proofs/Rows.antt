@@ -1,10 +1,12 @@
 -- Rows of four, one or two side by side: their lanes, and what stands in a list of rows after some are written anew.
 -- Assumes nothing.
-use Rattle.basics.proofs.Kit.{◌≡◌, refl, ◌∙◌, List, ℕ, zero, suc, ◌+◌, ◌-◌, ◌*◌, ◌≤◌, ◌<◌, arith, length, get_or, set}
+use Rattle.basics.proofs.Kit.{◌≡◌, refl, sym, ap, ◌∙◌, List, [], ◌∷◌, ◌++◌, ℕ, zero, suc, ◌+◌, ◌-◌, ◌*◌, ◌≤◌, ◌<◌, arith, length, get_or, set, take, drop}
 use mathlib.Core.Path.{subst}
 use native.Mathlib.Decide.{dec_le}
-use lib.ListN.{length-set}
-use lib.Seq.{get_or-set_same, get_or-set_other}
+use lib.ListN.{length-append, length-drop, get_or-append}
+use lib.Seq.{get_or-take, get_or-drop, get_or-append_right, length-take-le}
+use native.Mathlib.Numerals.{unary_clauses}
+use Rattle.std.specs.List.{splice}
 use Rattle.lanes.specs.Lanes.{entry, lane, lanes, row, beside, rows, twofold, eight, sum, put, put_two}
 
 -- a rule at each lane
@@ -21,7 +23,11 @@ lanes_at f = four (λ j. lane (lanes f) j ≡ f j) refl refl refl refl
 -- the lanes of a row
 pub row_at : (t : List ℕ) (s j : ℕ) → j < 4 → lane (row t s) j ≡ entry t s j
 unfolding row
-row_at t s = lanes_at (entry t s)
+row_at t s j lj = get_or-take 4 (drop (s * 4) t) j 0 lj ∙ get_or-drop (s * 4) t j 0
+
+pub length_row : {A : Type 0} (t : List A) (s : ℕ) → s * 4 + 4 ≤ length t → length (row t s) ≡ 4
+unfolding row
+length_row t s l = length-take-le 4 (drop (s * 4) t) (omega (arith, length-drop (s * 4) t))
 
 -- a rule at each of eight lanes, from the first four and the last four
 pub both {ℓ} : (P : ℕ → Type ℓ) → ((j : ℕ) → j < 4 → P j) → ((j : ℕ) → j < 4 → P (4 + j)) → (j : ℕ) → j < 8 → P j
@@ -63,60 +69,96 @@ pub sum_at : (a b : List ℕ) (j : ℕ) → j < 8 → lane (sum a b) j ≡ lane 
 unfolding sum
 sum_at a b = eight_at (λ j. lane a j + lane b j)
 
-module _ (t : List ℕ) (s : ℕ) (r : List ℕ) where
-  abbrev s1 : List ℕ
-  s1 = set t (s * 4 + 0) (lane r 0)
-
-  abbrev s2 : List ℕ
-  s2 = set s1 (s * 4 + 1) (lane r 1)
-
-  abbrev s3 : List ℕ
-  s3 = set s2 (s * 4 + 2) (lane r 2)
+-- a row written anew: its length, the places around it and its lanes
+module _ (t : List ℕ) (s : ℕ) (r : List ℕ) (inside : s * 4 + 4 ≤ length t) (four_long : length r ≡ 4) where
+  front_long : length (take (s * 4) t) ≡ s * 4
+  front_long = length-take-le (s * 4) t (omega arith)
 
   pub length_put : length (put t s r) ≡ length t
   unfolding put
-  length_put = simp length-set
+  length_put = simp (length-append, length-drop) (omega (arith, front_long))
 
   pub put_other : (k : ℕ) → (s * 4 ≤ k → k < s * 4 + 4 → ⊥) → get_or (put t s r) k 0 ≡ get_or t k 0
   unfolding put
-  put_other k n =
-      get_or-set_other s3 (s * 4 + 3) k (lane r 3) 0 (λ e. n (omega arith) (omega arith))
-      ∙ get_or-set_other s2 (s * 4 + 2) k (lane r 2) 0 (λ e. n (omega arith) (omega arith))
-      ∙ get_or-set_other s1 (s * 4 + 1) k (lane r 1) 0 (λ e. n (omega arith) (omega arith))
-      ∙ get_or-set_other t (s * 4 + 0) k (lane r 0) 0 (λ e. n (omega arith) (omega arith))
+  put_other k n = go (dec_le (s * 4) k)
+    where
+      rest : List ℕ
+      rest = drop (s * 4 + 4) t
 
-  pub put_at : s * 4 + 4 ≤ length t → (j : ℕ) → j < 4 → entry (put t s r) s j ≡ lane r j
+      go : Dec (s * 4 ≤ k) → get_or (take (s * 4) t ++ (r ++ rest)) k 0 ≡ get_or t k 0
+      go (no a) = get_or-append (take (s * 4) t) (r ++ rest) 0 k (omega (arith, front_long)) ∙ get_or-take (s * 4) t k 0 (omega arith)
+      go (yes a) =
+          let past : s * 4 + 4 ≤ k = omega arith in
+          let here : s * 4 + 4 + (k - length (take (s * 4) t) - length r) ≡ k = omega (arith, front_long) in
+          get_or-append_right (take (s * 4) t) (r ++ rest) k 0 (omega (arith, front_long))
+          ∙ get_or-append_right r rest (k - length (take (s * 4) t)) 0 (omega (arith, front_long))
+          ∙ get_or-drop (s * 4 + 4) t (k - length (take (s * 4) t) - length r) 0
+          ∙ ap (λ (i : ℕ). get_or t i 0) here
+
+  pub put_at : (j : ℕ) → j < 4 → entry (put t s r) s j ≡ lane r j
   unfolding put
-  put_at l =
-      four (λ j. entry (put t s r) s j ≡ lane r j)
-      (get_or-set_other s3 (s * 4 + 3) (s * 4 + 0) (lane r 3) 0 (λ e. omega arith)
-      ∙ get_or-set_other s2 (s * 4 + 2) (s * 4 + 0) (lane r 2) 0 (λ e. omega arith)
-      ∙ get_or-set_other s1 (s * 4 + 1) (s * 4 + 0) (lane r 1) 0 (λ e. omega arith)
-      ∙ get_or-set_same t (s * 4 + 0) (lane r 0) 0 (omega arith))
-      (get_or-set_other s3 (s * 4 + 3) (s * 4 + 1) (lane r 3) 0 (λ e. omega arith)
-      ∙ get_or-set_other s2 (s * 4 + 2) (s * 4 + 1) (lane r 2) 0 (λ e. omega arith)
-      ∙ get_or-set_same s1 (s * 4 + 1) (lane r 1) 0 (simp length-set (omega arith)))
-      (get_or-set_other s3 (s * 4 + 3) (s * 4 + 2) (lane r 3) 0 (λ e. omega arith)
-      ∙ get_or-set_same s2 (s * 4 + 2) (lane r 2) 0 (simp length-set (omega arith)))
-      (get_or-set_same s3 (s * 4 + 3) (lane r 3) 0 (simp length-set (omega arith)))
+  put_at j lj =
+      let here : s * 4 + j - length (take (s * 4) t) ≡ j = omega (arith, front_long) in
+      get_or-append_right (take (s * 4) t) (r ++ drop (s * 4 + 4) t) (s * 4 + j) 0 (omega (arith, front_long))
+      ∙ get_or-append r (drop (s * 4 + 4) t) 0 (s * 4 + j - length (take (s * 4) t)) (omega arith)
+      ∙ ap (λ (i : ℕ). get_or r i 0) here
 
-module _ (t : List ℕ) (s : ℕ) (r : List ℕ) where
+-- four places written one by one
+four_set : {A : Type 0} (t : List A) (k : ℕ) (a b c d : A) → k + 4 ≤ length t →
+    set (set (set (set t k a) (suc k) b) (suc (suc k)) c) (suc (suc (suc k))) d ≡ splice t k (suc (suc (suc (suc k)))) (a ∷ b ∷ c ∷ d ∷ [])
+four_set [] k a b c d l = absurd (omega arith)
+four_set (x ∷ []) zero a b c d l = absurd (omega arith)
+four_set (x ∷ y ∷ []) zero a b c d l = absurd (omega arith)
+four_set (x ∷ y ∷ z ∷ []) zero a b c d l = absurd (omega arith)
+four_set (x ∷ y ∷ z ∷ w ∷ t) zero a b c d l = refl
+four_set {A} (x ∷ t) (suc k) a b c d l = ap (λ (u : List A). x ∷ u) (four_set t k a b c d (omega arith))
+
+four_read : {A : Type 0} (r : List A) (a b c d : A) → length r ≡ 4 → get_or r 0 a ∷ get_or r 1 b ∷ get_or r 2 c ∷ get_or r 3 d ∷ [] ≡ r
+four_read [] a b c d l = absurd (omega arith)
+four_read (x ∷ []) a b c d l = absurd (omega arith)
+four_read (x ∷ y ∷ []) a b c d l = absurd (omega arith)
+four_read (x ∷ y ∷ z ∷ []) a b c d l = absurd (omega arith)
+four_read (x ∷ y ∷ z ∷ w ∷ []) a b c d l = refl
+four_read (x ∷ y ∷ z ∷ w ∷ v ∷ r) a b c d l = absurd (omega arith)
+
+-- a row given by its lanes
+pub lanes_is : (r : List ℕ) (f : ℕ → ℕ) → length r ≡ 4 → ((j : ℕ) → j < 4 → lane r j ≡ f j) → r ≡ lanes f
+lanes_is r f l e = sym (four_read r 0 0 0 0 l) ∙ rw (e 0 (omega arith), e 1 (omega arith), e 2 (omega arith), e 3 (omega arith))
+
+-- a row written number by number
+pub put_is : {A : Type 0} (t : List A) (s : ℕ) (r : List A) (a b c d : A) → s * 4 + 4 ≤ length t → length r ≡ 4 →
+    set (set (set (set t (s * 4 + 0) (get_or r 0 a)) (s * 4 + 1) (get_or r 1 b)) (s * 4 + 2) (get_or r 2 c)) (s * 4 + 3) (get_or r 3 d) ≡ put t s r
+unfolding put
+put_is t s r a b c d l e = simp unary_clauses (four_set t (s * 4) (get_or r 0 a) (get_or r 1 b) (get_or r 2 c) (get_or r 3 d) l ∙ ap (splice t (s * 4) (suc (suc (suc (suc (s * 4)))))) (four_read r a b c d e))
+
+-- two rows written anew
+module _ (t : List ℕ) (s : ℕ) (r : List ℕ) (inside : s * 4 + 8 ≤ length t) where
+  abbrev first : List ℕ
+  first = lanes (lane r)
+
   abbrev second : List ℕ
   second = lanes (λ j. lane r (4 + j))
 
+  length_first : length (put t s first) ≡ length t
+  length_first = length_put t s first (omega arith) refl
+
   pub length_put_two : length (put_two t s r) ≡ length t
   unfolding put_two
-  length_put_two = length_put (put t s r) (s + 1) second ∙ length_put t s r
+  length_put_two = length_put (put t s first) (s + 1) second (omega (arith, length_first)) refl ∙ length_first
 
   pub put_two_other : (k : ℕ) → (s * 4 ≤ k → k < s * 4 + 8 → ⊥) → get_or (put_two t s r) k 0 ≡ get_or t k 0
   unfolding put_two
   put_two_other k n =
-      put_other (put t s r) (s + 1) second k (λ a b. n (omega arith) (omega arith)) ∙ put_other t s r k (λ a b. n (omega arith) (omega arith))
+      put_other (put t s first) (s + 1) second (omega (arith, length_first)) refl k (λ a b. n (omega arith) (omega arith))
+      ∙ put_other t s first (omega arith) refl k (λ a b. n (omega arith) (omega arith))
 
-  pub put_two_first : s * 4 + 8 ≤ length t → (j : ℕ) → j < 4 → entry (put_two t s r) s j ≡ lane r j
+  pub put_two_first : (j : ℕ) → j < 4 → entry (put_two t s r) s j ≡ lane r j
   unfolding put_two
-  put_two_first l j lj = put_other (put t s r) (s + 1) second (s * 4 + j) (λ a b. omega arith) ∙ put_at t s r (omega arith) j lj
+  put_two_first j lj =
+      put_other (put t s first) (s + 1) second (omega (arith, length_first)) refl (s * 4 + j) (λ a b. omega arith)
+      ∙ put_at t s first (omega arith) refl j lj
+      ∙ lanes_at (lane r) j lj
 
-  pub put_two_second : s * 4 + 8 ≤ length t → (j : ℕ) → j < 4 → entry (put_two t s r) (s + 1) j ≡ lane r (4 + j)
+  pub put_two_second : (j : ℕ) → j < 4 → entry (put_two t s r) (s + 1) j ≡ lane r (4 + j)
   unfolding put_two
-  put_two_second l j lj = put_at (put t s r) (s + 1) second (omega (arith, length_put t s r)) j lj ∙ lanes_at (λ j. lane r (4 + j)) j lj
+  put_two_second j lj = put_at (put t s first) (s + 1) second (omega (arith, length_first)) refl j lj ∙ lanes_at (λ j. lane r (4 + j)) j lj

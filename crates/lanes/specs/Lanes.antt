@@ -1,6 +1,7 @@
 -- Four tables in one list, row by row, so that one step treats four layers at once: entry s of table j stands at s * 4 + j. Rows of four numbers, two
 -- of them side by side, and what is done lane by lane. Assumes nothing: these are definitions.
-use Rattle.std.specs.Prelude.{List, [], ◌∷◌, ℕ, ◌+◌, ◌*◌, ◌^◌, ◌<◌, get_or, set}
+use Rattle.std.specs.Prelude.{List, [], ◌∷◌, ℕ, ◌+◌, ◌*◌, ◌^◌, ◌<◌, get_or, set, take, drop}
+use Rattle.std.specs.List.{splice}
 
 abbrev pub entry : List ℕ → ℕ → ℕ → ℕ
 entry t s j = get_or t (s * 4 + j) 0
@@ -13,16 +14,16 @@ abbrev pub lanes : (ℕ → ℕ) → List ℕ
 lanes f = f 0 ∷ f 1 ∷ f 2 ∷ f 3 ∷ []
 
 -- row s of a list of rows
-unfoldable pub row : List ℕ → ℕ → List ℕ
-row t s = lanes (entry t s)
+unfoldable pub row : {A : Type 0} → List A → ℕ → List A
+row t s = take 4 (drop (s * 4) t)
 
 -- four places written from `at` on
 abbrev pub put_four : {A : Type 0} → List A → (at : ℕ) → (ℕ → A) → List A
 put_four w at f = set (set (set (set w (at + 0) (f 0)) (at + 1) (f 1)) (at + 2) (f 2)) (at + 3) (f 3)
 
 -- row s of a list of rows written anew
-unfoldable pub put : List ℕ → ℕ → List ℕ → List ℕ
-put t s r = put_four t (s * 4) (lane r)
+unfoldable pub put : {A : Type 0} → List A → ℕ → List A → List A
+put t s r = splice t (s * 4) (s * 4 + 4) r
 
 -- TWO ROWS SIDE BY SIDE, given by their entries: eight lanes, 0 to 3 of the first row and 4 to 7 of the second
 abbrev pub beside : (a b : ℕ → ℕ) → List ℕ
@@ -47,7 +48,7 @@ sum a b = eight (λ j. lane a j + lane b j)
 
 -- rows s and s + 1 written anew
 unfoldable pub put_two : List ℕ → ℕ → List ℕ → List ℕ
-put_two t s r = put (put t s r) (s + 1) (lanes (λ j. lane r (4 + j)))
+put_two t s r = put (put t s (lanes (lane r))) (s + 1) (lanes (λ j. lane r (4 + j)))
 
 -- every cost and every sum of costs stays below
 abbrev pub limit : ℕ

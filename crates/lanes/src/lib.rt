@@ -2,18 +2,10 @@
 // Its functions are for the coset search, the soft pass and the walk; their promises cite specs/Lanes.antt.
 #![tactic(auto)]
 
-ghost use Rattle.std.specs.Prelude.{◌≡◌, ◌+◌, ◌*◌, ◌<◌, ◌≤◌, min, length};
-ghost use Rattle.lanes.specs.Lanes.{row, rows, twofold, sum, put, put_two, limit, Sums};
+ghost use Rattle.std.specs.Prelude.{◌≡◌, ◌+◌, ◌*◌, ◌≤◌, min, length};
+ghost use Rattle.lanes.specs.Lanes.{row, rows, twofold, sum, put, put_two, Sums};
 
-// The less of two costs that are compared as signed numbers, for which the vector instructions have a minimum.
-pub fn min_of(a: u16, b: u16) -> u16
-    requires { (a < limit) × (b < limit) }
-    ensures { result ≡ min a b }
-{
-    if (a as i16) <= (b as i16) { a } else { b }
-}
-
-// The less of any two costs.
+// The less of two costs. With `min` of std, tried here, the compiler does not find the minimum that the vector instructions have.
 pub fn less_of(a: u16, b: u16) -> u16
     ensures { result ≡ min a b }
 {
@@ -21,7 +13,8 @@ pub fn less_of(a: u16, b: u16) -> u16
 }
 
 // Row s of a slice of rows.
-pub fn load(t: &[u16], s: usize) -> [u16; 4]
+#[tactic(auto, unfolding(crate::specs::Lanes::row))]
+pub fn load<T: Copy>(t: &[T], s: usize) -> [T; 4]
     requires { s * 4 + 4 ≤ length t.now }
     ensures { result ≡ row t.now s }
 {
@@ -30,7 +23,8 @@ pub fn load(t: &[u16], s: usize) -> [u16; 4]
 }
 
 // Row s written anew.
-pub fn store(t: &mut [u16], s: usize, r: [u16; 4])
+#[tactic(auto, using(crate::proofs::Rows::put_is))]
+pub fn store<T: Copy>(t: &mut [T], s: usize, r: [T; 4])
     requires { s * 4 + 4 ≤ length t.old }
     ensures { t.new ≡ put t.old s r }
 {
@@ -42,6 +36,7 @@ pub fn store(t: &mut [u16], s: usize, r: [u16; 4])
 }
 
 // Rows s and u side by side.
+#[tactic(auto, unfolding(crate::specs::Lanes::rows))]
 pub fn load_two(t: &[u16], s: usize, u: usize) -> [u16; 8]
     requires s_in_bounds { s * 4 + 4 ≤ length t.now }
     requires u_in_bounds { u * 4 + 4 ≤ length t.now }
@@ -79,6 +74,7 @@ pub fn store_two(t: &mut [u16], s: usize, r: [u16; 8])
 }
 
 // A row beside itself.
+#[tactic(auto, unfolding(crate::specs::Lanes::twofold))]
 pub fn twice(r: [u16; 4]) -> [u16; 8]
     ensures { result ≡ twofold r }
 {
@@ -86,6 +82,7 @@ pub fn twice(r: [u16; 4]) -> [u16; 8]
 }
 
 // Lane by lane, the sum.
+#[tactic(auto, unfolding(crate::specs::Lanes::sum))]
 pub fn plus(a: [u16; 8], b: [u16; 8]) -> [u16; 8]
     requires { Sums a b }
     ensures { result ≡ sum a b }

@@ -7,8 +7,10 @@ use lib.Seq.{drop-drop}
 use Rattle.code.specs.Code.{width, long}
 use Rattle.code.specs.Bits.{row_long}
 use Rattle.sheet.specs.Sheet.{Question, reliabilities, most, sheet_refusal, question_in, questions_from, questions, kind, head_code, head_kind, after, as_words}
-use Rattle.sheet_reader.specs.declared.Yield.{Yield}
-use Rattle.sheet_reader.specs.declared.Yield.TheVariants.{Found, NoneLeft}
+use Rattle.std.specs.Prelude.{Option, Some, None, Ok, Err}
+use Rattle.refusal.specs.declared.Refusal.{Refusal}
+use Rattle.sheet_reader.specs.declared.Question.{Question as Yielded}
+use Rattle.sheet_reader.specs.Answer.{Answer, numbered, asked}
 use Rattle.sheet_reader.specs.Calls.{chosen, filled, row_first, word_first, ChoiceSays}
 use Rattle.lent_reader.specs.Promise.{YieldsInOrder}
 
@@ -22,30 +24,32 @@ few (suc k) (w ∷ ws) = by (eqb (kind w) head_kind) (few k (after reliabilities
     by true h = omega arith
     by false h = omega arith
 
--- a question that was found is one of at most 200
-pub found_inside : {bs : List ℕ} {i c k : ℕ} {a : Yield} {row row_now : List ℤ} {word word_now : List ℕ} → ChoiceSays bs i a row row_now word word_now → a ≡ Found c k → i < 200
-unfolding chosen questions most
-found_inside {bs} {i} {c} {k} {a} {row} {row_now} {word} {word_now} y e = by (sheet_refusal bs) (drop i (questions bs)) refl (sym y.answer ∙ e)
-  where
-    clash : {A : Type 0} → ◌≡◌ {A = ℕ} 0 1 → A
-    clash h = absurd (omega arith)
+-- an answer that is no refusal
+answer_is : (a : Answer Refusal) (x : Option Yielded) → numbered a ≡ Ok x → a ≡ Ok x
+answer_is (Ok y) x h = (cc)
+answer_is (Err e) x h = absurd (cc)
 
-    by : (e : ℕ) (qs : List Question) → drop i (questions bs) ≡ qs → chosen e qs (length row) (length word) ≡ Found c k → i < 200
-    by (suc e) qs d h = clash (cc)
-    by zero [] d h = clash (cc)
+-- a question that was found is one of at most 200
+pub found_inside : {bs : List ℕ} {i : ℕ} {a : Answer Refusal} {q : Yielded} {row row_now : List ℤ} {word word_now : List ℕ} → ChoiceSays bs i a row row_now word word_now → a ≡ Ok (Some q) → i < 200
+unfolding chosen questions most
+found_inside {bs} {i} {a} {q} {row} {row_now} {word} {word_now} y e = by (sheet_refusal bs) (drop i (questions bs)) refl (sym y.answer ∙ ap numbered e)
+  where
+    by : (e : ℕ) (qs : List Question) → drop i (questions bs) ≡ qs → chosen e qs (length row) (length word) ≡ Ok (Some q) → i < 200
+    by (suc e) qs d h = absurd (cc)
+    by zero [] d h = absurd (cc)
     by zero (q ∷ qs) d h = omega (arith, ap length d, length-drop i (questions bs), few 200 (as_words bs))
 
 pub yields_in_order : YieldsInOrder
 unfolding YieldsInOrder chosen filled row_first word_first
-yields_in_order bs i s row row_now word word_now h y = record {
+yields_in_order bs i i_now a row row_now word word_now h y = record {
   question = λ q rest e l k.
-      let a : s.answer ≡ Found q.code q.number = y.choice.answer ∙ rw (h, e, eq-eqb (length row) (row_long (width q.code)) l, eq-eqb (length word) (long (width q.code)) k) in (
-        a,
-        y.choice.row_is ∙ rw (a, e),
-        y.choice.word_is ∙ rw (a, e),
-        rw (y.next, a) (sym (drop-drop 1 i (questions bs)) ∙ ap (drop 1) e),
+      let f : a ≡ Ok (Some (asked q.code q.number)) = answer_is a _ (y.choice.answer ∙ rw (h, e, eq-eqb (length row) (row_long (width q.code)) l, eq-eqb (length word) (long (width q.code)) k) refl) in (
+        f,
+        y.choice.row_is ∙ rw (f, e) refl,
+        y.choice.word_is ∙ rw (f, e) refl,
+        rw (y.next, f) (sym (drop-drop 1 i (questions bs)) ∙ ap (drop 1) e),
       );
   end = λ l.
       let e : drop i (questions bs) ≡ [] = drop_of_length-le (questions bs) l in
-      let a : s.answer ≡ NoneLeft = y.choice.answer ∙ rw (h, e) in (a, y.next ∙ rw a);
+      let f : a ≡ Ok None = answer_is a _ (y.choice.answer ∙ rw (h, e) refl) in (f, y.next ∙ rw f refl);
 }

@@ -1,12 +1,13 @@
 // A reader that stands over a lent sheet: a struct with the slice and a position, which is the number of questions that it has passed, 0 before the
-// first one. `next` yields one question into lent outputs and says at which position the reader stands then. It is thin over `yield_at`, which
-// has plain parameters, and so has `read_from`: whoever calls these meets no such struct. All of them take any input, a position that nobody
-// gave out among it, and promise what specs/Calls.antt says: each yield checks the whole sheet.
+// first one. `next` yields one question into lent outputs and passes it. It takes any position, one that nobody gave out among them, and promises
+// what specs/Calls.antt says: each yield checks the whole sheet.
 #![tactic(auto)]
 
+ghost use Rattle.std.specs.Prelude.{◌≡◌};
 ghost use Rattle.lent_reader.specs.Calls.{YieldSays};
 
-use sheet_reader::{Step, Yield};
+use refusal::Refusal;
+use sheet_reader::Question;
 
 #[derive(Clone, Copy)]
 pub struct Reader<'a> {
@@ -14,32 +15,32 @@ pub struct Reader<'a> {
     pub at: usize,
 }
 
-// The question that has so many others before it, and how many are passed then.
-pub fn yield_at(sheet: &[u8], at: usize, row: &mut [i16], word: &mut [u8]) -> Step
-    ensures { YieldSays sheet.now at result row.old row.new word.old word.new }
-{
-    let answer = sheet_reader::question_of(sheet, at, row, word);
-    let mut next = at;
-    match answer {
-        Yield::Found { code: _, number: _ } => {
-            next = at + 1;
-        }
-        Yield::NoneLeft => {}
-        Yield::Refused(_) => {}
+impl<'a> Reader<'a> {
+    /// A reader before the first question of a sheet.
+    pub fn new(sheet: &'a [u8]) -> Self
+        ensures sheet { result.sheet.now ≡ sheet.entry.now }
+        ensures at { result.at ≡ 0 }
+    {
+        Reader { sheet, at: 0 }
     }
-    Step { answer, next }
-}
 
-// The question that the reader stands before, and where it stands then. None left and a refusal keep the place and the outputs.
-pub fn next<'a>(r: Reader<'a>, row: &mut [i16], word: &mut [u8]) -> Step
-    ensures { YieldSays r.entry.sheet.now r.entry.at result row.old row.new word.old word.new }
-{
-    yield_at(r.sheet, r.at, row, word)
-}
+    /// A reader that has passed so many questions of a sheet.
+    pub fn at(sheet: &'a [u8], at: usize) -> Self
+        ensures sheet { result.sheet.now ≡ sheet.entry.now }
+        ensures at { result.at ≡ at }
+    {
+        Reader { sheet, at }
+    }
 
-// The same as `yield_at`, by a reader that is made at that place and asked.
-pub fn read_from(sheet: &[u8], at: usize, row: &mut [i16], word: &mut [u8]) -> Step
-    ensures { YieldSays sheet.now at result row.old row.new word.old word.new }
-{
-    next(Reader { sheet, at }, row, word)
+    /// The question that the reader stands before, which is passed then. None left and a refusal keep the place and the outputs.
+    pub fn next(&mut self, row: &mut [i16], word: &mut [u8]) -> Result<Option<Question>, Refusal>
+        ensures yields { YieldSays self.old.sheet.now self.old.at self.new.at result row.old row.new word.old word.new }
+        ensures sheet { self.new.sheet.now ≡ self.old.sheet.now }
+    {
+        let answer = sheet_reader::question_of(self.sheet, self.at, row, word)?;
+        if let Some(_) = answer {
+            self.at += 1;
+        }
+        Ok(answer)
+    }
 }

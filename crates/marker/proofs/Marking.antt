@@ -3,11 +3,11 @@
 use Rattle.basics.proofs.Kit.{◌≡◌, sym, ap, ◌∙◌, true, List, ℕ, ◌-◌, ◌*◌, ◌^◌, ◌≤◌, ◌<◌, arith, length, get_or, ℤ, pos, nat_abs, ◌-ℤ◌}
 use mir.Syntax.{w32}
 use mir.Val.{SFits}
-use Rattle.code.specs.declared.Shape.{Shape}
+use Rattle.code.specs.declared.shape.Shape.{Shape}
 use Rattle.code.specs.Code.{is_codeword}
 use Rattle.code.specs.Bits.{row_long}
 use Rattle.code.proofs.Promise.{row_small}
-use Rattle.code.specs.Within.{Coded, WordWithin}
+use Rattle.code.specs.Within.{WordWithin}
 use Rattle.code.proofs.Words.{CodewordParts, codeword_parts}
 use Rattle.metric.specs.Metric.{metric, Greatest, Marked}
 use Rattle.metric.specs.Row.{row_bound}
@@ -54,7 +54,7 @@ module _ {s : Shape} {row : List ℤ} {word hs zs os : List ℕ} (j : Judged s r
       is_least = rw e.least (least_is j.input b costing e.laid)
 
       own_is : own ≡ cost s.m row word
-      own_is = h ∙ own_cost s.m j.input.coded.width_is row hs zs os b.costs j.input.length_row word p.count
+      own_is = h ∙ own_cost s.m s.numbers.width_is row hs zs os b.costs j.input.length_row word p.count
 
       pub excess_fits : least ≤ own
       excess_fits = omega (arith, own_is, is_least.all word j.codeword)
@@ -65,7 +65,7 @@ module _ {s : Shape} {row : List ℤ} {word hs zs os : List ℕ} (j : Judged s r
 module _ {s : Shape} {row : List ℤ} {word : List ℕ} (j : Judged s row word) {x : ℕ} (h : Short s.m s.r row word x) where
   -- small enough to be doubled
   pub excess_small : x < 2 ^ 30
-  excess_small = omega (arith, h.own, cost_le s.m row word, weight_le row_bound row j.input.good_row, j.input.length_row, row_small s.m j.input.coded.width_is)
+  excess_small = omega (arith, h.own, cost_le s.m row word, weight_le row_bound row j.input.good_row, j.input.length_row, row_small s.m s.numbers.width_is)
 
   -- twice what it costs more than the least is what its metric lacks of the greatest
   pub excess_lacks : {d : ℤ} → d ≡ pos (2 * x) → Lacking s.m s.r row word d
@@ -90,20 +90,20 @@ module _ {m r : ℕ} {row : List ℤ} {word : List ℕ} {d : ℤ} (l : Lacking m
   verdict_short e n = rw (e ∙ l.lacks) (marked_lacking m (is_codeword m r) row word l.best l.codeword l.greatest (λ f. n (l.lacks ∙ f)))
 
 -- ---- an accepted call
-module _ {s : Shape} {rs : List ℤ} {ws : List ℕ} {x : ℕ} (z : Coded s) (t : MarkTaken s.m rs ws x) where
+module _ (s : Shape) {rs : List ℤ} {ws : List ℕ} {x : ℕ} (t : MarkTaken s.m rs ws x) where
   pub word_in : WordWithin s.m s.r ws
-  word_in = record { width = z.width_is; count = t.long_word; symbols = t.symbols; few = z.few }
+  word_in = record { width = s.numbers.width_is; count = t.long_word; symbols = t.symbols; few = s.numbers.few }
 
   pub judged : is_codeword s.m s.r ws ≡ true → Judged s rs ws
-  judged cw = record { input = record { coded = z; length_row = t.long_row; good_row = t.good_row }; codeword = cw }
+  judged cw = record { input = record { length_row = t.long_row; good_row = t.good_row }; codeword = cw }
 
   few_entries : length rs ≤ 60
-  few_entries = omega (arith, t.long_row, row_small s.m z.width_is)
+  few_entries = omega (arith, t.long_row, row_small s.m s.numbers.width_is)
 
   pub word_with : WordWith s.m rs (length ws)
   unfolding row_long
   word_with = record {
-    width = z.width_is;
+    width = s.numbers.width_is;
     count = t.long_row ∙ ap (λ (n : ℕ). n * s.m) (sym t.long_word);
     few = few_entries;
     good = t.good_row;

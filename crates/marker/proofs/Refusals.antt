@@ -1,18 +1,13 @@
--- What an accepted call of the marker has passed, and what a call says by the choice of its code.
+-- What an accepted call of the marker has passed.
 -- Assumes nothing.
 use Rattle.basics.proofs.Kit.{◌≡◌, true, List, ℕ, length, ℤ}
 use borrow.Author.Tests.{eqb-true}
 use Rattle.refusal.proofs.Tests.{passed}
-use Rattle.refusal.specs.Refusal.{first, Outcome}
-use Rattle.code.specs.declared.Chosen.{Chosen}
-use Rattle.code.specs.Within.{ChosenSays}
-use Rattle.code.proofs.Promise.{as_chosen}
 use Rattle.code.specs.Code.{long, symbols_good}
 use Rattle.code.specs.Bits.{row_long}
 use Rattle.metric.specs.Row.{row_bound, row_good}
 use Rattle.metric.specs.Scratch.{scratch_long}
-use Rattle.marker.specs.declared.Mark.{Mark}
-use Rattle.marker.specs.Calls.{mark_refusal, MarkSays}
+use Rattle.marker.specs.Calls.{mark_refusal}
 
 pub record MarkTaken (m : ℕ) (rs : List ℤ) (ws : List ℕ) (x : ℕ) : Type 0 where
   pub long_row : length rs ≡ row_long m
@@ -29,9 +24,3 @@ mark_accepted m rs ws x z =
     let u = passed _ _ _ q.1 in
     let s = passed _ _ _ u.1 in
     record { long_row = eqb-true _ _ p.0; long_word = eqb-true _ _ q.0; long_scratch = eqb-true _ _ u.0; good_row = s.0; symbols = (passed _ _ _ s.1).0 }
-
--- over the m and r that were asked for
-pub mark_as : {z m r : ℕ} {a : Chosen} → ChosenSays z m r a → (rs : List ℤ) (ws : List ℕ) (k : Mark) (x y : List ℤ) →
-    MarkSays a.number a.shape.m a.shape.r rs ws k x y → MarkSays z m r rs ws k x y
-unfolding MarkSays first Outcome
-mark_as s rs ws k x y = as_chosen (λ z m r. MarkSays z m r rs ws k x y) (λ n m r i l e. e) s

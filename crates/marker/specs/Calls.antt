@@ -7,7 +7,6 @@ use Rattle.refusal.specs.Refusal.{unless, first, Outcome}
 use Rattle.metric.specs.Row.{row_bound, row_good}
 use Rattle.metric.specs.Scratch.{scratch_long, cleared}
 use Rattle.metric.specs.Metric.{Marked}
-use Rattle.marker.specs.declared.Mark.{Mark}
 
 -- what follows the code's own refusal, over its m
 unfoldable pub mark_refusal : (m : ℕ) → (row : List ℤ) → (word : List ℕ) → (scratch : ℕ) → ℕ
@@ -18,8 +17,9 @@ mark_refusal m rs ws x =
     (unless (row_good row_bound rs) 5
     (unless (symbols_good m ws) 6 0))))
 
--- none, short by exactly what is lacking, or best, and the scratch all zero; refused, the verdict and the shortfall are 0, and the scratch is kept
-unfoldable pub MarkSays : (z m r : ℕ) → (row : List ℤ) → (word : List ℕ) → Mark → (scratch scratch_now : List ℤ) → Type 0
-MarkSays z m r rs ws k x y =
-    Outcome (first z (mark_refusal m rs ws (length x))) k.number
-    (Marked k.verdict k.shortfall m (is_codeword m r) rs ws × (y ≡ cleared)) ((k.verdict ≡ 0) × (k.shortfall ≡ pos 0) × (y ≡ x))
+-- the verdict's number and the shortfall: none, short by exactly what is lacking, or best, and the scratch all zero; refused, both are 0, and the
+-- scratch is kept
+unfoldable pub MarkSays : (z m r : ℕ) → (row : List ℤ) → (word : List ℕ) → (answer verdict : ℕ) → (shortfall : ℤ) → (scratch scratch_now : List ℤ) → Type 0
+MarkSays z m r rs ws a v d x y =
+    Outcome (first z (mark_refusal m rs ws (length x))) a
+    (Marked v d m (is_codeword m r) rs ws × (y ≡ cleared)) ((v ≡ 0) × (d ≡ pos 0) × (y ≡ x))

@@ -1,12 +1,13 @@
 -- What the marker's functions ask and leave. A reader need not believe these definitions. Assumes nothing.
 use Rattle.std.specs.Prelude.{◌≡◌, true, List, ℕ, ◌+◌, ◌*◌, length, ℤ, ◌-ℤ◌}
-use Rattle.code.specs.declared.Shape.{Shape}
+use Rattle.code.specs.declared.shape.Shape.{Shape}
 use Rattle.code.specs.Code.{is_codeword}
 use Rattle.metric.specs.Metric.{metric, Greatest, Marked}
 use Rattle.metric.specs.Cost.{cost, Least}
 use Rattle.walk.specs.Walk.{start}
 use Rattle.search.specs.Within.{slots_of, Input}
-use Rattle.marker.specs.declared.Mark.{Mark}
+use Rattle.metric.specs.declared.Verdict.{Verdict}
+use Rattle.metric.specs.Verdict.{verdict_number, shortfall_of}
 
 -- a word's cost is the least cost of a codeword and x
 pub record Short (m r : ℕ) (row : List ℤ) (word : List ℕ) (x : ℕ) : Type 0 where
@@ -34,10 +35,10 @@ pub record Lacking (m r : ℕ) (row : List ℤ) (word : List ℕ) (d : ℤ) : Ty
   pub greatest : Greatest m (is_codeword m r) row best
   pub lacks : d ≡ best -ℤ metric m row word
 
--- a mark that is right, and no refusal
-abbrev pub Verdict : (m r : ℕ) → (row : List ℤ) → (word : List ℕ) → Mark → Type 0
-Verdict m r row word k = Marked k.verdict k.shortfall m (is_codeword m r) row word × (k.number ≡ 0)
+-- a verdict that is right
+abbrev pub IsVerdict : (m r : ℕ) → (row : List ℤ) → (word : List ℕ) → Verdict → Type 0
+IsVerdict m r row word v = Marked (verdict_number v) (shortfall_of v) m (is_codeword m r) row word
 
 -- of every codeword that lacks d
-abbrev pub VerdictFrom : (d : ℤ) → Mark → Type 0
-VerdictFrom d k = (m r : ℕ) → (row : List ℤ) → (word : List ℕ) → Lacking m r row word d → Verdict m r row word k
+abbrev pub VerdictFrom : (d : ℤ) → Verdict → Type 0
+VerdictFrom d v = (m r : ℕ) → (row : List ℤ) → (word : List ℕ) → Lacking m r row word d → IsVerdict m r row word v

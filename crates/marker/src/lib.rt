@@ -1,46 +1,52 @@
-// The marker. `judge_word`, with a code's number, and `judge_word_by`, with its m and r, are offered to callers: they take any input and promise what
-// specs/Calls.antt says, in the words of the crate metric; how the search goes is no part of the promise. `verdict_on_word` is for the crates above,
-// which know the code and the best metric.
+// The marker. `judge_word` is offered to callers: it takes any input, a code by its number or by its m and r, and promises what specs/Calls.antt says, in
+// the words of the crate metric; how the search goes is no part of the promise. `verdict_on_word` is for the crates above, which know the code and the
+// best metric.
 #![tactic(auto)]
 
 ghost use Rattle.std.specs.Prelude.{◌≡◌};
-ghost use Rattle.code.specs.Code.{number_refusal, width, roots, is_codeword, parameter_refusal};
-ghost use Rattle.code.specs.Within.{Coded};
+ghost use Rattle.refusal.specs.Refusal.{number_of, value_or};
+ghost use Rattle.code.specs.Code.{is_codeword};
+ghost use Rattle.code.specs.Choice.{choice_refusal, m_of, r_of};
+ghost use Rattle.metric.specs.declared.Verdict.TheVariants.{NoCodeword};
 ghost use Rattle.metric.specs.Metric.{Greatest};
 ghost use Rattle.metric.specs.Scratch.{scratch_long};
+ghost use Rattle.metric.specs.Verdict.{verdict_number, shortfall_of};
 ghost use Rattle.tails.specs.Tails.{columns};
-ghost use Rattle.search.specs.Within.{Roomy};
+ghost use Rattle.search.specs.Within.{Roomy, Sizes};
 ghost use Rattle.marker.specs.Calls.{mark_refusal, MarkSays};
-ghost use Rattle.marker.specs.Within.{Short, Judged, Lent, Verdict, VerdictFrom};
+ghost use Rattle.marker.specs.Within.{Short, Judged, Lent, IsVerdict, VerdictFrom};
 
-use code::{Chosen, Shape};
+use code::{Choice, Shape};
+use metric::Verdict;
+use refusal::{Refusal, ensure};
 
-// 0 with the verdict (0 none, 1 short, 2 best) and the shortfall, or the number of a refusal with 0 and 0.
-#[repr(C)]
-#[derive(Clone, Copy)]
-pub struct Mark {
-    pub number: u32,
-    pub verdict: u32,
-    pub shortfall: i32,
+// The marker: no codeword, short by exactly what is lacking, or best; the scratch is all 0 after it.
+pub fn judge_word(
+    choice: Choice,
+    row: &[i16],
+    word: &[u8],
+    scratch: &mut [i32],
+) -> Result<Verdict, Refusal>
+    ensures { let verdict = value_or NoCodeword result in
+        MarkSays (choice_refusal choice) (m_of choice) (r_of choice) row.now word.now (number_of result) (verdict_number verdict) (shortfall_of verdict) scratch.old scratch.new }
+{
+    let shape = choice.shape()?;
+    check_mark(shape, row, word, scratch.len())?;
+    let verdict = judge_accepted(shape, row, word);
+    scratch.fill(0);
+    Ok(verdict)
 }
 
-// The verdicts.
-const NONE: u32 = 0;
-
-const SHORT: u32 = 1;
-
-const BEST: u32 = 2;
-
-// What a call is refused by after its code, 0 for nothing.
-fn mark_refusal(shape: Shape, row: &[i16], word: &[u8], scratch: usize) -> u32
-    requires { Coded shape }
-    ensures { result ≡ mark_refusal shape.m row.now word.now scratch }
+// What a call is refused by after its code.
+#[tactic(auto, using(refusal::proofs::Results::stops, refusal::proofs::Results::goes_on, code::proofs::Accepted::narrow), unfolding(crate::specs::Calls::mark_refusal, refusal::specs::Refusal::unless))]
+fn check_mark(shape: Shape, row: &[i16], word: &[u8], scratch: usize) -> Result<(), Refusal>
+    ensures { number_of result ≡ mark_refusal shape.m row.now word.now scratch }
 {
-    let symbols = refusal::unless(code::symbols_good(shape.m, word), 6, 0);
-    let contents = refusal::unless(metric::is_row(metric::BOUND, row), 5, symbols);
-    let scratch_room = refusal::unless(scratch == 16384, 17, contents);
-    let word_long = refusal::unless(word.len() == shape.n, 3, scratch_room);
-    refusal::unless(row.len() == shape.bits, 2, word_long)
+    ensure(row.len() == shape.bits, Refusal::RowLength)?;
+    ensure(word.len() == shape.n, Refusal::WordLength)?;
+    ensure(scratch == 16384, Refusal::Scratch)?;
+    ensure(metric::is_row(metric::BOUND, row), Refusal::Reliability)?;
+    ensure(code::symbols_good(shape.m, word), Refusal::Symbol)
 }
 
 // What a codeword costs more than the least, with every buffer lent. It needs no words, no marginals, and no tables behind the columns.
@@ -56,7 +62,7 @@ fn excess_with(
     word: &[u8],
 ) -> u32
     requires judged { Judged shape row.now word.now }
-    requires hs_value { hs.now ≡ columns shape.m shape.r }
+    requires columns { hs.now ≡ columns shape.m shape.r }
     requires lent { Lent shape zs.old os.old t.old places.old f.old }
     ensures { Short shape.m shape.r row.now word.now result }
 {
@@ -80,11 +86,8 @@ fn excess_in(
     ensures { Short shape.m shape.r row.now word.now result }
 {
     let columns = spots::columns(shape.m, shape.r);
-    let hs: &[u16] = &columns;
-    let mut zs_room = [0u32; 60];
-    let zs: &mut [u32] = &mut zs_room;
-    let mut os_room = [0u32; 60];
-    let os: &mut [u32] = &mut os_room;
+    let mut zs = [0u32; 60];
+    let mut os = [0u32; 60];
     let n = shape.n;
     let wide = n * 4;
     let states = shape.size * 4;
@@ -92,7 +95,7 @@ fn excess_in(
     excess_with(
         shape,
         row,
-        &hs[..n],
+        &columns[..n],
         &mut zs[..wide],
         &mut os[..wide],
         &mut t[..states],
@@ -102,113 +105,68 @@ fn excess_in(
     )
 }
 
-// With rooms of the size that the code needs, filled as in a decoding.
+// The same with rooms for so many entries of a table, and for so many places, filled as in a decoding.
+fn excess_sized<const STATES: usize, const PLACES: usize>(
+    shape: Shape,
+    row: &[i16],
+    word: &[u8],
+) -> u32
+    requires judged { Judged shape row.now word.now }
+    requires sizes { Sizes shape STATES PLACES }
+    ensures { Short shape.m shape.r row.now word.now result }
+{
+    let mut t = [search::CAP; STATES];
+    let mut places = [search::CAP; PLACES];
+    let mut f = [search::CAP; PLACES];
+    excess_in(shape, row, &mut t, &mut places, &mut f, word)
+}
+
+// With rooms of the size that the code needs.
 fn excess(shape: Shape, row: &[i16], word: &[u8]) -> u32
     requires { Judged shape row.now word.now }
     ensures { Short shape.m shape.r row.now word.now result }
 {
     let count = search::places_of(shape);
-    if count <= 64 {
-        if shape.size <= 16 {
-            let mut t = [search::CAP; 64];
-            let mut places = [search::CAP; 64];
-            let mut f = [search::CAP; 64];
-            return excess_in(shape, row, &mut t, &mut places, &mut f, word);
-        }
+    if count <= 64 && shape.size <= 16 {
+        excess_sized::<64, 64>(shape, row, word)
+    } else if count <= 336 {
+        excess_sized::<256, 336>(shape, row, word)
+    } else {
+        excess_sized::<4096, 4096>(shape, row, word)
     }
-    if count <= 336 {
-        let mut t = [search::CAP; 256];
-        let mut places = [search::CAP; 336];
-        let mut f = [search::CAP; 336];
-        return excess_in(shape, row, &mut t, &mut places, &mut f, word);
-    }
-    let mut t = [search::CAP; 4096];
-    let mut places = [search::CAP; 4096];
-    let mut f = [search::CAP; 4096];
-    excess_in(shape, row, &mut t, &mut places, &mut f, word)
 }
 
 // The verdict on a codeword, from what its metric lacks of the greatest.
-fn verdict_on(shortfall: i32) -> Mark
+fn verdict_on(shortfall: i32) -> Verdict
     ensures { VerdictFrom shortfall result }
 {
     if shortfall == 0 {
-        return Mark {
-            number: 0,
-            verdict: BEST,
-            shortfall: 0,
-        };
-    }
-    Mark {
-        number: 0,
-        verdict: SHORT,
-        shortfall,
+        Verdict::Best
+    } else {
+        Verdict::Short(shortfall)
     }
 }
 
 // The mark of an accepted call. It uses nothing of the scratch.
-fn judge_accepted(shape: Shape, row: &[i16], word: &[u8]) -> Mark
-    requires coded { Coded shape }
-    requires scratch_long_value { mark_refusal shape.m row.now word.now scratch_long ≡ 0 }
-    ensures { Verdict shape.m shape.r row.now word.now result }
+fn judge_accepted(shape: Shape, row: &[i16], word: &[u8]) -> Verdict
+    requires { mark_refusal shape.m row.now word.now scratch_long ≡ 0 }
+    ensures { IsVerdict shape.m shape.r row.now word.now result }
 {
     if !code::is_codeword(shape.m, shape.r, word) {
-        return Mark {
-            number: 0,
-            verdict: NONE,
-            shortfall: 0,
-        };
+        return Verdict::NoCodeword;
     }
     verdict_on((2 * excess(shape, row, word)) as i32)
 }
 
-// The marker: none, short by exactly what is lacking, or best; the scratch is all 0 after it.
-pub fn judge_word(code: u32, row: &[i16], word: &[u8], scratch: &mut [i32]) -> Mark
-    ensures { MarkSays (number_refusal code) (width code) (roots code) row.now word.now result scratch.old scratch.new }
-{
-    judge_chosen(code::by_number(code), row, word, scratch)
-}
-
-// The same, by m and r.
-pub fn judge_word_by(m: u32, r: u32, row: &[i16], word: &[u8], scratch: &mut [i32]) -> Mark
-    ensures { MarkSays (parameter_refusal m r) m r row.now word.now result scratch.old scratch.new }
-{
-    judge_chosen(code::by_parameters(m, r), row, word, scratch)
-}
-
-// `judge_word` in a code that was chosen, or refused.
-fn judge_chosen(chosen: Chosen, row: &[i16], word: &[u8], scratch: &mut [i32]) -> Mark
-    requires { Coded chosen.shape }
-    ensures { MarkSays chosen.number chosen.shape.m chosen.shape.r row.now word.now result scratch.old scratch.new }
-{
-    let shape = chosen.shape;
-    let number = refusal::first(chosen.number, mark_refusal(shape, row, word, scratch.len()));
-    if number != 0 {
-        return Mark {
-            number,
-            verdict: 0,
-            shortfall: 0,
-        };
-    }
-    let mark = judge_accepted(shape, row, word);
-    search::clear(scratch);
-    mark
-}
-
 // The verdict on a word where the best metric of the row is known, with no search and so with no scratch.
-pub fn verdict_on_word(shape: Shape, row: &[i16], word: &[u8], best: i32) -> Mark
-    requires coded { Coded shape }
-    requires scratch_long_value { mark_refusal shape.m row.now word.now scratch_long ≡ 0 }
+pub fn verdict_on_word(shape: Shape, row: &[i16], word: &[u8], best: i32) -> Verdict
+    requires accepted { mark_refusal shape.m row.now word.now scratch_long ≡ 0 }
     requires greatest { Greatest shape.m (is_codeword shape.m shape.r) row.now best }
-    ensures { Verdict shape.m shape.r row.now word.now result }
+    ensures { IsVerdict shape.m shape.r row.now word.now result }
 {
     let m = shape.m;
     if !code::is_codeword(m, shape.r, word) {
-        return Mark {
-            number: 0,
-            verdict: NONE,
-            shortfall: 0,
-        };
+        return Verdict::NoCodeword;
     }
     verdict_on(best - metric::word_metric(m, row, word))
 }

@@ -2,12 +2,11 @@
 -- Assumes nothing.
 use Rattle.basics.proofs.Kit.{◌≡◌, refl, sym, ap, ◌∙◌, true, cond, List, [], ◌∷◌, ◌++◌, ℕ, zero, suc, ◌+◌, ◌-◌, ◌*◌, ◌/◌, ◌%◌, ◌^◌, ◌≤◌, ◌<◌, arith, length, get_or, take, drop, eqb, ℤ, pos, negsuc, nat_abs, ◌+ℤ◌, ◌-ℤ◌}
 use native.Mathlib.Nat.{pow-zero, pow-succ', div-one, zero-mul, suc-mul, div-div-eq-div-mul}
-use borrow.Author.Tests.{leb-true, eq-eqb, ne_eqb}
+use borrow.Author.Tests.{leb-true, ne_eqb}
 use lib.ListN.{length-drop}
 use lib.Seq.{take_all, drop-cons, drop-drop, drop-length}
-use mir.Facts.{to_z-of_z}
 use mir.Syntax.{w32}
-use mir.Val.{SFits, to_z, of_z}
+use mir.Val.{SFits}
 use Rattle.code.specs.Bits.{bits_of, all_bits}
 use Rattle.metric.specs.Row.{row_bound, reliability_good, row_good}
 use Rattle.metric.specs.Metric.{metric_of, metric}
@@ -25,27 +24,6 @@ unfolding reliability_good
 reliable_size r g = leb-true (nat_abs r) 127 g
 
 module _ (s r : ℤ) (h : nat_abs s ≤ 10000) (g : reliability_good row_bound r ≡ true) where
-  pub reliable_fits : SFits w32 r
-  reliable_fits = small_fits r (omega (arith, reliable_size r g))
-
-  plus_fits : SFits w32 (s +ℤ r)
-  plus_fits = small_fits (s +ℤ r) (omega (arith, plus_size s r, reliable_size r g))
-
-  minus_fits : SFits w32 (s -ℤ r)
-  minus_fits = small_fits (s -ℤ r) (omega (arith, minus_size s r, reliable_size r g))
-
-  pub added_fits : SFits w32 (s +ℤ to_z w32 (of_z w32 r))
-  added_fits = rw (to_z-of_z reliable_fits) plus_fits
-
-  pub taken_fits : SFits w32 (s -ℤ to_z w32 (of_z w32 r))
-  taken_fits = rw (to_z-of_z reliable_fits) minus_fits
-
-  pub added : (b : ℕ) → b ≡ 0 → to_z w32 (of_z w32 (s +ℤ to_z w32 (of_z w32 r))) ≡ cond (eqb b 0) (s +ℤ r) (s -ℤ r)
-  added b e = rw (eq-eqb b 0 e, to_z-of_z reliable_fits) (to_z-of_z plus_fits)
-
-  pub taken : (b : ℕ) → (b ≡ 0 → ⊥) → to_z w32 (of_z w32 (s -ℤ to_z w32 (of_z w32 r))) ≡ cond (eqb b 0) (s +ℤ r) (s -ℤ r)
-  taken b e = rw (ne_eqb b 0 e, to_z-of_z reliable_fits) (to_z-of_z minus_fits)
-
   pub counted_size : (b : ℕ) → nat_abs (cond (eqb b 0) (s +ℤ r) (s -ℤ r)) ≤ nat_abs s + 127
   counted_size zero = omega (arith, plus_size s r, reliable_size r g)
   counted_size (suc b) = rw (ne_eqb (suc b) 0 (λ e. omega arith)) (omega (arith, minus_size s r, reliable_size r g))

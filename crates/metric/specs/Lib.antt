@@ -1,5 +1,6 @@
 pub mod Row
 pub mod Metric
+pub mod Verdict
 pub mod Cost
 pub mod Right
 pub mod Promise

@@ -1,6 +1,6 @@
 -- One column from the front, in place by pairs of rows: what a turn of the loop asks, and what it leaves.
 -- Assumes nothing.
-use Rattle.basics.proofs.Kit.{◌≡◌, refl, sym, ap, ◌∙◌, List, [], ◌∷◌, ℕ, suc, ◌+◌, ◌-◌, ◌*◌, ◌%◌, ◌^◌, ◌≤◌, ◌<◌, min, arith, length}
+use Rattle.basics.proofs.Kit.{◌≡◌, refl, sym, ap, ◌∙◌, List, ℕ, suc, ◌+◌, ◌-◌, ◌*◌, ◌%◌, ◌^◌, ◌≤◌, ◌<◌, min, arith, length}
 use mathlib.Core.Path.{subst}
 use native.Mathlib.Nat.{two-pow-succ, pow-succ', mul_assoc, suc-mul, mul-le-mul_right, lt_of_mul-lt-mul_right}
 use native.Mathlib.Decide.{dec_le, ℕ_discrete}
@@ -9,9 +9,9 @@ use lib.Pow.{pow-add}
 use Rattle.field.specs.Field.{xor}
 use Rattle.field.proofs.Xor as X
 use Rattle.lanes.specs.Lanes.{entry, lane, row, put}
-use Rattle.lanes.proofs.Rows.{four, row_at, length_put, put_other, put_at}
+use Rattle.lanes.proofs.Rows.{row_at, length_put, put_other, put_at}
 use Rattle.rows.specs.Rows.{sum, less}
-use Rattle.rows.proofs.Rows.{sum_at, less_at}
+use Rattle.rows.proofs.Rows.{sum_at, less_at, length_less}
 use Rattle.trellis.specs.Trellis.{step, only}
 use Rattle.trellis.specs.Rows.{column, front}
 use Rattle.coset.specs.Coset.{Freed}
@@ -110,7 +110,7 @@ pub record Next (e h size s s' : ℕ) : Type 0 where
   pub fits : s' ≤ size
   pub down : (v : ℕ) → s + 1 ≤ v → v < s' → xor v h ≤ v
 
-module _ {q size h cap : ℕ} {a t z o : List ℕ} (w : Advance q size h cap a t z o) {top : ℕ} (t' : Top h top) {s : ℕ} (p : Place t'.e s) (l : s < size) where
+module _ {q size h : ℕ} {a t z o : List ℕ} (w : Advance q size h a t z o) {top : ℕ} (t' : Top h top) {s : ℕ} (p : Place t'.e s) (l : s < size) where
   abbrev e : ℕ
   e = t'.e
 
@@ -168,19 +168,7 @@ pub record Advancing (h size cap e : ℕ) (a₀ t z o : List ℕ) (s : ℕ) (a z
   pub long : length a ≡ length a₀
   pub going : (j : ℕ) → j < 4 → Going h (lane z j) (lane o j) size cap (front a₀ j) (front t j) s (front a j) (lane zero j) (lane one j)
 
-pub advance_start : (h size cap e : ℕ) (a₀ t z o : List ℕ) → Advancing h size cap e a₀ t z o 0 a₀ (cap ∷ cap ∷ cap ∷ cap ∷ []) (cap ∷ cap ∷ cap ∷ cap ∷ [])
-advance_start h size cap e a₀ t z o = record {
-  place = place_start e;
-  at_most = omega arith;
-  long = refl;
-  going =
-      four (λ j. Going h (lane z j) (lane o j) size cap (front a₀ j) (front t j) 0 (front a₀ j) (lane caps j) (lane caps j)) going_start going_start going_start going_start;
-}
-  where
-    caps : List ℕ
-    caps = cap ∷ cap ∷ cap ∷ cap ∷ []
-
-module _ {q size h cap : ℕ} {a₀ t z o : List ℕ} (w : Advance q size h cap a₀ t z o) {top : ℕ} (t' : Top h top) {s : ℕ} {a zero one : List ℕ}
+module _ {q size h cap : ℕ} {a₀ t z o : List ℕ} (w : Advance q size h a₀ t z o) {top : ℕ} (t' : Top h top) {s : ℕ} {a zero one : List ℕ}
     (f : Advancing h size cap t'.e a₀ t z o s a zero one) (l : s < size) where
   abbrev u : ℕ
   u = xor s h
@@ -201,7 +189,7 @@ module _ {q size h cap : ℕ} {a₀ t z o : List ℕ} (w : Advance q size h cap 
   at_u : (j : ℕ) → j < 4 → lane (row a u) j ≡ entry a₀ u j
   at_u j lj = row_at a u j lj ∙ (f.going j lj).ran.after u in_u (omega (arith, up, same_leader h s))
 
-  pub advance_asks : AdvanceRows a t s u z o zero one
+  pub advance_asks : AdvanceRows a t s u z o
   advance_asks = record {
     s_in = omega (arith, f.long, w.length_a);
     u_in = omega (arith, f.long, w.length_a, in_u);
@@ -211,15 +199,13 @@ module _ {q size h cap : ℕ} {a₀ t z o : List ℕ} (w : Advance q size h cap 
     u_z = λ j lj. omega (arith, sum_at (row a u) z j lj, at_u j lj, row_at t u j lj, w.room_z u u j in_u in_u lj);
     u_o = λ j lj. omega (arith, sum_at (row a u) o j lj, at_u j lj, row_at t s j lj, w.room_o u s j in_u l lj);
     s_o = λ j lj. omega (arith, sum_at (row a s) o j lj, at_s j lj, row_at t u j lj, w.room_o s u j l in_u lj);
-    small_zero = λ j lj. omega (arith, (f.going j lj).with_0.at_most, w.cap_small);
-    small_one = λ j lj. omega (arith, (f.going j lj).with_1.at_most, w.cap_small);
   }
 
   pub advance_more : {a' zero' one' : List ℕ} → AdvancedRows a t s u z o zero one a' zero' one' → Advancing h size cap t'.e a₀ t z o (s + 1 + bit_and (s + 1) top) a' zero' one'
   advance_more {a'} {zero'} {one'} r = record {
     place = n.place;
     at_most = n.fits;
-    long = ap length r.next ∙ length_put (put a s x) u y ∙ length_put a s x ∙ f.long;
+    long = ap length r.next ∙ length_put (put a s x) u y u_in four_y ∙ same_long ∙ f.long;
     going = λ j lj. going_skip wide (going_pair wide (f.going j lj) l up (front a' j) (lane zero' j) (lane one' j) (pair j lj) (zeros j lj) (ones j lj)) w.some (omega (arith, n.more)) n.down;
   }
     where
@@ -232,15 +218,27 @@ module _ {q size h cap : ℕ} {a₀ t z o : List ℕ} (w : Advance q size h cap 
       y : List ℕ
       y = less (sum (row a u) z) (sum (row a s) o)
 
+      four_x : length x ≡ 4
+      four_x = length_less (sum (row a s) z) (sum (row a u) o)
+
+      four_y : length y ≡ 4
+      four_y = length_less (sum (row a u) z) (sum (row a s) o)
+
+      same_long : length (put a s x) ≡ length a
+      same_long = length_put a s x advance_asks.s_in four_x
+
+      u_in : u * 4 + 4 ≤ length (put a s x)
+      u_in = omega (arith, same_long, advance_asks.u_in)
+
       chosen : (b c : List ℕ) (j : ℕ) → j < 4 → lane (less (sum b z) (sum c o)) j ≡ min (lane b j + lane z j) (lane c j + lane o j)
       chosen b c j lj = less_at (sum b z) (sum c o) j lj ∙ rw (sum_at b z j lj, sum_at c o j lj)
 
       pair : (j : ℕ) → j < 4 → Ran h (lane z j) (lane o j) size s (s + 1) (front a j) (front a' j)
       pair j lj =
           ran_pair up
-          (ap (λ (m : List ℕ). entry m s j) r.next ∙ put_other (put a s x) u y (s * 4 + j) (λ c d. omega (arith, up)) ∙ put_at a s x advance_asks.s_in j lj ∙ chosen (row a s) (row a u) j lj ∙ rw (row_at a s j lj, row_at a u j lj))
-          (ap (λ (m : List ℕ). entry m u j) r.next ∙ put_at (put a s x) u y (omega (arith, length_put a s x, advance_asks.u_in)) j lj ∙ chosen (row a u) (row a s) j lj ∙ rw (row_at a s j lj, row_at a u j lj))
-          (λ v c d. ap (λ (m : List ℕ). entry m v j) r.next ∙ put_other (put a s x) u y (v * 4 + j) (λ b e. d (omega arith)) ∙ put_other a s x (v * 4 + j) (λ b e. c (omega arith)))
+          (ap (λ (m : List ℕ). entry m s j) r.next ∙ put_other (put a s x) u y u_in four_y (s * 4 + j) (λ c d. omega (arith, up)) ∙ put_at a s x advance_asks.s_in four_x j lj ∙ chosen (row a s) (row a u) j lj ∙ rw (row_at a s j lj, row_at a u j lj))
+          (ap (λ (m : List ℕ). entry m u j) r.next ∙ put_at (put a s x) u y u_in four_y j lj ∙ chosen (row a u) (row a s) j lj ∙ rw (row_at a s j lj, row_at a u j lj))
+          (λ v c d. ap (λ (m : List ℕ). entry m v j) r.next ∙ put_other (put a s x) u y u_in four_y (v * 4 + j) (λ b e. d (omega arith)) ∙ put_other a s x advance_asks.s_in four_x (v * 4 + j) (λ b e. c (omega arith)))
 
       met_at : (b c d e g k m : List ℕ) (j : ℕ) → j < 4 → lane (less m (less (sum (sum b c) d) (sum (sum e g) k))) j ≡ min (lane m j) (min (lane b j + lane c j + lane d j) (lane e j + lane g j + lane k j))
       met_at b c d e g k m j lj =

@@ -5,10 +5,10 @@ use native.Mathlib.Numerals.{add-one}
 use Rattle.lanes.specs.Lanes.{entry, lane, lanes, row, two, sum, put, put_two, limit, Sums}
 use Rattle.lanes.proofs.Rows.{four, both, lanes_at, row_at, rows_first, rows_second, sum_at}
 use Rattle.rows.specs.Rows.{less}
-use Rattle.rows.proofs.Rows.{less_at}
+use Rattle.rows.proofs.Rows.{less_at, length_less}
 use Rattle.trellis.specs.Trellis.{least_of}
 use Rattle.pass.specs.Steps.{FoldRows, Fold, Add, Made, laid, added}
-use Rattle.pass.proofs.Rows.{Lowest, lowest_small, made_none, made_more}
+use Rattle.pass.proofs.Rows.{Lowest, made_none, made_more}
 
 -- THE UPPER HALF LAID ON THE LOWER: the first s rows are done
 pub record Folding (half cap : ℕ) (a₀ : List ℕ) (s : ℕ) (a zero one : List ℕ) : Type 0 where
@@ -24,21 +24,17 @@ fold_start half cap a₀ = record { at_most = omega arith; rows = made_none; wit
     caps : (j : ℕ) → j < 4 → lane (cap ∷ cap ∷ cap ∷ cap ∷ []) j ≡ cap
     caps = four (λ j. lane (cap ∷ cap ∷ cap ∷ cap ∷ []) j ≡ cap) refl refl refl refl
 
-module _ {half cap : ℕ} {a₀ : List ℕ} (w : Fold half cap a₀) {s : ℕ} {a zero one : List ℕ} (f : Folding half cap a₀ s a zero one) (l : s < half) where
+module _ {half cap : ℕ} {a₀ : List ℕ} (w : Fold half a₀) {s : ℕ} {a zero one : List ℕ} (f : Folding half cap a₀ s a zero one) (l : s < half) where
   at_s : (j : ℕ) → j < 4 → lane (row a s) j ≡ entry a₀ s j
   at_s j lj = row_at a s j lj ∙ f.rows.left s j (omega arith) lj
 
   at_u : (j : ℕ) → j < 4 → lane (row a (half + s)) j ≡ entry a₀ (half + s) j
   at_u j lj = row_at a (half + s) j lj ∙ f.rows.left (half + s) j (omega arith) lj
 
-  pub fold_asks : FoldRows a s (half + s) zero one
+  pub fold_asks : FoldRows a s (half + s)
   fold_asks = record {
     s_in = omega (arith, f.rows.long, w.inside);
     u_in = omega (arith, f.rows.long, w.inside);
-    small_s = λ j lj. omega (arith, at_s j lj, w.small s j (omega arith) lj);
-    small_u = λ j lj. omega (arith, at_u j lj, w.small (half + s) j (omega arith) lj);
-    small_zero = (lowest_small f.with_0 w.cap_small).0;
-    small_one = (lowest_small f.with_1 w.cap_small).0;
   }
 
   pub fold_more : {a' zero' one' : List ℕ} → a' ≡ put a s (less (row a s) (row a (half + s))) → zero' ≡ less zero (row a s) → one' ≡ less one (row a (half + s)) →
@@ -46,14 +42,14 @@ module _ {half cap : ℕ} {a₀ : List ℕ} (w : Fold half cap a₀) {s : ℕ} {
   unfolding least_of
   fold_more ea ez eo = rw (ea, ez, eo) record {
     at_most = omega arith;
-    rows = made_more f.rows (less (row a s) (row a (half + s))) (omega (arith, w.inside)) (λ j lj. less_at (row a s) (row a (half + s)) j lj ∙ rw (at_s j lj, at_u j lj));
+    rows = made_more f.rows (less (row a s) (row a (half + s))) (length_less (row a s) (row a (half + s))) (omega (arith, w.inside)) (λ j lj. less_at (row a s) (row a (half + s)) j lj ∙ rw (at_s j lj, at_u j lj));
     with_0 = record { at = λ j lj. less_at zero (row a s) j lj ∙ rw (add-one s, f.with_0.at j lj, at_s j lj) };
     with_1 = record { at = λ j lj. less_at one (row a (half + s)) j lj ∙ rw (add-one s, f.with_1.at j lj, at_u j lj) };
   }
 
 -- A TABLE ADDED: the first s rows are done, and two are next
 module _ {size : ℕ} {a₀ g : List ℕ} (w : Add size a₀ g) {s : ℕ} {a : List ℕ} (f : Made (added a₀ g) s a₀ a) (even : s % 2 ≡ 0) (l : s < size) where
-  add_in : s + 2 ≤ size
+  pub add_in : s + 2 ≤ size
   add_in = omega (arith, w.even)
 
   here : (j : ℕ) → j < 4 → lane (two a s) j + lane (two g s) j ≡ added a₀ g s j
@@ -72,4 +68,4 @@ module _ {size : ℕ} {a₀ g : List ℕ} (w : Add size a₀ g) {s : ℕ} {a : L
   add_more e =
       let r : List ℕ = sum (two a s) (two g s) in
       let d : s + 2 ≡ s + 1 + 1 = omega arith in
-      rw (e, d) (made_more (made_more f r (omega (arith, w.length_a)) (λ j lj. sum_at (two a s) (two g s) j (omega arith) ∙ here j lj)) (lanes (λ j. lane r (4 + j))) (omega (arith, w.length_a, add_in)) (λ j lj. lanes_at (λ j. lane r (4 + j)) j lj ∙ sum_at (two a s) (two g s) (4 + j) (omega arith) ∙ next j lj))
+      rw (e, d) (made_more (made_more f (lanes (lane r)) refl (omega (arith, w.length_a)) (λ j lj. lanes_at (lane r) j lj ∙ sum_at (two a s) (two g s) j (omega arith) ∙ here j lj)) (lanes (λ j. lane r (4 + j))) refl (omega (arith, w.length_a, add_in)) (λ j lj. lanes_at (λ j. lane r (4 + j)) j lj ∙ sum_at (two a s) (two g s) (4 + j) (omega arith) ∙ next j lj))

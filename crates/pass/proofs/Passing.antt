@@ -13,12 +13,13 @@ use Rattle.rows.specs.Rows.{Small}
 use Rattle.trellis.specs.Trellis.{Columns, step, only, back, fore, final, least_of, holding, meet}
 use Rattle.trellis.specs.Rows.{column, front, layer}
 use Rattle.trellis.proofs.Least.{least_same}
-use Rattle.coset.specs.Coset.{none, least, Layers, Costs, Freed}
+use Rattle.coset.specs.Coset.{none, least, Fit, Layers, Costs, Freed}
 use Rattle.coset.proofs.Pairs.{powers, over}
 use Rattle.coset.proofs.Columns.{high_bit}
+use Rattle.coset.proofs.Fitting.{topped}
 use Rattle.coset.proofs.Least.{Tail, tail_at, tail_zero, tail_one, least_le}
 use Rattle.pass.specs.Pass.{Advance, lowest, met, Pass}
-use Rattle.pass.specs.Steps.{Fold, Add, Made, laid, added}
+use Rattle.pass.specs.Steps.{Fold, Add, Made, laid}
 use Rattle.pass.proofs.Adjoint.{held}
 use Rattle.pass.proofs.Lowest.{least_cut}
 use Rattle.pass.proofs.Rows.{made_none, made_more}
@@ -33,7 +34,7 @@ number size cap a hs zs os v i j = meet cap size (front a j) (back (holding i v)
 -- the number of a column written
 write_more : {rule : ℕ → ℕ → ℕ} {i n : ℕ} {out₀ out out' : List ℕ} → Made rule i out₀ out → i < n → length out₀ ≡ n * 4 → (f : ℕ → ℕ) → out' ≡ put out i (lanes f) → ((j : ℕ) → j < 4 → f j ≡ rule i j) →
     Made rule (i + 1) out₀ out'
-write_more m l e f p h = rw p (made_more m (lanes f) (omega arith) (λ j lj. lanes_at f j lj ∙ h j lj))
+write_more m l e f p h = rw p (made_more m (lanes f) refl (omega arith) (λ j lj. lanes_at f j lj ∙ h j lj))
 
 -- THE HEADS: a is the table before column i, and where a head is passed g is the table behind it
 pub record Heads (q size cap : ℕ) (a₀ hs zs os zero₀ one₀ : List ℕ) (i : ℕ) (a g zero one : List ℕ) : Type 0 where
@@ -61,26 +62,24 @@ unfolding fore step
 fore_le col g cap top size b zero s l h = omega (arith, b s l)
 fore_le col g cap top size b (suc i) s l h = omega (arith, fore_le col g cap top size b i s l (λ p u. h p (omega arith)), h i (omega arith), suc-mul i top)
 
-module _ {q size cap : ℕ} {a₀ g₀ hs zs os : List ℕ} {kept : List ℤ} {zero₀ one₀ : List ℕ} (w : Pass q size cap a₀ g₀ hs zs os kept zero₀ one₀) where
+module _ {q size cap : ℕ} {a₀ g₀ hs zs os : List ℕ} {kept : List ℤ} {zero₀ one₀ : List ℕ} (fit : Fit q size hs zs os)
+    (w : Pass q size cap a₀ g₀ hs zs os kept zero₀ one₀) where
   abbrev n : ℕ
   n = length hs
 
   abbrev y : Layers q size hs zs os
-  y = w.layers
+  y = topped fit w.top w.cost_zs w.cost_os (omega (arith, w.cap_small))
 
   -- the cap and the costs of all columns are small
-  tops : (i d : ℕ) → i + d ≤ n → cap + (i * y.top + d * y.top) < 2 ^ 15
-  tops i d l = omega (arith, add-mul i d y.top, mul-le-mul_right y.top l, w.cap_small)
+  tops : (i d : ℕ) → i + d ≤ n → cap + (i * w.top + d * w.top) < 2 ^ 15
+  tops i d l = omega (arith, add-mul i d w.top, mul-le-mul_right w.top l, w.cap_small)
 
-  before_le : (i s j : ℕ) → i ≤ n → s < size → j < 4 → before a₀ hs zs os i j s ≤ cap + i * y.top
-  before_le i s j l ls lj = fore_le (layer hs zs os j) (front a₀ j) cap y.top size (λ s ls. w.start s j ls lj) i s ls (λ p u. y.cost_zs p j (omega arith) lj)
+  before_le : (i s j : ℕ) → i ≤ n → s < size → j < 4 → before a₀ hs zs os i j s ≤ cap + i * w.top
+  before_le i s j l ls lj = fore_le (layer hs zs os j) (front a₀ j) cap w.top size (λ s ls. w.start s j ls lj) i s ls (λ p u. y.cost_zs p j (omega arith) lj)
 
   -- what the calls ask of a column's costs and of the outputs
-  pub narrow_asks : {i : ℕ} (t : List ℕ) → length t ≡ n * 4 → ((i j : ℕ) → i < n → j < 4 → entry t i j ≤ y.top) → i < n → (i * 4 + 4 ≤ length t) × Small (2 ^ 16) (row t i)
+  pub narrow_asks : {i : ℕ} (t : List ℕ) → length t ≡ n * 4 → ((i j : ℕ) → i < n → j < 4 → entry t i j ≤ w.top) → i < n → (i * 4 + 4 ≤ length t) × Small (2 ^ 16) (row t i)
   narrow_asks {i} t e h l = (omega arith, λ j lj. omega (arith, row_at t i j lj, h i j l lj, tops 0 1 (omega arith)))
-
-  pub outs_in : {i k : ℕ} {r r' : ℕ → ℕ → ℕ} {zeros ones : List ℕ} → Made r k zero₀ zeros → Made r' k one₀ ones → i < n → (i * 4 + 4 ≤ length zeros) × (i * 4 + 4 ≤ length ones)
-  outs_in f g l = (omega (arith, f.long, w.length_zero), omega (arith, g.long, w.length_one))
 
   -- column i with the bit v, from the front and from the back
   held_at : (v i j : ℕ) → i < n →
@@ -116,26 +115,25 @@ module _ {q size cap : ℕ} {a₀ g₀ hs zs os : List ℕ} {kept : List ℤ} {z
     wide = over q size h y.size_is (y.inside i head_in)
 
     module _ {g' : List ℕ} (b : Costs size hs zs os (suc i) g') where
-      behind_le : (s j : ℕ) → s < size → j < 4 → entry g' s j ≤ (n - suc i) * y.top
+      behind_le : (s j : ℕ) → s < size → j < 4 → entry g' s j ≤ (n - suc i) * w.top
       behind_le s j ls lj =
           let d : ℕ = n - suc i in
           let e : n - d ≡ suc i = omega arith in
           omega (arith, b.costs s j ls lj, least_le y lj d s (omega arith) (omega arith) ls, ap (λ (x : ℕ). least hs zs os x j s) e)
 
       -- a table before, a cost and a table behind
-      room : (c s u j : ℕ) → c ≤ y.top → s < size → u < size → j < 4 → entry a s j + c + entry g' u j < 2 ^ 15
+      room : (c s u j : ℕ) → c ≤ w.top → s < size → u < size → j < 4 → entry a s j + c + entry g' u j < 2 ^ 15
       room c s u j lc ls lu lj =
           let k : ℕ = n - suc i in
-          omega (arith, f.here s j ls lj, before_le i s j (omega arith) ls lj, behind_le u j lu lj, tops i (suc k) (omega arith), suc-mul k y.top)
+          omega (arith, f.here s j ls lj, before_le i s j (omega arith) ls lj, behind_le u j lu lj, tops i (suc k) (omega arith), suc-mul k w.top)
 
-      pub head_asks : Advance q size h cap a g' (row zs i) (row os i)
+      pub head_asks : Advance q size h a g' (row zs i) (row os i)
       head_asks = record {
         size_is = y.size_is;
         inside = y.inside i head_in;
         some = y.heads i head_in;
         length_a = f.long_a;
         length_t = b.long;
-        cap_small = omega (arith, w.cap_small);
         room_z = λ s u j ls lu lj. rw (row_at zs i j lj) (room (entry zs i j) s u j (y.cost_zs i j head_in lj) ls lu lj);
         room_o = λ s u j ls lu lj. rw (row_at os i j lj) (room (entry os i j) s u j (y.cost_os i j head_in lj) ls lu lj);
       }
@@ -194,20 +192,6 @@ module _ {q size cap : ℕ} {a₀ g₀ hs zs os : List ℕ} {kept : List ℤ} {z
           );
     }
 
-    pub tails_start : {a' : List ℕ} → Made (added a g) size a a' → Tails q size cap a₀ hs zs os zero₀ one₀ (n - q) size a' zeros ones
-    tails_start {a'} r =
-        let e : i ≡ n - q = omega (arith, f.inside) in
-        let d : n - (n - q) ≡ q = omega (arith, y.fits) in
-        record {
-          from = omega arith;
-          inside = omega arith;
-          half_is = rw d y.size_is;
-          long_a = r.long ∙ f.long_a;
-          here = λ s j ls lj. rw (← e) (r.made s j ls lj ∙ ap₂ (λ (x y : ℕ). x + y) (f.here s j ls lj) (costs.costs s j ls lj));
-          done_0 = rw e at f.done_0;
-          done_1 = rw e at f.done_1;
-        }
-
   -- A COLUMN OF THE TAIL
   module _ {i half : ℕ} {a zeros ones : List ℕ} (f : Tails q size cap a₀ hs zs os zero₀ one₀ i half a zeros ones) (l : i < n) where
     abbrev k : ℕ
@@ -232,7 +216,7 @@ module _ {q size cap : ℕ} {a₀ g₀ hs zs os : List ℕ} {kept : List ℤ} {z
     half_in = omega (arith, two-pow-succ k, powers (suc k) q lk, y.size_is)
 
     module _ {j : ℕ} (lj : j < 4) where
-      tail : Tail hs zs os y.top j k
+      tail : Tail hs zs os w.top j k
       tail = tail_at y lj k (omega (arith, lk))
 
       with_0 : (s : ℕ) → s < 2 ^ k → entry a s j ≡ before a₀ hs zs os i j s + entry zs i j + least hs zs os (suc i) j s
@@ -281,19 +265,9 @@ module _ {q size cap : ℕ} {a₀ g₀ hs zs os : List ℕ} {kept : List ℤ} {z
           with_1
           ∙ cut 1
 
-    pub fold_asks : Fold (half / 2) cap a
+    pub fold_asks : Fold (half / 2) a
     fold_asks = rw halves record {
       inside = omega (arith, f.long_a, half_in);
-      cap_small = omega (arith, w.cap_small);
-      small = λ s j ls lj.
-          omega (
-            arith,
-            f.here s j (omega (arith, twice)) lj,
-            before_le i s j (omega arith) (omega (arith, half_in)) lj,
-            (tail_at y lj (suc k) lk).near s (omega (arith, two-pow-succ k)),
-            ap (λ (x : ℕ). least hs zs os x j s) here_is,
-            tops i (suc k) (omega arith),
-          );
     }
 
     pub tails_more : {a' zeros' ones' : List ℕ} → Made (laid (half / 2) a) (half / 2) a a' → zeros' ≡ put zeros i (lanes (lowest cap (half / 2) (entry a))) →

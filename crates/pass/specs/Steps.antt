@@ -2,12 +2,12 @@
 -- they leave. Assumes nothing: these are definitions.
 use Rattle.std.specs.Prelude.{◌≡◌, List, ℕ, ◌+◌, ◌-◌, ◌*◌, ◌%◌, ◌≤◌, ◌<◌, min, ℤ, length}
 use Rattle.lanes.specs.Lanes.{entry, row, limit}
-use Rattle.rows.specs.Rows.{sum, less, Small, Sums}
-use Rattle.coset.specs.Coset.{Layers, Kept}
+use Rattle.rows.specs.Rows.{sum, less, Sums}
+use Rattle.coset.specs.Coset.{Kept}
 use Rattle.coset.specs.Runs.{paired}
 
 -- two rows that differ by a column: what `advance_rows` asks, and what it leaves
-pub record AdvanceRows (a t : List ℕ) (s u : ℕ) (z o zero one : List ℕ) : Type 0 where
+pub record AdvanceRows (a t : List ℕ) (s u : ℕ) (z o : List ℕ) : Type 0 where
   pub s_in : s * 4 + 4 ≤ length a
   pub u_in : u * 4 + 4 ≤ length a
   pub s_behind : s * 4 + 4 ≤ length t
@@ -16,8 +16,6 @@ pub record AdvanceRows (a t : List ℕ) (s u : ℕ) (z o zero one : List ℕ) : 
   pub u_z : Sums limit (sum (row a u) z) (row t u)
   pub u_o : Sums limit (sum (row a u) o) (row t s)
   pub s_o : Sums limit (sum (row a s) o) (row t u)
-  pub small_zero : Small limit zero
-  pub small_one : Small limit one
 
 pub record AdvancedRows (a t : List ℕ) (s u : ℕ) (z o zero one to zero' one' : List ℕ) : Type 0 where
   pub next : to ≡ paired a s u z o
@@ -25,19 +23,13 @@ pub record AdvancedRows (a t : List ℕ) (s u : ℕ) (z o zero one to zero' one'
   pub one_is : one' ≡ less one (less (sum (sum (row a u) o) (row t s)) (sum (sum (row a s) o) (row t u)))
 
 -- row u laid on row s: what `fold_rows` asks
-pub record FoldRows (a : List ℕ) (s u : ℕ) (zero one : List ℕ) : Type 0 where
+pub record FoldRows (a : List ℕ) (s u : ℕ) : Type 0 where
   pub s_in : s * 4 + 4 ≤ length a
   pub u_in : u * 4 + 4 ≤ length a
-  pub small_s : Small limit (row a s)
-  pub small_u : Small limit (row a u)
-  pub small_zero : Small limit zero
-  pub small_one : Small limit one
 
 -- what `fold` asks
-pub record Fold (half cap : ℕ) (a : List ℕ) : Type 0 where
+pub record Fold (half : ℕ) (a : List ℕ) : Type 0 where
   pub inside : (half + half) * 4 ≤ length a
-  pub cap_small : cap < limit
-  pub small : (s j : ℕ) → s < half + half → j < 4 → entry a s j < limit
 
 -- what `add` asks
 pub record Add (size : ℕ) (a g : List ℕ) : Type 0 where
@@ -61,7 +53,6 @@ added a g s j = entry a s j + entry g s j
 
 -- what `behind` asks: a head, the tables kept, and room for a table
 pub record Behind (q size i : ℕ) (hs zs os : List ℕ) (kept : List ℤ) (g : List ℕ) : Type 0 where
-  pub layers : Layers q size hs zs os
   pub tables : Kept q size hs zs os kept
   pub inside : i < length hs - q
   pub length_kept : (length hs - q - 1) * (size * 4) ≤ length kept

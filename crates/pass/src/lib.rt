@@ -5,10 +5,12 @@
 
 ghost use Rattle.std.specs.Prelude.{◌≡◌, ◌+◌, ◌*◌, ◌≤◌, length};
 ghost use Rattle.lanes.specs.Lanes.{entry, row, put, lanes, limit};
-ghost use Rattle.rows.specs.Rows.{sum, less, Small, Sums};
+ghost use Rattle.rows.specs.Rows.{sum, less, Sums};
 ghost use Rattle.coset.specs.Coset.{Costs, Freed};
 ghost use Rattle.pass.specs.Steps.{AdvanceRows, AdvancedRows, FoldRows, Fold, Add, Behind, Made, laid, added};
 ghost use Rattle.pass.specs.Pass.{Advance, met, lowest, Pass, Passed};
+
+use coset::FourLayers;
 
 // What a column has at the least with a 0 and with a 1, in each layer.
 #[derive(Clone, Copy)]
@@ -19,12 +21,11 @@ pub struct Pair {
 
 // The less, lane by lane, of r and two sums.
 fn lowered(r: [u16; 4], a: [u16; 4], b: [u16; 4], c: [u16; 4], d: [u16; 4]) -> [u16; 4]
-    requires small { Small limit r }
-    requires sums { Sums limit a b }
-    requires sums_2 { Sums limit c d }
+    requires first_sum { Sums limit a b }
+    requires second_sum { Sums limit c d }
     ensures { result ≡ less r (less (sum a b) (sum c d)) }
 {
-    rows::least(r, rows::least(rows::add(a, b), rows::add(c, d)))
+    rows::least(r, rows::least(rows::plus(a, b), rows::plus(c, d)))
 }
 
 // Rows s and u, which differ by a column, carried past it, each from both; on the way they are met with the table behind.
@@ -38,15 +39,15 @@ fn advance_rows(
     zero: [u16; 4],
     one: [u16; 4],
 ) -> Pair
-    requires { AdvanceRows a.old t.now s u z o zero one }
+    requires { AdvanceRows a.old t.now s u z o }
     ensures { AdvancedRows a.old t.now s u z o zero one a.new result.zero result.one }
 {
     let x = lanes::load(a, s);
     let y = lanes::load(a, u);
-    let xz = rows::add(x, z);
-    let yo = rows::add(y, o);
-    let yz = rows::add(y, z);
-    let xo = rows::add(x, o);
+    let xz = rows::plus(x, z);
+    let yo = rows::plus(y, o);
+    let yz = rows::plus(y, z);
+    let xo = rows::plus(x, o);
     let c = lanes::load(t, s);
     let d = lanes::load(t, u);
     let v = lowered(zero, xz, c, yz, d);
@@ -71,17 +72,19 @@ fn advance(
     ones: &mut [u16],
     i: usize,
 )
-    requires advance { Advance q size h cap a.old t.now z o }
-    requires i_in_bounds { i * 4 + 4 ≤ length zeros.old }
-    requires i_in_bounds_2 { i * 4 + 4 ≤ length ones.old }
+    requires advance { Advance q size h a.old t.now z o }
+    requires row_of_zeros { i * 4 + 4 ≤ length zeros.old }
+    requires row_of_ones { i * 4 + 4 ≤ length ones.old }
     ensures freed { Freed size h a.old z o a.new }
     ensures zeros_after { zeros.new ≡ put zeros.old i (lanes (met size h cap a.old t.now z o 0)) }
     ensures ones_after { ones.new ≡ put ones.old i (lanes (met size h cap a.old t.now z o 1)) }
 {
     let top = coset::top_of(h);
+    // Not `[cap; 4]`, tried here: the rows are then carried round the loop lane by lane, in six times as many instructions.
     let mut zero = [cap, cap, cap, cap];
     let mut one = [cap, cap, cap, cap];
     let mut s = 0;
+    // No `for`: that the rows in which the highest bit is 1 are passed over, a `filter` would say no more plainly.
     while s < size {
         let r = advance_rows(a, t, s, s ^ h, z, o, zero, one);
         let x = r.zero;
@@ -91,13 +94,14 @@ fn advance(
         let next = s + 1;
         s = next + (next & top);
     }
+    // The less of a row with itself is the row. One `Pair` and `lanes::store`, tried here, put it together lane by lane.
     rows::store_least(zeros, i, zero, zero);
     rows::store_least(ones, i, one, one);
 }
 
 // Row u laid on row s, and the least of such rows so far.
 fn fold_rows(a: &mut [u16], s: usize, u: usize, zero: [u16; 4], one: [u16; 4]) -> Pair
-    requires { FoldRows a.old s u zero one }
+    requires { FoldRows a.old s u }
     ensures a_after { a.new ≡ put a.old s (less (row a.old s) (row a.old u)) }
     ensures zero_value { result.zero ≡ less zero (row a.old s) }
     ensures one_value { result.one ≡ less one (row a.old u) }
@@ -113,23 +117,22 @@ fn fold_rows(a: &mut [u16], s: usize, u: usize, zero: [u16; 4], one: [u16; 4]) -
 
 // The upper half of a table laid on the lower, row by row, and what each half has at the least written to row i.
 fn fold(a: &mut [u16], half: usize, cap: u16, zeros: &mut [u16], ones: &mut [u16], i: usize)
-    requires fold { Fold half cap a.old }
-    requires i_in_bounds { i * 4 + 4 ≤ length zeros.old }
-    requires i_in_bounds_2 { i * 4 + 4 ≤ length ones.old }
+    requires fold { Fold half a.old }
+    requires row_of_zeros { i * 4 + 4 ≤ length zeros.old }
+    requires row_of_ones { i * 4 + 4 ≤ length ones.old }
     ensures made { Made (laid half a.old) half a.old a.new }
     ensures zeros_after { zeros.new ≡ put zeros.old i (lanes (lowest cap half (entry a.old))) }
     ensures ones_after { ones.new ≡ put ones.old i (lanes (lowest cap half (λ s. entry a.old (half + s)))) }
 {
+    // Rows made, carried and written as in `advance`.
     let mut zero = [cap, cap, cap, cap];
     let mut one = [cap, cap, cap, cap];
-    let mut s = 0;
-    while s < half {
+    for s in 0..half {
         let r = fold_rows(a, s, half + s, zero, one);
         let lower = r.zero;
         let upper = r.one;
         zero = lower;
         one = upper;
-        s += 1;
     }
     rows::store_least(zeros, i, zero, zero);
     rows::store_least(ones, i, one, one);
@@ -141,6 +144,7 @@ fn add(a: &mut [u16], g: &[u16], size: usize)
     ensures { Made (added a.old g.now) size a.old a.new }
 {
     let mut s = 0;
+    // Not `step_by(2)`: as in the crate coset, the loop takes more instructions.
     while s < size {
         lanes::store_two(
             a,
@@ -152,25 +156,16 @@ fn add(a: &mut [u16], g: &[u16], size: usize)
 }
 
 // The table behind head i: the one kept or, behind the last head, the costs of the tails.
-fn behind(
-    g: &mut [u16],
-    kept: &[i32],
-    i: usize,
-    q: u32,
-    size: usize,
-    hs: &[u16],
-    zs: &[u32],
-    os: &[u32],
-)
-    requires { Behind q size i hs.now zs.now os.now kept.now g.old }
-    ensures { Costs size hs.now zs.now os.now (i + 1) g.new }
+fn behind(g: &mut [u16], kept: &[i32], i: usize, layers: FourLayers)
+    requires { Behind layers.q layers.size i layers.hs.now layers.zs.now layers.os.now kept.now g.old }
+    ensures { Costs layers.entry.size layers.entry.hs.now layers.entry.zs.now layers.entry.os.now (i + 1) g.new }
 {
-    if i + 1 < hs.len() - (q as usize) {
-        let at = i * (size * 4);
-        let end = at + size * 4;
+    if i + 1 < layers.hs.len() - (layers.q as usize) {
+        let at = i * (layers.size * 4);
+        let end = at + layers.size * 4;
         coset::restore(&kept[at..end], g);
     } else {
-        coset::tail(g, q, size, hs, zs, os);
+        coset::tail(g, layers);
     }
 }
 
@@ -179,35 +174,27 @@ pub fn pass(
     a: &mut [u16],
     g: &mut [u16],
     kept: &[i32],
-    q: u32,
-    size: usize,
-    hs: &[u16],
-    zs: &[u32],
-    os: &[u32],
+    layers: FourLayers,
     cap: u16,
     zero: &mut [u16],
     one: &mut [u16],
 )
-    requires { Pass q size cap a.old g.old hs.now zs.now os.now kept.now zero.old one.old }
-    ensures passed { Passed size cap a.old hs.now zs.now os.now 0 (length hs.now) zero.new }
-    ensures passed_2 { Passed size cap a.old hs.now zs.now os.now 1 (length hs.now) one.new }
+    requires { Pass layers.q layers.size cap a.old g.old layers.hs.now layers.zs.now layers.os.now kept.now zero.old one.old }
+    ensures zeros_passed { Passed layers.entry.size cap a.old layers.entry.hs.now layers.entry.zs.now layers.entry.os.now 0 (length layers.entry.hs.now) zero.new }
+    ensures ones_passed { Passed layers.entry.size cap a.old layers.entry.hs.now layers.entry.zs.now layers.entry.os.now 1 (length layers.entry.hs.now) one.new }
 {
-    let heads = hs.len() - (q as usize);
-    let mut i = 0;
-    while i < heads {
-        behind(g, kept, i, q, size, hs, zs, os);
-        let h = hs[i] as usize;
-        let z = rows::narrow(zs, i);
-        let o = rows::narrow(os, i);
-        advance(a, g, q, size, h, z, o, cap, zero, one, i);
-        i += 1;
+    let heads = layers.hs.len() - layers.q as usize;
+    for i in 0..heads {
+        behind(g, kept, i, layers);
+        let h = layers.hs[i] as usize;
+        let z = rows::narrow(layers.zs, i);
+        let o = rows::narrow(layers.os, i);
+        advance(a, g, layers.q, layers.size, h, z, o, cap, zero, one, i);
     }
-    add(a, g, size);
-    let mut half = size;
-    let mut k = heads;
-    while k < hs.len() {
-        half = half / 2;
+    add(a, g, layers.size);
+    let mut half = layers.size;
+    for k in heads..layers.hs.len() {
+        half /= 2;
         fold(a, half, cap, zero, one, k);
-        k += 1;
     }
 }

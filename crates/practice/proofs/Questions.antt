@@ -1,16 +1,19 @@
 -- The questions that are drawn: each is one that a sheet can hold, and what is left to draw.
 -- Assumes nothing.
-use Rattle.basics.proofs.Kit.{◌≡◌, refl, sym, ap, ap₂, ◌∙◌, true, ◌&&◌, List, ◌∷◌, ◌++◌, ℕ, zero, suc, ◌+◌, ◌-◌, ◌*◌, ◌^◌, ◌≤◌, ◌<◌, arith, length, take, ℤ}
-use Rattle.std.proofs.Common.{replicate, suc-mul, add-one, length-append, take_at, pow_pos, lt-ltb, eqb-true, leb-true}
+use Rattle.basics.proofs.Kit.{◌≡◌, refl, sym, ap, ap₂, ◌∙◌, true, ◌&&◌, List, ◌∷◌, ◌++◌, ℕ, zero, suc, ◌+◌, ◌-◌, ◌*◌, ◌^◌, ◌≤◌, ◌<◌, arith, length, take, drop, ℤ, pos}
+use Rattle.std.proofs.Common.{replicate, suc-mul, add-one, length-append, length-take-le, take_at, pow_pos, lt-ltb, eqb-true, leb-true}
 use lib.ListN.{length-replicate}
 use Rattle.refusal.proofs.Tests.{passed, first_none}
+use Rattle.code.specs.declared.shape.Shape.{Shape}
 use Rattle.code.specs.Code.{code_good, width, long, symbols_good}
 use Rattle.code.specs.Bits.{row_long}
 use Rattle.code.proofs.Accepted.{number_taken}
-use Rattle.sheet.specs.declared.Form.{Form}
-use Rattle.sheet.specs.Sheet.{reliabilities, most, question_long, question_words, all_words, question_good, all_good}
+use Rattle.sheet.specs.declared.form.Form.{Form}
+use Rattle.sheet.specs.Sheet.{question, reliabilities, most, question_long, question_words, all_words, question_good, all_good}
+use Rattle.sheet.proofs.Forms.{bits_le, n_le}
 use Rattle.sheet.proofs.Longest.{question_length, written_length}
 use Rattle.sheet.proofs.Trips.{parts_good}
+use Rattle.sheet_writer.proofs.Lists.{row_of_code, word_of_code}
 use Rattle.practice.specs.Practice.{row_drawn, after, question_drawn, drawn_from, drawn}
 use Rattle.practice.specs.Calls.{practice_refusal}
 use Rattle.practice.specs.Within.{SheetWithin}
@@ -67,6 +70,25 @@ zeros_of (suc k) (suc n) h = ap (λ (l : List ℕ). 0 ∷ l) (zeros_of k n (omeg
 
 pub word_lent : {k l : ℕ} (n : ℕ) → k ≡ l → k ≤ n → take {A = ℕ} k (replicate n 0) ≡ replicate l 0
 word_lent {k} n e h = zeros_of k n h ∙ ap (λ (x : ℕ). replicate x 0) e
+
+-- a row that was drawn into the start of an array, and the question that is lent with it
+module _ (c : ℕ) (sh : Shape) (m : sh.m ≡ width c) (st : ℕ) where
+  abbrev places : List ℤ
+  places = replicate 60 (pos 0)
+
+  pub part : length (take sh.bits places) ≡ sh.bits
+  part = length-take-le _ places (bits_le sh)
+
+  module _ {row : List ℤ} (is : row ≡ row_drawn (length (take sh.bits places)) st) where
+    row_is : row ≡ row_drawn (row_long (width c)) st
+    row_is = is ∙ ap (λ (n : ℕ). row_drawn n st) (part ∙ row_of_code c sh m)
+
+    pub room : sh.bits ≤ length (row ++ drop sh.bits places)
+    room =
+        omega (arith, length-append row (drop sh.bits places), ap length row_is, row_length (row_long (width c)) st, row_of_code c sh m)
+
+    pub lent : (i : ℕ) → question c i (take sh.bits (row ++ drop sh.bits places)) (take sh.n (replicate 15 0)) ≡ question_drawn i c st
+    lent i = ap₂ (question c i) (row_lent _ _ _ (row_of_code c sh m) row_is) (word_lent 15 (word_of_code c sh m) (n_le sh))
 
 -- what is not refused can be drawn
 pub accepted : (c n s o : ℕ) → practice_refusal c n s o ≡ 0 → SheetWithin c n s o

@@ -3,7 +3,6 @@ use Rattle.std.specs.Prelude.{◌≡◌, ℕ, List, length, ◌==◌, nat_le}
 use Rattle.refusal.specs.Refusal.{unless, first, Outcome}
 use Rattle.code.specs.Code.{number_refusal}
 use Rattle.sheet.specs.Sheet.{most, written}
-use Rattle.practice.specs.declared.Drawn.{Drawn}
 use Rattle.practice.specs.Practice.{drawn, state_after}
 
 -- more than 200 questions 12, then the code 1, even for no questions, then an output of another length 4
@@ -14,7 +13,7 @@ practice_refusal c n s o =
     (unless (o == length (written (drawn c n s))) 4 0))
 
 -- the output is the sheet of the questions drawn, and the state that after the last draw; a refusal keeps both
-unfoldable pub PracticeSays : (code count state : ℕ) → Drawn → (output output_now : List ℕ) → Type 0
-PracticeSays c n s a o p =
-    Outcome (practice_refusal c n s (length o)) a.number
-    ((a.state ≡ state_after c n s) × (p ≡ written (drawn c n s))) ((a.state ≡ s) × (p ≡ o))
+unfoldable pub PracticeSays : (code count state : ℕ) → (answer state_now : ℕ) → (output output_now : List ℕ) → Type 0
+PracticeSays c n s a t o p =
+    Outcome (practice_refusal c n s (length o)) a
+    ((t ≡ state_after c n s) × (p ≡ written (drawn c n s))) ((t ≡ s) × (p ≡ o))

@@ -6,7 +6,7 @@ use Rattle.practice.specs.Calls.{PracticeSays}
 
 -- what the call leaves where it refuses nothing, and the state that it hands back
 unfoldable pub Practised : (code count state : ℕ) → (state_now : ℕ) → (sheet : List ℕ) → Type 0
-Practised c n s t p = (o : List ℕ) × PracticeSays c n s (record { number = 0; state = t }) o p
+Practised c n s t p = (o : List ℕ) × PracticeSays c n s 0 t o p
 
 -- it is accepted, and reads as the questions drawn
 unfoldable pub PracticeReads : Type 0

@@ -1,22 +1,18 @@
 -- A list of samples passed one by one: whether one is a NaN; and a row that is filled from the front. Assumes nothing.
 use Rattle.basics.proofs.Kit.{◌≡◌, refl, sym, ap, ◌∙◌, Bool, true, false, ◌||◌, List, [], ◌∷◌, ◌++◌, ℕ, zero, suc, ◌+◌, ◌<◌, arith, length, get_or, take, drop, set}
-use mathlib.Core.Path.{subst}
 use mathlib.Core.Bool.{false≢true}
 use mathlib.Core.List.{map}
 use native.Mathlib.Numerals.{add-one}
-use lib.Dec.{T, not_T}
 use lib.Seq.{drop-cons}
-use lib.Ieee.{Float, nan, inf, fin, ne, is_nan}
-use lib.Ieee.Bits.{is_false}
-use lib.Ieee.Compare.{differs_from_itself, nan_differs}
+use lib.Ieee.{Float, nan, is_nan}
+use Rattle.std.specs.List.{list_any}
 use Rattle.quantiser.specs.Calls.{has_nan}
 
--- a NaN, and nothing else, differs from itself
-pub ne_is : (x : Float) → ne x x ≡ is_nan x
-unfolding is_nan
-ne_is nan = nan_differs
-ne_is (inf s) = is_false (ne (inf s) (inf s)) (not_T (ne (inf s) (inf s)) (λ t. subst (λ (y : Float). T (is_nan y)) (sym (differs_from_itself (inf s) t)) tt))
-ne_is (fin s m e) = is_false (ne (fin s m e) (fin s m e)) (not_T (ne (fin s m e) (fin s m e)) (λ t. subst (λ (y : Float). T (is_nan y)) (sym (differs_from_itself (fin s m e) t)) tt))
+-- some sample is a NaN, as a chain of tests finds it
+pub has_nan_is : (xs : List Float) → list_any is_nan xs ≡ has_nan xs
+unfolding has_nan
+has_nan_is [] = refl
+has_nan_is (x ∷ xs) = ap (◌||◌ (is_nan x)) (has_nan_is xs)
 
 -- ---- the samples from place i on, by the first of them and the rest
 pub next : (xs : List Float) (i : ℕ) → i < length xs → has_nan (drop i xs) ≡ (is_nan (get_or xs i nan) || has_nan (drop (i + 1) xs))
@@ -31,6 +27,13 @@ pub numbers :
     (xs : List Float) (i : ℕ) → i < length xs → has_nan (drop i xs) ≡ false →
     (is_nan (get_or xs i nan) ≡ false) × (has_nan (drop (i + 1) xs) ≡ false)
 numbers xs i h e = neither _ _ (sym (next xs i h) ∙ e)
+
+-- where none is a NaN, that at a place is none
+pub number_at : (xs : List Float) (i : ℕ) → i < length xs → has_nan xs ≡ false → is_nan (get_or xs i nan) ≡ false
+unfolding has_nan
+number_at [] i h e = absurd (omega arith)
+number_at (x ∷ xs) zero h e = (neither _ _ e).0
+number_at (x ∷ xs) (suc i) h e = number_at xs i (omega arith) (neither _ _ e).1
 
 -- ---- a row filled from the front
 pub stored :

@@ -89,7 +89,7 @@ by_sign y h k n r =
     ap (rounded 1) (sym e) ∙ rw (of_bits_lem b bits, ← same)
 
 -- ---- what `size_of` works out, in its three ranges of the exponent's field
-pub small : (b : ℕ) → b / 8388608 < 126 → 0 ≡ sized b
+small : (b : ℕ) → b / 8388608 < 126 → 0 ≡ sized b
 unfolding units
 small b h = sym (ap (λ (n : ℕ). min n 127) (div-eq_of_lt (stays _ (2 ^ 148) (less (b / 8388608) (b % 8388608) (omega arith) h))))
   where
@@ -100,7 +100,7 @@ small b h = sym (ap (λ (n : ℕ). min n 127) (div-eq_of_lt (stays _ (2 ^ 148) (
     stays : (u P : ℕ) → u < P → 2 * u + 2 * P < 2 * (2 * P)
     stays u P h = omega arith
 
-pub large : (x t : ℕ) → 134 ≤ x → 127 ≡ size x t
+large : (x t : ℕ) → 134 ≤ x → 127 ≡ size x t
 unfolding units
 large zero t h = absurd (omega arith)
 large (suc x) t h =
@@ -109,6 +109,13 @@ large (suc x) t h =
   where
     reaches : (u P : ℕ) → 8388608 * P ≤ u → 127 * (2 * (65536 * P)) ≤ 2 * u + 65536 * P
     reaches u P k = omega arith
+
+-- so the answers of the first two
+pub is_small : (b : ℕ) → b < 2147483648 → nan_bits binary32 b ≡ false → b / 8388608 < 126 → pos 0 ≡ rounded 1 (of_bits binary32 b)
+is_small b h k l = rw (of_plain b h k) (ap pos (small b l))
+
+pub is_large : (b : ℕ) → b < 2147483648 → nan_bits binary32 b ≡ false → 134 ≤ b / 8388608 → pos 127 ≡ rounded 1 (of_bits binary32 b)
+is_large b h k l = rw (of_plain b h k) (ap pos (large (b / 8388608) (b % 8388608) l))
 
 pub middle : (x t : ℕ) → 126 ≤ x → nearest (units x t) (2 ^ 149) ≡ nearest ((8388608 + t) * 2 ^ (x - 126)) 16777216
 unfolding units

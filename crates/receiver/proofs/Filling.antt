@@ -1,6 +1,6 @@
 -- A row filled symbol by symbol: what stands before place b, with the row of the symbols that are left, is the whole row.
 -- Assumes nothing.
-use Rattle.basics.proofs.Kit.{◌≡◌, refl, sym, ap, ◌∙◌, false, ◌||◌, List, [], ◌∷◌, ◌++◌, ℕ, ◌+◌, ◌-◌, ◌≤◌, ◌<◌, arith, length, get_or, take, drop, set, ℤ}
+use Rattle.basics.proofs.Kit.{◌≡◌, refl, sym, ap, ◌∙◌, false, ◌||◌, List, [], ◌++◌, ℕ, ◌+◌, ◌-◌, ◌≤◌, ◌<◌, arith, length, get_or, take, drop, ℤ}
 use mathlib.Core.List.{append-nil, append_assoc}
 use native.Mathlib.Nat.{zero-add}
 use native.Mathlib.Numerals.{add-one}
@@ -17,24 +17,18 @@ use Rattle.receiver.specs.Receive.{symbol, taken, total, received, reliabilities
 use Rattle.receiver.specs.Within.{held, SymbolWithin, PutSays, RowWithin}
 use Rattle.receiver.proofs.Symbols.{total_next, symbol_numbers}
 
--- the first entries of a row set one by one
-pub set_one : (row : List ℤ) (a : ℤ) → 1 ≤ length row → PutSays (a ∷ []) 1 row (set row 0 a)
-set_one [] a h = absurd (omega arith)
-set_one (x ∷ row) a h = record { many = refl; row_is = refl }
-
-pub set_two : (row : List ℤ) (a b : ℤ) → 2 ≤ length row → PutSays (a ∷ b ∷ []) 2 row (set (set row 0 a) 1 b)
-set_two [] a b h = absurd (omega arith)
-set_two (x ∷ []) a b h = absurd (omega arith)
-set_two (x ∷ y ∷ row) a b h = record { many = refl; row_is = refl }
-
 -- the samples of a symbol that is known
 pub single_number : (s : Received) (x : Float) → s ≡ Single x → has_nan (held s) ≡ false → is_nan x ≡ false
 unfolding held has_nan
 single_number s x e n = (neither (is_nan x) false (rw e at n)).0
 
-pub pair_numbers : (s : Received) (p : Pair) → s ≡ Paired p → has_nan (held s) ≡ false → (is_nan p.in_phase ≡ false) × (is_nan p.quadrature ≡ false)
+pub in_phase_number : (s : Received) (p : Pair) → s ≡ Paired p → has_nan (held s) ≡ false → is_nan p.in_phase ≡ false
 unfolding held has_nan
-pair_numbers s p e n = let a = neither (is_nan p.in_phase) (is_nan p.quadrature || false) (rw e at n) in (a.0, (neither (is_nan p.quadrature) false a.1).0)
+in_phase_number s p e n = (neither (is_nan p.in_phase) (is_nan p.quadrature || false) (rw e at n)).0
+
+pub quadrature_number : (s : Received) (p : Pair) → s ≡ Paired p → has_nan (held s) ≡ false → is_nan p.quadrature ≡ false
+unfolding held has_nan
+quadrature_number s p e n = (neither (is_nan p.quadrature) false (neither (is_nan p.in_phase) (is_nan p.quadrature || false) (rw e at n)).1).0
 
 module _ (ks : List ℕ) (xs : List Float) where
   -- the row of the symbols from kind i and from sample at on
@@ -112,9 +106,6 @@ module _ (ks : List ℕ) (xs : List Float) where
 
         pub put_fits : SymbolWithin s (length (take (length row - b) (drop b row)))
         put_fits = rw (symbol_is, tail_is row b) fits
-
-        pub put_inside : {count : ℕ} → count ≡ length (reliabilities_of s) → b + count ≤ length row
-        put_inside n = rw (n, symbol_is) row_inside
 
         pub turned : {part : List ℤ} {count took : ℕ} → took ≡ taken kind → PutSays (reliabilities_of s) count (take (length row - b) (drop b row)) part →
             Filled (take b row ++ (part ++ drop (length row - b) (drop b row))) (i + 1) (at + took) (b + count)

@@ -1,18 +1,20 @@
--- What is known of a call that is not refused, and of one in a code that was chosen.
+-- What is known of a call that is not refused, and what its samples are refused by.
 -- Assumes nothing.
-use Rattle.basics.proofs.Kit.{◌≡◌, sym, ◌∙◌, List, ℕ, length, eqb, ℤ}
+use Rattle.basics.proofs.Kit.{◌≡◌, refl, Bool, true, false, not, cond, sym, ◌∙◌, List, ℕ, length, eqb}
 use borrow.Author.Tests.{eqb-true, not-true}
 use lib.Ieee.{Float}
-use Rattle.refusal.specs.Refusal.{first, Outcome}
 use Rattle.refusal.proofs.Tests.{passed}
-use Rattle.code.specs.declared.Chosen.{Chosen}
-use Rattle.code.specs.Within.{ChosenSays}
-use Rattle.code.proofs.Promise.{as_chosen}
 use Rattle.field.proofs.Tests.{and_l, and_r, to_T, from_T}
 use Rattle.code.specs.Bits.{row_long}
 use Rattle.receiver.specs.Receive.{taken, total, received, received_row}
-use Rattle.receiver.specs.Calls.{fills, receive_refusal, ReceiveSays}
-use Rattle.receiver.specs.Within.{RowWithin}
+use Rattle.receiver.specs.Calls.{kinds_good, fills, receive_refusal}
+use Rattle.receiver.specs.Within.{bits, RowWithin}
+use Rattle.receiver.proofs.Symbols.{row_bits}
+use Rattle.quantiser.specs.Calls.{has_nan}
+use Rattle.std.specs.Prelude.{Result}
+use Rattle.refusal.specs.declared.Refusal.{Refusal}
+use Rattle.refusal.specs.declared.Refusal.TheVariants.{Sample}
+use Rattle.refusal.specs.Refusal.{number_of, ensured, unless}
 
 -- what holds where nothing is refused
 pub accepted : (m : ℕ) (ks : List ℕ) (xs : List Float) (o : ℕ) → receive_refusal m ks xs o ≡ 0 → (o ≡ row_long m) × RowWithin ks xs o
@@ -25,14 +27,25 @@ accepted m ks xs o e =
     let row = eqb-true _ _ a.0 in (
       row,
       record {
+        known = (passed _ _ _ a.1).0;
         filled = eqb-true _ _ (from_T long (and_l long spent (to_T b.0))) ∙ sym row;
         spent = eqb-true _ _ (from_T spent (and_r long spent (to_T b.0)));
         numbers = not-true _ (passed _ _ _ b.1).0;
       },
     )
 
--- what a call says of the chosen m and r it says of those that were asked for
-pub receive_as : {z m r : ℕ} {a : Chosen} → ChosenSays z m r a → (ks : List ℕ) (xs : List Float) (n : ℕ) (o p : List ℤ) →
-    ReceiveSays a.number a.shape.m ks xs n o p → ReceiveSays z m ks xs n o p
-unfolding ReceiveSays first Outcome
-receive_as s ks xs n o p = as_chosen (λ z m r. ReceiveSays z m ks xs n o p) (λ n m r k l e. e) s
+pub row_within : (m : ℕ) (ks : List ℕ) (xs : List Float) (o : ℕ) → 0 ≡ receive_refusal m ks xs o → RowWithin ks xs o
+row_within m ks xs o e = (accepted m ks xs o (sym e)).1
+
+-- what is left to refuse once the row's length, the kinds and the counts are right
+pub samples_left :
+    (m : ℕ) (ks : List ℕ) (xs : List Float) (o : ℕ) (a : Result Unit Refusal) → eqb o (row_long m) ≡ true → 0 ≡ unless (kinds_good ks) 14 0 →
+    eqb (total bits ks) (row_long m) ≡ true → eqb (total taken ks) (length xs) ≡ true → a ≡ ensured (not (has_nan xs)) Sample →
+    number_of a ≡ receive_refusal m ks xs o
+unfolding receive_refusal fills unless
+samples_left m ks xs o a p q r s e =
+    rw (e, p, (passed (kinds_good ks) 13 0 (sym q)).0, row_bits ks xs, r, s) (go (has_nan xs))
+  where
+    go : (b : Bool) → number_of (ensured (not b) Sample) ≡ cond (not b) 0 7
+    go true = refl
+    go false = refl

@@ -1,23 +1,23 @@
 -- Symbols by their kinds: how many bits and samples they have, one by one and in all, and that their samples are numbers where all are.
 -- Assumes nothing.
-use Rattle.basics.proofs.Kit.{◌≡◌, refl, ap₂, ◌∙◌, false, ◌&&◌, List, [], ◌∷◌, ℕ, zero, suc, ◌+◌, ◌≤◌, ◌<◌, arith, length, get_or, drop, eqb, leb}
+use Rattle.basics.proofs.Kit.{◌≡◌, refl, rules, true, ap₂, ◌∙◌, false, ◌&&◌, List, [], ◌∷◌, ℕ, zero, suc, ◌+◌, ◌≤◌, ◌<◌, arith, length, get_or, drop, leb}
 use native.Mathlib.Numerals.{add-one}
 use lib.ListN.{length-append, drop_of_length-le}
 use lib.Seq.{drop-cons}
-use borrow.Author.Tests.{ne_eqb}
-use lib.Ieee.{Float, nan}
+use lib.Ieee.{Float}
 use Rattle.quantiser.specs.Calls.{has_nan}
 use Rattle.quantiser.proofs.Samples.{numbers}
-use Rattle.receiver.specs.declared.Received.TheVariants.{Paired}
+use Rattle.std.specs.Prelude.{Result, Ok, Err}
+use Rattle.std.specs.Result.{IsOk}
+use borrow.Author.Tests.{leb-true}
+use Rattle.field.proofs.Tests.{and_l, and_r, to_T, from_T}
+use Rattle.refusal.specs.declared.Refusal.{Refusal}
+use Rattle.receiver.specs.declared.Kind.{Kind}
+use Rattle.receiver.specs.declared.Kind.TheVariants.{LostOne, LostTwo, Single, Paired}
+use Rattle.receiver.specs.Kind.{kind_number, Decodes}
 use Rattle.receiver.specs.Receive.{symbol, taken, total, received, reliabilities_of, received_row}
-use Rattle.receiver.specs.Calls.{kinds_good, fills}
+use Rattle.receiver.specs.Calls.{kinds_good}
 use Rattle.receiver.specs.Within.{bits, held}
-
-beyond-two {ℓ} : (P : ℕ → Type ℓ) → ((k : ℕ) → P (suc (suc (suc k)))) → (k : ℕ) → (k ≡ 0 → ⊥) → (k ≡ 1 → ⊥) → (k ≡ 2 → ⊥) → P k
-beyond-two P f zero a b c = absurd (a refl)
-beyond-two P f (suc zero) a b c = absurd (b refl)
-beyond-two P f (suc (suc zero)) a b c = absurd (c refl)
-beyond-two P f (suc (suc (suc k))) a b c = f k
 
 pub bits_is : (k : ℕ) (xs : List Float) → length (reliabilities_of (symbol k xs)) ≡ bits k
 unfolding symbol reliabilities_of bits
@@ -25,20 +25,6 @@ bits_is zero xs = refl
 bits_is (suc zero) xs = refl
 bits_is (suc (suc zero)) xs = refl
 bits_is (suc (suc (suc k))) xs = refl
-
--- a kind that is none of the first three is that of a pair
-pub pair_bits : (k : ℕ) → (k ≡ 0 → ⊥) → (k ≡ 1 → ⊥) → (k ≡ 2 → ⊥) → 2 ≡ bits k
-unfolding bits symbol reliabilities_of
-pair_bits = beyond-two (λ k. 2 ≡ bits k) (λ k. refl)
-
-pub pair_taken : (k : ℕ) → (k ≡ 0 → ⊥) → (k ≡ 1 → ⊥) → (k ≡ 2 → ⊥) → 2 ≡ taken k
-unfolding taken
-pair_taken = beyond-two (λ k. 2 ≡ taken k) (λ k. refl)
-
-pub pair_symbol : (xs : List Float) (k : ℕ) → (k ≡ 0 → ⊥) → (k ≡ 1 → ⊥) → (k ≡ 2 → ⊥) →
-    Paired (record { in_phase = get_or xs 0 nan; quadrature = get_or xs 1 nan }) ≡ symbol k xs
-unfolding symbol
-pair_symbol xs = beyond-two (λ k. Paired (record { in_phase = get_or xs 0 nan; quadrature = get_or xs 1 nan }) ≡ symbol k xs) (λ k. refl)
 
 -- what a row has in all does not depend on the samples
 pub row_bits : (ks : List ℕ) (xs : List Float) → length (received_row (received ks xs)) ≡ total bits ks
@@ -61,20 +47,6 @@ taken_few (suc zero) = omega arith
 taken_few (suc (suc zero)) = omega arith
 taken_few (suc (suc (suc k))) = omega arith
 
-kinds_few : (ks : List ℕ) → length ks ≤ total bits ks
-unfolding total
-kinds_few [] = omega arith
-kinds_few (k ∷ ks) = omega (arith, (bits_few k).0, kinds_few ks)
-
--- by what is counted
-pub fills_by : (n : ℕ) (ks : List ℕ) (xs : List Float) → (eqb (total bits ks) n && eqb (total taken ks) (length xs)) ≡ fills n ks xs
-unfolding fills
-fills_by n ks xs = rw row_bits
-
--- so more kinds than bits do not fill them
-pub too_many : (n : ℕ) (ks : List ℕ) (xs : List Float) → n < length ks → false ≡ fills n ks xs
-too_many n ks xs h = rw (← fills_by n ks xs, ne_eqb (total bits ks) n (λ e. omega (arith, kinds_few ks)))
-
 -- ---- one kind after another
 pub total_next : (f : ℕ → ℕ) (ks : List ℕ) (i : ℕ) → i < length ks → total f (drop i ks) ≡ f (get_or ks i 0) + total f (drop (i + 1) ks)
 unfolding total
@@ -87,6 +59,26 @@ total_none f ks i h = rw (drop_of_length-le ks h)
 pub kinds_next : (ks : List ℕ) (i : ℕ) → i < length ks → kinds_good (drop i ks) ≡ (leb (get_or ks i 0) 3 && kinds_good (drop (i + 1) ks))
 unfolding kinds_good
 kinds_next ks i h = rw (drop-cons ks i 0 h, add-one)
+
+-- ---- the kind of a byte: there is one where all are known, and it is that of the byte
+pub known_at : (ks : List ℕ) (i : ℕ) → i < length ks → kinds_good ks ≡ true → get_or ks i 0 ≤ 3
+unfolding kinds_good
+known_at [] i h e = absurd (omega arith)
+known_at (k ∷ ks) zero h e = leb-true k 3 (from_T (leb k 3) (and_l (leb k 3) (kinds_good ks) (to_T e)))
+known_at (k ∷ ks) (suc i) h e = known_at ks i (omega arith) (from_T (kinds_good ks) (and_r (leb k 3) (kinds_good ks) (to_T e)))
+
+pub kind_few : (x : Kind) → kind_number x ≤ 3
+kind_few LostOne = omega arith
+kind_few LostTwo = omega arith
+kind_few Single = omega arith
+kind_few Paired = omega arith
+
+pub decoded : (k : ℕ) (r : Result Kind Refusal) → Decodes k r → k ≤ 3 → IsOk r
+decoded k (Ok x) d h = search rules
+decoded k (Err e) d h = absurd (omega (arith, d.1))
+
+pub number_is : (k : ℕ) (r : Result Kind Refusal) (x : Kind) → Decodes k r → r ≡ Ok x → kind_number x ≡ k
+number_is k r x d e = rw e at d
 
 -- ---- the samples of a symbol are numbers where all are, and so are those behind it
 pub symbol_numbers :

@@ -1,4 +1,5 @@
 pub mod Receive
+pub mod Kind
 pub mod Calls
 pub mod Laws
 pub mod Within

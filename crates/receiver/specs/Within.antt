@@ -1,8 +1,9 @@
 -- What the inner functions ask of their inputs, and what they count. Assumes nothing: these are definitions, and no promise to callers cites them.
-use Rattle.std.specs.Prelude.{◌≡◌, false, List, [], ◌∷◌, ◌++◌, ℕ, ◌≤◌, ℤ, length, drop, Float}
+use Rattle.std.specs.Prelude.{◌≡◌, true, false, List, [], ◌∷◌, ◌++◌, ℕ, ◌≤◌, ℤ, length, drop, Float}
 use Rattle.quantiser.specs.Calls.{has_nan}
 use Rattle.receiver.specs.declared.Received.{Received}
 use Rattle.receiver.specs.declared.Received.TheVariants.{LostOne, LostTwo, Single, Paired}
+use Rattle.receiver.specs.Calls.{kinds_good}
 use Rattle.receiver.specs.Receive.{symbol, taken, total, received, reliabilities_of, received_row}
 
 -- how many bits a symbol of a kind has, whatever its samples
@@ -26,8 +27,9 @@ pub record PutSays (entries : List ℤ) (count : ℕ) (row row_now : List ℤ) :
   pub many : count ≡ length entries
   pub row_is : row_now ≡ entries ++ drop (length entries) row
 
--- kinds and samples that fill a row, and no sample is a NaN
+-- known kinds and samples that fill a row, and no sample is a NaN
 pub record RowWithin (ks : List ℕ) (xs : List Float) (row : ℕ) : Type 0 where
+  pub known : kinds_good ks ≡ true
   pub filled : length (received_row (received ks xs)) ≡ row
   pub spent : total taken ks ≡ length xs
   pub numbers : has_nan xs ≡ false

@@ -1,78 +1,70 @@
 -- A question that a sheet can hold is refused by neither decoder nor marker, so what they say makes its line.
 -- Assumes nothing.
-use Rattle.basics.proofs.Kit.{◌≡◌, refl, sym, ap, ap₂, ◌∙◌, List, ℕ, ◌+◌, ◌*◌, ◌≤◌, arith, length, ℤ}
+use Rattle.basics.proofs.Kit.{◌≡◌, refl, sym, ap, ◌∙◌, true, List, ℕ, ◌+◌, ◌*◌, ◌≤◌, arith, length, ℤ}
 use borrow.Author.Tests.{eq-eqb}
 use Rattle.refusal.specs.Refusal.{unless}
-use Rattle.code.specs.declared.Chosen.{Chosen}
-use Rattle.code.specs.Code.{width, roots, long, is_codeword}
+use Rattle.code.specs.declared.shape.Shape.{Shape}
+use Rattle.code.specs.Code.{width, roots, is_codeword}
 use Rattle.code.specs.Bits.{row_long}
-use Rattle.code.proofs.Promise.{of_shape, of_number, ByNumber, by_number_m, by_number_r}
-use Rattle.metric.specs.Metric.{Greatest, Decoded, Marked}
+use Rattle.code.proofs.Promise.{of_shape, of_number}
+use Rattle.metric.specs.declared.Verdict.{Verdict}
+use Rattle.metric.specs.Metric.{Decoded, Marked}
 use Rattle.metric.specs.Scratch.{scratch_long}
-use Rattle.metric.proofs.Promise.{decoded_greatest}
+use Rattle.metric.specs.Verdict.{verdict_number, shortfall_of}
 use Rattle.decoding.specs.Within.{Accepted}
 use Rattle.decoding.proofs.Decodings.{decoded_as}
-use Rattle.marker.specs.declared.Mark.{Mark}
 use Rattle.marker.specs.Calls.{mark_refusal}
-use Rattle.marker.specs.Within.{Verdict}
-use Rattle.sheet.specs.Sheet.{Question, reliabilities}
+use Rattle.sheet.specs.Sheet.{Question, reliabilities, question_good}
 use Rattle.sheet.proofs.Trips.{Good, good_parts}
 use Rattle.text.specs.Text.{bits_field, least_magnitude, question_line}
-use Rattle.text.specs.Within.{Written}
+use Rattle.text.specs.declared.Writer.{Writer}
+use Rattle.text.specs.Writer.{Room, Puts}
 use Rattle.report.specs.Listing.{Line}
 use Rattle.report.specs.Calls.{line_most}
-use Rattle.report.specs.Within.{Holds, PutLine}
+use Rattle.report.specs.Within.{PutLine}
 use Rattle.report.proofs.Bounds.{line_fits}
 
--- a question that a sheet can hold was decoded
-pub record DecodedQuestion (q : Question) (best : ℤ) (soft : List ℤ) : Type 0 where
-  pub good : Good reliabilities q
-  pub word : List ℕ
-  pub decoded : Decoded (width q.code) (is_codeword (width q.code) (roots q.code)) q.row word best soft
+module _ (q : Question) (g : question_good reliabilities q ≡ true) where
+  abbrev good : Good reliabilities q
+  good = good_parts reliabilities q g
 
-module _ {q : Question} {lb ls lx : ℕ} (h : Holds q lb ls lx) {a : Chosen} (c : ByNumber q.code a) where
-  -- nothing is refused
-  pub accepted : Accepted a.shape q.row lb ls lx
-  unfolding row_long
-  accepted =
-      let g = good_parts reliabilities q h.good in let z = c.coded in
-      let n : long (width q.code) ≡ a.shape.n = ap long (sym (by_number_m q.code c)) ∙ sym z.n_is in
-      record {
-        input = record { coded = z; length_row = g.row_length ∙ ap row_long (sym (by_number_m q.code c)); good_row = g.row_fine };
-        long_word = h.best_is ∙ n;
-        long_soft = h.soft_is ∙ ap₂ ◌*◌ n (sym (by_number_m q.code c));
-        long_scratch = h.scratch_is;
-      }
+  module _ (s : Shape) (m_is : s.m ≡ width q.code) (r_is : s.r ≡ roots q.code) where
+    -- nothing is refused
+    pub accepted : {word soft scratch : ℕ} → word ≡ s.n → soft ≡ s.bits → scratch ≡ scratch_long → Accepted s q.row word soft scratch
+    unfolding row_long
+    accepted ew es ex =
+        record {
+          input = record { length_row = good.row_length ∙ ap row_long (sym m_is); good_row = good.row_fine };
+          long_word = ew;
+          long_soft = es ∙ s.numbers.bits_is ∙ ap (λ (n : ℕ). n * s.m) (sym s.numbers.n_is);
+          long_scratch = ex;
+        }
 
-  pub answered : {w : List ℕ} {d g : ℤ} {so : List ℤ} → g ≡ d → Decoded a.shape.m (is_codeword a.shape.m a.shape.r) q.row w d so → DecodedQuestion q g so
-  answered {w} e x = record { good = good_parts reliabilities q h.good; word = w; decoded = decoded_as (by_number_m q.code c) (by_number_r q.code c) e x }
-
-module _ {q : Question} {g : ℤ} {so : List ℤ} (x : DecodedQuestion q g so) where
-  module _ {a : Chosen} (c : ByNumber q.code a) where
-    -- the marker takes its word, and the decoder has found the best metric
-    pub taken : (mark_refusal a.shape.m q.row q.word scratch_long ≡ 0) × Greatest a.shape.m (is_codeword a.shape.m a.shape.r) q.row g
+    pub taken : mark_refusal s.m q.row q.word scratch_long ≡ 0
     unfolding mark_refusal unless
     taken =
-        let f = x.good in
-        of_shape (λ m r. (mark_refusal m q.row q.word scratch_long ≡ 0) × Greatest m (is_codeword m r) q.row g) (by_number_m q.code c) (by_number_r q.code c)
-        (rw (eq-eqb _ _ f.row_length, eq-eqb _ _ f.word_length, f.row_fine, f.word_fine), decoded_greatest _ _ _ x.word _ so x.decoded)
+        of_shape (λ m r. mark_refusal m q.row q.word scratch_long ≡ 0) m_is r_is
+        (rw (eq-eqb _ _ good.row_length, eq-eqb _ _ good.word_length, good.row_fine, good.word_fine))
 
-    pub line : (k : Mark) {d : ℤ} → Verdict a.shape.m a.shape.r q.row q.word k → d ≡ k.shortfall →
-        Line q (question_line q.number q.code g k.verdict d (bits_field so) (least_magnitude so))
-    line k {d} v e =
+    -- what decoder and marker say makes its line
+    pub line :
+        {w : List ℕ} {d b : ℤ} {so : List ℤ} (v : Verdict) → b ≡ d → Decoded s.m (is_codeword s.m s.r) q.row w d so →
+        Marked (verdict_number v) (shortfall_of v) s.m (is_codeword s.m s.r) q.row q.word →
+        Line q (question_line q.number q.code b (verdict_number v) (shortfall_of v) (bits_field so) (least_magnitude so))
+    line {w} {d} {b} {so} v e x k =
         record {
-          word = x.word;
-          best = g;
+          word = w;
+          best = b;
           soft = so;
-          decoded = x.decoded;
-          verdict = k.verdict;
-          shortfall = d;
-          marked = rw e (of_number (λ m r. Marked k.verdict k.shortfall m (is_codeword m r) q.row q.word) (by_number_m q.code c) (by_number_r q.code c) v.0);
+          decoded = decoded_as m_is r_is e x;
+          verdict = verdict_number v;
+          shortfall = shortfall_of v;
+          marked = of_number (λ m r. Marked (verdict_number v) (shortfall_of v) m (is_codeword m r) q.row q.word) m_is r_is k;
           text_is = refl;
         }
 
-  pub room : {t : List ℕ} (at n : ℕ) → Line q t → at + line_most ≤ n → at + length t ≤ n
-  room at n l r = omega (arith, line_fits x.good l)
+  pub room : {t : List ℕ} (w : Writer) → Line q t → w.at + line_most ≤ length w.out.now → Room t w
+  room w l r = omega (arith, line_fits good l)
 
-  pub put_line : {t o p : List ℕ} {at next : ℕ} → Line q t → Written at t o p next → PutLine q at o p next
-  put_line {t} l w = record { text = t; line = l; written = w; short = line_fits x.good l }
+  pub put_line : {t : List ℕ} {w v : Writer} → Line q t → Puts t w v → PutLine q w v
+  put_line {t} l p = record { text = t; line = l; puts = p; short = line_fits good l }

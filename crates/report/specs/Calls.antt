@@ -3,7 +3,6 @@ use Rattle.std.specs.Prelude.{◌≡◌, List, ◌++◌, ℕ, ◌+◌, ◌*◌, 
 use Rattle.refusal.specs.Refusal.{unless, Outcome}
 use Rattle.sheet.specs.Sheet.{most}
 use Rattle.text.specs.Text.{header, count_line}
-use Rattle.report.specs.declared.Listed.{Listed}
 use Rattle.report.specs.Listing.{Listing}
 
 -- the longest line of a question: at most 8 digits of its number, 1 of its code, 4 of a best metric, 5 letters of a verdict, 5 digits of a shortfall,
@@ -16,7 +15,7 @@ unfoldable pub listing_most : ℕ
 listing_most = length header + (most * line_most + length (count_line most))
 
 -- the text stands at the start of the output, `long` bytes of it, and what stood behind is kept; an output of another length is 4
-unfoldable pub ListSays : (sheet : List ℕ) → Listed → (output output_now : List ℕ) → Type 0
-ListSays bs r o p =
-    Outcome (unless (eqb (length o) listing_most) 4 0) r.number
-    ((text : List ℕ) × Listing bs text × (r.long ≡ length text) × (p ≡ text ++ drop (length text) o)) ((r.long ≡ 0) × (p ≡ o))
+unfoldable pub ListSays : (sheet : List ℕ) → (answer long : ℕ) → (output output_now : List ℕ) → Type 0
+ListSays bs a n o p =
+    Outcome (unless (eqb (length o) listing_most) 4 0) a
+    ((text : List ℕ) × Listing bs text × (n ≡ length text) × (p ≡ text ++ drop (length text) o)) ((n ≡ 0) × (p ≡ o))

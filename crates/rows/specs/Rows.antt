@@ -9,7 +9,7 @@ sum a b = lanes (λ j. lane a j + lane b j)
 unfoldable pub less : List ℕ → List ℕ → List ℕ
 less a b = lanes (λ j. min (lane a j) (lane b j))
 
--- every number and every sum of numbers stays below a limit, so that signed comparison serves: this one for numbers of 32 bits, that of lanes for 16
+-- every number and every sum of numbers stays below a limit: this one for numbers of 32 bits, that of lanes for 16
 abbrev pub limit : ℕ
 limit = 2 ^ 31
 

@@ -4,7 +4,7 @@ use Rattle.basics.proofs.Kit.{◌≡◌, sym, ap, ap₂, ◌∙◌, true, List, 
 use native.Mathlib.Nat.{pow-le-pow_right, zero-lt-suc}
 use Rattle.order.specs.Order.{not_after}
 use Rattle.order.specs.Number.{number}
-use Rattle.code.specs.declared.Shape.{Shape}
+use Rattle.code.specs.declared.shape.Shape.{Shape}
 use Rattle.code.specs.Code.{is_codeword}
 use Rattle.code.proofs.Words.{Below}
 use Rattle.tails.specs.Tails.{visited}
@@ -112,7 +112,7 @@ module _ {s : Shape} {row : List ℤ} {hs zs os t : List ℕ} {kept : List ℤ} 
 
     spelt : (j : ℕ) → j < 4 → leading s.n (lane best j) ≡ bits j (lane at j)
     spelt j lj =
-        ap₂ leading (z.coded.n_is ∙ sym (A.n_is z b.layered) ∙ sym (bits_long j (coset i j))) (w.found.2 j lj ∙ word_is i j li lj)
+        ap₂ leading (s.numbers.n_is ∙ sym (A.n_is z b.layered) ∙ sym (bits_long j (coset i j))) (w.found.2 j lj ∙ word_is i j li lj)
         ∙ leading_number (bits j (coset i j)) (bits_two j (coset i j))
         ∙ ap (bits j) (sym (lanes_at (coset i) j lj))
 

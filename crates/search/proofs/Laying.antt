@@ -2,11 +2,9 @@
 -- that take part agree are those of the first tuple.
 -- Assumes nothing.
 use Rattle.basics.proofs.Kit.{◌≡◌, refl, sym, ap, ap₂, ◌∙◌, Bool, true, false, cond, List, ℕ, suc, ◌+◌, ◌*◌, ◌/◌, ◌^◌, ◌≤◌, ◌<◌, arith, length, get_or, eqb}
-use mathlib.Core.Path.{subst}
 use borrow.Author.Tests.{eq-eqb}
 use lib.ListN.{replicate}
-use Rattle.code.specs.declared.Shape.{Shape}
-use Rattle.code.specs.Within.{Coded}
+use Rattle.code.specs.declared.shape.Shape.{Shape}
 use Rattle.spots.specs.Promise.{Walkable, Walks, WalksInRounds}
 use Rattle.spots.specs.Spots.{Placed, round}
 use Rattle.spots.proofs.Walks.{walks, no_steps}
@@ -35,29 +33,19 @@ number_same vs ws h =
 number_le : (vs ws : List ℕ) → ((j : ℕ) → j < 4 → lane vs j ≡ lane ws j) → number_of vs ≤ number_of ws
 number_le vs ws h = let e : number_of vs ≡ number_of ws = number_same vs ws h in omega arith
 
-module _ {s : Shape} (z : Coded s) where
+module _ (s : Shape) where
   pub w : Walkable s.m s.r
   unfolding Walks
-  w = walks s.m s.r z.accepted_is
+  w = walks s.m s.r s.numbers.accepted_is
 
-  -- a walk of one turn has no steps: what holds of the code's slots and steps holds with none, and what holds with none holds of them
-  module _ (P : (sl st : List ℕ) → (n : ℕ) → Type 0) {sl : List ℕ} {n : ℕ} (e : sl ≡ slots_of s) (f : n ≡ turns_of s) (g : n ≡ 1) where
-    abbrev one : turns_of s ≡ 1
-    one = sym f ∙ g
-
-    abbrev none : replicate 48 0 ≡ steps_of s
-    none = no_steps s.m s.r z.accepted_is one
-
-    pub to_none : P (slots_of s) (steps_of s) (turns_of s) → P sl (replicate 48 0) 1
-    to_none h = subst (λ (x : List ℕ). P x (replicate 48 0) 1) (sym e) (subst (λ (x : List ℕ). P (slots_of s) x 1) (sym none) (subst (P (slots_of s) (steps_of s)) one h))
-
-    pub from_none : P sl (replicate 48 0) 1 → P (slots_of s) (steps_of s) (turns_of s)
-    from_none h = subst (P (slots_of s) (steps_of s)) (sym one) (subst (λ (x : List ℕ). P (slots_of s) x 1) none (subst (λ (x : List ℕ). P x (replicate 48 0) 1) e h))
+  -- a walk of one turn has no steps
+  pub none_in_one : {n : ℕ} → n ≡ turns_of s → n ≡ 1 → replicate 48 0 ≡ steps_of s
+  none_in_one f g = no_steps s.m s.r s.numbers.accepted_is (sym f ∙ g)
 
   -- its rounds
   pub rounds_ok : Rounds (turns_of s) (round s.m s.r) (steps_of s)
   unfolding WalksInRounds
-  rounds_ok = walks_in_rounds s.m s.r z.accepted_is
+  rounds_ok = walks_in_rounds s.m s.r s.numbers.accepted_is
 
   -- its places are taken sixteen at a time
   pub sixteens : {places : List ℕ} {n : ℕ} → Placed s.m s.r s.size places → n ≡ s.size * 4 → Sixteens n places

@@ -1,74 +1,22 @@
--- Columns and costs as the program makes them: by the sign of a reliability, one position at a turn.
+-- Columns and costs as the program makes them, one position at a turn.
 -- Assumes nothing.
-use Rattle.basics.proofs.Kit.{◌≡◌, refl, sym, ap, ◌∙◌, true, false, List, ℕ, suc, ◌+◌, ◌*◌, ◌≤◌, ◌<◌, arith, length, get_or, set, ℤ, pos, negsuc, nat_abs, ◌-ℤ◌}
-use mathlib.Core.Path.{subst}
-use native.Mathlib.Nat.{zero-add, suc-mul, mul-le-mul_right}
+use Rattle.basics.proofs.Kit.{◌≡◌, ap, ◌∙◌, true, List, ℕ, ◌+◌, ◌*◌, ◌≤◌, ◌<◌, arith, length, get_or, set, ℤ, pos}
+use native.Mathlib.Nat.{suc-mul, mul-le-mul_right}
 use native.Mathlib.Decide.{dec_le}
-use borrow.Author.Tests.{lt-ltb, ltb-true, ltb-false}
-use lib.Dec.{T}
+use borrow.Author.Tests.{lt-ltb}
 use lib.ListN.{length-set}
 use lib.Seq.{get_or-set_same, get_or-set_other}
-use lib.Signed.{lt_z, non_neg}
-use mir.Syntax.{w16, w32}
-use mir.Val.{SFits, Fits, to_z, of_z}
+use mir.Syntax.{w16}
+use mir.Val.{SFits, to_z, of_z}
 use mir.Facts.{to_z-of_z}
 use Rattle.field.specs.Field.{width_good}
-use Rattle.field.proofs.Tests.{at, widths}
+use Rattle.field.proofs.Tests.{widths}
 use Rattle.code.specs.Code.{long}
 use Rattle.metric.specs.Cost.{cost_zero, cost_one}
 use Rattle.lanes.proofs.Rows.{four}
 use Rattle.lanes.specs.Lanes.{put_four}
 use Rattle.bridge.specs.Bridge.{reliability, Costed}
 use Rattle.search.specs.Within.{Spread, CostsTo}
-
--- ---- a reliability's costs, by its sign
-clash : {X : Type 0} → false ≡ true → X
-clash e = absurd (subst T (sym e) tt)
-
-pub wider : (r : ℤ) → SFits w16 r → SFits w32 r
-wider r f = record { sfits = omega (arith, f.sfits) }
-
-pub above_cast : (r : ℤ) → SFits w16 r → lt_z (pos 0) r ≡ true → T (non_neg r) × Fits w32 (nat_abs r)
-above_cast (pos n) f e = (tt, record { fits = omega (arith, f.sfits) })
-above_cast (negsuc n) f e = clash e
-
-pub above_cost : (r : ℤ) → lt_z (pos 0) r ≡ true → nat_abs r ≡ cost_one r
-above_cost (pos n) e = refl
-above_cost (negsuc n) e = clash e
-
-pub not_above : (r : ℤ) → lt_z (pos 0) r ≡ false → 0 ≡ cost_one r
-not_above (pos n) e = omega (arith, ltb-false 0 n e)
-not_above (negsuc n) e = refl
-
-negated : (r : ℤ) → SFits w16 r → lt_z r (pos 0) ≡ true → pos 0 -ℤ to_z w32 (of_z w32 r) ≡ pos (cost_zero r)
-negated (pos n) f e = absurd (omega (arith, ltb-true n 0 e))
-negated (negsuc n) f e = rw (to_z-of_z (wider (negsuc n) f)) (ap pos (zero-add (suc n)))
-
-cost_fits : (r : ℤ) → SFits w16 r → cost_zero r ≤ 32768
-cost_fits (pos n) f = omega arith
-cost_fits (negsuc n) f = omega (arith, f.sfits)
-
-pub below_fits : (r : ℤ) → SFits w16 r → lt_z r (pos 0) ≡ true → SFits w32 (pos 0 -ℤ to_z w32 (of_z w32 r))
-below_fits r f e = rw (negated r f e) (record { sfits = omega (arith, cost_fits r f) })
-
-again : (r : ℤ) → SFits w16 r → lt_z r (pos 0) ≡ true → to_z w32 (of_z w32 (pos 0 -ℤ to_z w32 (of_z w32 r))) ≡ pos (cost_zero r)
-again r f e = to_z-of_z (below_fits r f e) ∙ negated r f e
-
-pub below_cast : (r : ℤ) → SFits w16 r → lt_z r (pos 0) ≡ true →
-    T (non_neg (to_z w32 (of_z w32 (pos 0 -ℤ to_z w32 (of_z w32 r))))) × Fits w32 (nat_abs (to_z w32 (of_z w32 (pos 0 -ℤ to_z w32 (of_z w32 r)))))
-below_cast r f e = rw (again r f e) (tt, record { fits = omega (arith, cost_fits r f) })
-
-pub below_cost : (r : ℤ) → SFits w16 r → lt_z r (pos 0) ≡ true → nat_abs (to_z w32 (of_z w32 (pos 0 -ℤ to_z w32 (of_z w32 r)))) ≡ cost_zero r
-below_cost r f e = rw (again r f e)
-
-pub not_below : (r : ℤ) → lt_z r (pos 0) ≡ false → 0 ≡ cost_zero r
-not_below (pos n) e = refl
-not_below (negsuc n) e = clash (sym e)
-
--- of a number below 0 a 1 costs nothing
-pub below_one : (r : ℤ) → lt_z r (pos 0) ≡ true → 0 ≡ cost_one r
-below_one (pos n) e = absurd (omega (arith, ltb-true n 0 e))
-below_one (negsuc n) e = refl
 
 -- a signed number that was passed on
 pub through : (f : ℤ → ℕ) {x : ℕ} {r : ℤ} → SFits w16 r → x ≡ f (to_z w16 (of_z w16 r)) → x ≡ f r
@@ -112,9 +60,6 @@ module _ (w : List ℤ) (at : ℕ) (f : ℕ → ℤ) where
       (get_or-set_other w3 (at + 3) (at + 2) (f 3) (pos 0) (λ e. omega arith)
       ∙ get_or-set_same w2 (at + 2) (f 2) (pos 0) (simp length-set (omega arith)))
       (get_or-set_same w3 (at + 3) (f 3) (pos 0) (simp length-set (omega arith)))
-
-pub four_is : (w : List ℤ) (at : ℕ) (f : ℕ → ℤ) (a b c d : ℤ) → a ≡ f 0 → b ≡ f 1 → c ≡ f 2 → d ≡ f 3 → set (set (set (set w (at + 0) a) (at + 1) b) (at + 2) c) (at + 3) d ≡ put_four w at f
-four_is w at f a b c d ea eb ec ed = rw (ea, eb, ec, ed) refl
 
 pub spread_more : (m i : ℕ) (row wide wide' : List ℤ) → i * 4 + 4 ≤ length wide → Spread m i row wide → wide' ≡ put_four wide (i * 4) (reliability m row i) → Spread m (i + 1) row wide'
 spread_more m i row wide wide' l s e k j lk lj = ap (λ (x : List ℤ). get_or x (k * 4 + j) (pos 0)) e ∙ go (dec_le i k)

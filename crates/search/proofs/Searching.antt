@@ -6,7 +6,7 @@ use native.Mathlib.Nat.{mul_comm, mul-le-mul_left, mul-le-mul_right, pow-le-pow_
 use native.Mathlib.Decide.{dec_le}
 use borrow.Author.Tests.{eq-eqb, eqb-true}
 use Rattle.field.proofs.Tests.{widths}
-use Rattle.code.specs.declared.Shape.{Shape}
+use Rattle.code.specs.declared.shape.Shape.{Shape}
 use Rattle.code.specs.Code.{long, is_codeword}
 use Rattle.code.specs.Bits.{row_long}
 use Rattle.split.specs.Split.{layer}
@@ -43,26 +43,26 @@ module _ {s : Shape} {row : List ℤ} {hs zs os : List ℕ} (z : Input s row) (b
   tuples = turns_of s * 16
 
   pub n_is : length hs ≡ long s.m
-  n_is = ap length b.headed ∙ columns_long s.m s.r z.coded.accepted_is
+  n_is = ap length b.headed ∙ columns_long s.m s.r s.numbers.accepted_is
 
   pub few : length hs ≤ 15
   unfolding long
-  few = rw n_is (widths (λ (m : ℕ). long m ≤ 15) (omega arith) (omega arith) s.m z.coded.width_is)
+  few = rw n_is (widths (λ (m : ℕ). long m ≤ 15) (omega arith) (omega arith) s.m s.numbers.width_is)
 
   -- WHAT THE CODE IS TO THE SEARCH
   pub y : Setting s.m s.r hs tuples coset row zs os
   unfolding CodewordsVisited VisitedHigh
   y = record {
     glue = record {
-      width = z.coded.width_is;
-      few = z.coded.few;
+      width = s.numbers.width_is;
+      few = s.numbers.few;
       count = n_is;
       there = λ ws cw.
-          let f = (codewords_visited s.m s.r z.coded.accepted_is).none_missing ws cw in
+          let f = (codewords_visited s.m s.r s.numbers.accepted_is).none_missing ws cw in
           (f.0, rw (mul_comm (turns_of s) 16) f.1, λ j lj. ap (λ (h : List ℕ). added h (layer j ws)) b.headed ∙ f.2 j lj);
       only = λ ws n g k lk f.
-          (codewords_visited s.m s.r z.coded.accepted_is).none_else ws n g k (rw (mul_comm (turns_of s) 16) at lk) (λ j lj. sym (ap (λ (h : List ℕ). added h (layer j ws)) b.headed) ∙ f j lj);
-      high = λ k j lk u lj. visited_high s.m s.r k j z.coded.accepted_is u lj;
+          (codewords_visited s.m s.r s.numbers.accepted_is).none_else ws n g k (rw (mul_comm (turns_of s) 16) at lk) (λ j lj. sym (ap (λ (h : List ℕ). added h (layer j ws)) b.headed) ∙ f j lj);
+      high = λ k j lk u lj. visited_high s.m s.r k j s.numbers.accepted_is u lj;
     };
     length_row = z.length_row;
     costs = b.costs;
@@ -71,7 +71,7 @@ module _ {s : Shape} {row : List ℤ} {hs zs os : List ℕ} (z : Input s row) (b
   pub light : weight_of row < bound
   unfolding row_long long
   light =
-      omega (arith, weight_le row_bound row z.good_row, z.length_row, widths (λ (m : ℕ). row_long m ≤ 60) (omega arith) (omega arith) s.m z.coded.width_is)
+      omega (arith, weight_le row_bound row z.good_row, z.length_row, widths (λ (m : ℕ). row_long m ≤ 60) (omega arith) (omega arith) s.m s.numbers.width_is)
 
   -- the layers' tables
   abbrev pub F : ℕ → ℕ → ℕ
@@ -92,7 +92,7 @@ module _ {s : Shape} {row : List ℤ} {hs zs os : List ℕ} (z : Input s row) (b
 
   pub coset_in : (i j : ℕ) → j < 4 → coset i j < s.size
   unfolding VisitedInside
-  coset_in i j lj = rw (z.coded.size_is, z.coded.q_is) (visited_inside s.m s.r i j z.coded.accepted_is lj)
+  coset_in i j lj = rw (s.numbers.size_is, s.numbers.q_is) (visited_inside s.m s.r i j s.numbers.accepted_is lj)
 
   -- WHAT AN ENTRY COSTS, in a table of keys and in one of costs
   pub key_costing : {t : List ℕ} → Keys s.size hs zs os 0 t → Costing s hs zs os (key_cost t)
@@ -125,11 +125,11 @@ module _ {s : Shape} {row : List ℤ} {hs zs os : List ℕ} (z : Input s row) (b
       -- where tuple i stands in slot j
       pub stands : (i j : ℕ) → i < tuples → j < 4 → get_or places (spot sl st i j) 0 ≡ coset i j * 4 + j
       unfolding SpotVisited
-      stands i j li lj = spot_visited s.m s.r s.size i j places z.coded.accepted_is l.placed li lj
+      stands i j li lj = spot_visited s.m s.r s.size i j places s.numbers.accepted_is l.placed li lj
 
       place_cost : (i j : ℕ) → i < tuples → j < 4 → get_or f (spot sl st i j) 0 ≡ F j (coset i j)
       place_cost i j li lj =
-          l.gathered.costs (spot sl st i j) (spot_long z.coded l i j li lj)
+          l.gathered.costs (spot sl st i j) (spot_long s l i j li lj)
           ∙ ap cost (stands i j li lj)
           ∙ entry_cost (coset i j) j (coset_in i j lj) lj
 
@@ -166,7 +166,7 @@ module _ {s : Shape} {row : List ℤ} {hs zs os : List ℕ} (z : Input s row) (b
         at_spot : (i j : ℕ) → i < tuples → j < 4 → get_or g (spot sl st i j) 0 ≤ total f sl st i
         at_spot i j li lj =
             let p : ℕ = spot sl st i j in
-            let o = spot_in z.coded i j li lj in
+            let o = spot_in s i j li lj in
             omega (
               arith,
               mg j p lj o.0 o.1,
@@ -184,7 +184,7 @@ module _ {s : Shape} {row : List ℤ} {hs zs os : List ℕ} (z : Input s row) (b
                 omega (
                   arith,
                   sc.others x (omega (arith, coset_in i j lj)),
-                  least_le (λ p. cond (eqb (get_or places p 0) x) (get_or g p 0 - get_or f p 0) cap) cap (length places) p (spot_long z.coded l i j li lj),
+                  least_le (λ p. cond (eqb (get_or places p 0) x) (get_or g p 0 - get_or f p 0) cap) cap (length places) p (spot_long s l i j li lj),
                   ap (λ (y : Bool). cond y (get_or g p 0 - get_or f p 0) cap) (eq-eqb (get_or places p 0) x (stands i j li lj)),
                   at_spot i j li lj,
                   total_is i li,

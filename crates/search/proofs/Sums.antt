@@ -81,9 +81,9 @@ own_cost m w rs hs zs os y l ws e = word_layers hs zs os 0 ws ∙ sym (by_layers
 -- the sum of a row's sizes
 pub record Weighing (rs : List ℤ) (i sum : ℕ) : Type 0 where
   pub split : sum + weight_of (drop i rs) ≡ weight_of rs
-  pub small : sum ≤ i * 127
+  pub small : sum ≤ i * 32768
 
-pub weighing_more : {rs : List ℤ} {i sum x : ℕ} → Weighing rs i sum → i < length rs → x ≡ cost_zero (get_or rs i (pos 0)) + cost_one (get_or rs i (pos 0)) → x ≤ 127 → Weighing rs (i + 1) (sum + x)
+pub weighing_more : {rs : List ℤ} {i sum x : ℕ} → Weighing rs i sum → i < length rs → x ≡ cost_zero (get_or rs i (pos 0)) + cost_one (get_or rs i (pos 0)) → x ≤ 32768 → Weighing rs (i + 1) (sum + x)
 unfolding weight_of
 weighing_more {rs} {i} a l e h = record {
   split = rw add-one (omega (arith, a.split, e, ap weight_of (drop-cons rs i (pos 0) l)));

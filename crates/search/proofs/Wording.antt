@@ -4,6 +4,7 @@ use Rattle.basics.proofs.Kit.{◌≡◌, refl, sym, ap, ap₂, ◌∙◌, List, 
 use mathlib.Core.List.{append_assoc, append-nil}
 use lib.ListN.{length-set}
 use lib.Seq.{take-suc-set, take_all}
+use native.Mathlib.Numerals.{add-one}
 use native.Mathlib.Nat.{div-one, mul-add-div_right, div-eq_of_lt, pow-succ', one-le-pow, mul_assoc, zero-div}
 use Rattle.order.specs.Number.{number}
 use Rattle.code.proofs.Words.{Below}
@@ -73,36 +74,41 @@ unfolding number
 spaced_number n [] l h = spaced_zero n
 spaced_number n (b ∷ bs) l h = spaced_top n (length bs) b (number 2 bs) l h.0 (number_lt bs h.1) ∙ ap (λ (x : ℕ). b * 16 ^ length bs + x) (spaced_number n bs (omega arith) h.1)
 
--- THE WORD OF FOUR NUMBERS, written symbol by symbol: with k positions left
-pub record Writing (n : ℕ) (words : List ℕ) (word : List ℕ) (k i : ℕ) : Type 0 where
+-- THE WORD OF FOUR NUMBERS, written symbol by symbol: the first i of n positions, and what is left
+pub record Writing (n : ℕ) (words : List ℕ) (word : List ℕ) (i : ℕ) : Type 0 where
   pub long : length word ≡ n
-  pub left : i + k ≡ n
-  pub so_far : take i word ++ weave (λ j. leading k (lane words j)) ≡ weave (λ j. leading n (lane words j))
+  pub so_far : take i word ++ weave (λ j. leading (n - i) (lane words j)) ≡ weave (λ j. leading n (lane words j))
 
-pub writing_start : (words word : List ℕ) → Writing (length word) words word (length word) 0
-writing_start words word = record { long = refl; left = omega arith; so_far = refl }
-
-pub writing_more : {n : ℕ} {words word : List ℕ} (k : ℕ) {i x : ℕ} → Writing n words word k i → 0 < k → x ≡ symbol (λ j. lane words j / 2 ^ (k - 1) % 2) →
-    Writing n words (set word i x) (k - 1) (i + 1)
-unfolding weave merge leading
-writing_more zero w h e = absurd (omega arith)
-writing_more {n} {words} {word} (suc k) {i} {x} w h e = record {
-  long = length-set word i x ∙ w.long;
-  left = omega (arith, w.left);
-  so_far =
-      let f : i + 1 ≡ suc i = omega arith in
-      rw (less, f, take-suc-set word i x (omega (arith, w.long, w.left)))
-      (append_assoc (take i word) (x ∷ []) (weave (λ j. leading k (lane words j)))
-      ∙ ap (λ (a : ℕ). take i word ++ a ∷ weave (λ j. leading k (lane words j))) (e ∙ ap (λ (a : ℕ). symbol (λ j. lane words j / 2 ^ a % 2)) less ∙ nested (lane words 0 / 2 ^ k % 2) (lane words 1 / 2 ^ k % 2) (lane words 2 / 2 ^ k % 2) (lane words 3 / 2 ^ k % 2))
-      ∙ w.so_far);
+pub writing_start : (words word : List ℕ) → Writing (length word) words word 0
+writing_start words word = record {
+  long = refl;
+  so_far = let e : length word - 0 ≡ length word = omega arith in ap (λ (k : ℕ). weave (λ j. leading k (lane words j))) e;
 }
-  where
-    less : suc k - 1 ≡ k
-    less = omega arith
 
+-- one symbol more, with k left after it
+more : (words word : List ℕ) {whole : List ℕ} (k i x : ℕ) → i < length word → x ≡ symbol (λ j. lane words j / 2 ^ k % 2) → take i word ++ weave (λ j. leading (suc k) (lane words j)) ≡ whole →
+    take (suc i) (set word i x) ++ weave (λ j. leading k (lane words j)) ≡ whole
+unfolding weave merge leading
+more words word k i x l e w =
+    rw (take-suc-set word i x l)
+    (append_assoc (take i word) (x ∷ []) (weave (λ j. leading k (lane words j)))
+    ∙ ap (λ (a : ℕ). take i word ++ a ∷ weave (λ j. leading k (lane words j))) (e ∙ nested (lane words 0 / 2 ^ k % 2) (lane words 1 / 2 ^ k % 2) (lane words 2 / 2 ^ k % 2) (lane words 3 / 2 ^ k % 2))
+    ∙ w)
+  where
     nested : (a b c d : ℕ) → a + 2 * b + 4 * c + 8 * d ≡ a + 2 * (b + 2 * (c + 2 * d))
     nested a b c d = omega arith
 
-pub writing_end : {n : ℕ} {words word : List ℕ} {i : ℕ} → Writing n words word 0 i → word ≡ weave (λ j. leading n (lane words j))
+pub writing_more : {n : ℕ} {words word : List ℕ} {i x : ℕ} → Writing n words word i → i < n → x ≡ symbol (λ j. lane words j / 2 ^ (n - 1 - i) % 2) → Writing n words (set word i x) (i + 1)
+writing_more {n} {words} {word} {i} {x} w h e = record {
+  long = length-set word i x ∙ w.long;
+  so_far =
+      let one : n - i ≡ suc (n - 1 - i) = omega arith in
+      let next : n - (i + 1) ≡ n - 1 - i = omega arith in
+      rw (next, add-one) (more words word (n - 1 - i) i x (omega (arith, w.long)) e (rw one at w.so_far));
+}
+
+pub writing_end : {n : ℕ} {words word : List ℕ} → Writing n words word n → word ≡ weave (λ j. leading n (lane words j))
 unfolding weave merge leading
-writing_end {n} {words} {word} {i} w = sym (append-nil word) ∙ sym (ap (λ (a : List ℕ). a ++ []) (take_all i word (omega (arith, w.long, w.left)))) ∙ w.so_far
+writing_end {n} {words} {word} w =
+    let z : n - n ≡ 0 = omega arith in
+    sym (append-nil word) ∙ sym (ap (λ (a : List ℕ). a ++ []) (take_all n word (omega (arith, w.long)))) ∙ (rw z at w.so_far)

@@ -2,9 +2,8 @@
 -- definitions: proofs/ ties them to codewords and metrics. Assumes nothing: these are definitions.
 use Rattle.std.specs.Prelude.{◌≡◌, true, List, [], ◌∷◌, ℕ, zero, suc, ◌+◌, ◌*◌, ◌/◌, ◌%◌, ◌^◌, ◌≤◌, ◌<◌, length, get_or, ℤ, pos}
 use Rattle.field.specs.Field.{width_good}
-use Rattle.code.specs.declared.Shape.{Shape}
+use Rattle.code.specs.declared.shape.Shape.{Shape}
 use Rattle.code.specs.Code.{long}
-use Rattle.code.specs.Within.{Coded}
 use Rattle.code.specs.Bits.{row_long}
 use Rattle.metric.specs.Row.{row_bound, row_good}
 use Rattle.metric.specs.Cost.{cost_zero, cost_one}
@@ -66,9 +65,8 @@ pub record Symbol (top : ℕ) (z o : List ℕ) : Type 0 where
   pub cost_o : (j : ℕ) → j < 4 → lane o j ≤ top
   pub room : top * 4 < 2 ^ 32
 
--- a code and an accepted row of it
+-- an accepted row of a code
 pub record Input (s : Shape) (row : List ℤ) : Type 0 where
-  pub coded : Coded s
   pub length_row : length row ≡ row_long s.m
   pub good_row : row_good row_bound row ≡ true
 
@@ -120,6 +118,13 @@ pub record Roomy (s : Shape) (t places f g : List ℕ) : Type 0 where
   pub count_f : start (slots_of s) 4 ≤ length f
   pub states_g : s.size * 4 ≤ length g
   pub count_g : start (slots_of s) 4 ≤ length g
+
+-- room for the tables and the places of a code, in a number of entries and of places
+pub record Sizes (s : Shape) (states places : ℕ) : Type 0 where
+  pub states_in : s.size * 4 ≤ states
+  pub count_in : start (slots_of s) 4 ≤ places
+  pub turns : states ≤ places
+  pub few : places ≤ 4096
 
 -- a tuple costs x
 abbrev pub Ties : (s : Shape) → (f : List ℕ) → (x i : ℕ) → Type 0

@@ -4,9 +4,8 @@
 // found are those of the first codeword that has it. Its functions are for the decoder and the marker.
 #![tactic(auto)]
 
-ghost use Rattle.std.specs.Prelude.{◌≡◌, true, ℕ, ◌+◌, ◌*◌, ◌/◌, ◌%◌, ◌^◌, ◌<◌, ◌≤◌, length, get_or, replicate, pos};
+ghost use Rattle.std.specs.Prelude.{◌≡◌, true, ℕ, ◌+◌, ◌*◌, ◌/◌, ◌%◌, ◌^◌, ◌<◌, ◌≤◌, length, get_or, pos, IfSome};
 ghost use Rattle.field.specs.Field.{width_good};
-ghost use Rattle.code.specs.Within.{Coded};
 ghost use Rattle.metric.specs.Row.{row_bound, reliability_good, row_good};
 ghost use Rattle.metric.specs.Cost.{cost_zero, cost_one, weight_of};
 ghost use Rattle.lanes.specs.Lanes.{lane, put_four};
@@ -15,14 +14,14 @@ ghost use Rattle.trellis.specs.Rows.{symbol, weave};
 ghost use Rattle.tails.specs.Tails.{columns};
 ghost use Rattle.coset.specs.Coset.{Costs};
 ghost use Rattle.gather.specs.Gather.{key_cost};
-ghost use Rattle.walk.specs.Walk.{sum4, start, least_total, Slots, Marginals};
+ghost use Rattle.walk.specs.Walk.{sum4, start, least_total, Slots, Marginals, Rounds};
 ghost use Rattle.bridge.specs.Bridge.{reliability, Costed};
 ghost use Rattle.spots.specs.Spots.{Placed};
 ghost use Rattle.ties.specs.Ties.{Agree};
 ghost use Rattle.search.specs.Within.{cap, Spread, CostsTo, CostsWithin, Input, Buffers, Tabled, Laid, Ties, FirstWords, slots_of, steps_of, turns_of, leading, symbol_cost, word_cost, Own, Symbol, Cheap, Walked, LeastLaid, Layered};
 
 use code::Shape;
-use ties::Agreed;
+use coset::FourLayers;
 
 // A number above the cost of every word, and of a layer besides.
 pub const CAP: u16 = 75 * metric::BOUND + 1;
@@ -31,13 +30,13 @@ pub const CAP: u16 = 75 * metric::BOUND + 1;
 fn cost_of_zero(r: i16) -> u32
     ensures { result ≡ cost_zero r }
 {
-    if r < 0 { (0 - (r as i32)) as u32 } else { 0 }
+    r.min(0).unsigned_abs() as u32
 }
 
 fn cost_of_one(r: i16) -> u32
     ensures { result ≡ cost_one r }
 {
-    if r > 0 { r as u32 } else { 0 }
+    r.max(0).unsigned_abs() as u32
 }
 
 // The reliability at position i of layer j; the fourth layer of m = 3 has none.
@@ -74,10 +73,8 @@ fn spread(m: u32, n: usize, row: &[i16], wide: &mut [i16])
     requires { (width_good m ≡ true) × (length row.now ≡ n * m) × (n * 4 ≤ length wide.old) }
     ensures { Spread m n row.now wide.new }
 {
-    let mut i = 0;
-    while i < n {
+    for i in 0..n {
         spread_at(m, row, i, wide);
-        i += 1;
     }
 }
 
@@ -86,12 +83,10 @@ fn costs(wide: &[i16], zs: &mut [u32], os: &mut [u32])
     requires { (length zs.old ≡ length os.old) × (length zs.old ≤ length wide.now) }
     ensures { CostsTo (length zs.old) wide.now zs.new os.new }
 {
-    let mut b = 0;
-    while b < zs.len() {
+    for b in 0..zs.len() {
         let r = wide[b];
         zs[b] = cost_of_zero(r);
         os[b] = cost_of_one(r);
-        b += 1;
     }
 }
 
@@ -130,16 +125,23 @@ pub fn of_row(
     kept: &mut [i32],
 )
     requires input { Input shape row.now }
-    requires hs_value { hs.now ≡ columns shape.m shape.r }
+    requires columns { hs.now ≡ columns shape.m shape.r }
     requires buffers { Buffers shape zs.old os.old t.old g.old kept.old }
     ensures tabled { Tabled shape row.now hs.now zs.new os.new t.new kept.new }
-    ensures kept_len_unchanged { length kept.new ≡ length kept.old }
+    ensures same_length { length kept.new ≡ length kept.old }
 {
     cost_rows(shape.m, shape.n, row, zs, os);
-    coset::make(t, g, kept, shape.q, shape.size, hs, zs, os);
+    let layers = FourLayers {
+        q: shape.q,
+        size: shape.size,
+        hs,
+        zs,
+        os,
+    };
+    coset::make(t, g, kept, layers);
 }
 
-// The costs of its cosets alone.
+// The costs of its cosets alone, for the marker: no keys, and nothing kept for a soft pass, so that the two have the costs of a row alone in common.
 pub fn costs_of_row(
     shape: Shape,
     row: &[i16],
@@ -149,29 +151,34 @@ pub fn costs_of_row(
     g: &mut [u16],
 )
     requires input { Input shape row.now }
-    requires hs_value { hs.now ≡ columns shape.m shape.r }
-    requires zs_len { (length zs.old ≡ shape.n * 4) × (length os.old ≡ shape.n * 4) × (length g.old ≡ shape.size * 4) }
+    requires columns { hs.now ≡ columns shape.m shape.r }
+    requires rooms { (length zs.old ≡ shape.n * 4) × (length os.old ≡ shape.n * 4) × (length g.old ≡ shape.size * 4) }
     ensures layered { Layered shape row.now hs.now zs.new os.new }
     ensures costs { Costs shape.size hs.now zs.new os.new 0 g.new }
 {
     cost_rows(shape.m, shape.n, row, zs, os);
-    coset::make_costs(g, shape.q, shape.size, hs, zs, os);
+    let layers = FourLayers {
+        q: shape.q,
+        size: shape.size,
+        hs,
+        zs,
+        os,
+    };
+    coset::make_costs(g, layers);
 }
 
 // The places of the walk, and what each costs by a table of keys.
 fn lay(shape: Shape, t: &[u32], places: &mut [u16], f: &mut [u16])
-    requires coded { Coded shape }
-    requires t_len { (length t.now ≡ shape.size * 4) × (length places.old ≡ start (slots_of shape) 4) × (length f.old ≡ length places.old) }
+    requires lengths { (length t.now ≡ shape.size * 4) × (length places.old ≡ start (slots_of shape) 4) × (length f.old ≡ length places.old) }
     ensures { Laid shape (key_cost t.now) places.new f.new }
 {
     spots::fill(shape.m, shape.r, shape.size, places);
     gather::gather(t, places, f);
 }
 
-// The same by a table of costs.
+// The same by a table of costs. With the gathering passed in as a closure, the contract of one function would be longer than these two.
 fn lay_costs(shape: Shape, g: &[u16], places: &mut [u16], f: &mut [u16])
-    requires coded { Coded shape }
-    requires g_len { (length g.now ≡ shape.size * 4) × (length places.old ≡ start (slots_of shape) 4) × (length f.old ≡ length places.old) }
+    requires lengths { (length g.now ≡ shape.size * 4) × (length places.old ≡ start (slots_of shape) 4) × (length f.old ≡ length places.old) }
     ensures { Laid shape (λ x. get_or g.now x 0) places.new f.new }
 {
     spots::fill(shape.m, shape.r, shape.size, places);
@@ -185,32 +192,39 @@ pub struct Best {
     pub words: [u16; 4],
 }
 
-// All tuples: the least total, and in g the least with each place. A walk of one turn has no steps, and what a code does not need is not chosen for it.
+// The steps of a code's walk, which has n turns, and how many of them make a round. A walk of one turn has no steps, and what a code does not need is not
+// chosen for it.
+fn steps_in_rounds(shape: Shape, n: usize) -> ([u16; 48], usize)
+    requires { n ≡ turns_of shape }
+    ensures steps { result.0 ≡ steps_of shape }
+    ensures rounds { Rounds n result.1 result.0 }
+{
+    if n == 1 {
+        return ([0; 48], 1);
+    }
+    (
+        spots::steps(shape.m, shape.r),
+        spots::round(shape.m, shape.r),
+    )
+}
+
+// All tuples: the least total, and in g the least with each place.
 fn walk_all(shape: Shape, f: &[u16], g: &mut [u16]) -> u16
-    requires coded { Coded shape }
     requires slots { Slots (turns_of shape) f.now (slots_of shape) (steps_of shape) × (length g.old ≡ length f.now) }
-    ensures value { result ≡ least_total cap f.now (slots_of shape) (steps_of shape) (turns_of shape) }
+    ensures least { result ≡ least_total cap f.now (slots_of shape) (steps_of shape) (turns_of shape) }
     ensures marginals { Marginals (turns_of shape) cap f.now (slots_of shape) (steps_of shape) g.new }
 {
     gather::reset(g, CAP);
     let sl = spots::slots(shape.m, shape.r);
     let n = spots::turns(shape.m, shape.r);
-    if n == 1 {
-        let none = [0u16; 48];
-        let found = walk::walk(f, &sl, &none, 1, 1, g, CAP);
-        return found.least;
-    }
-    let st = spots::steps(shape.m, shape.r);
-    let round = spots::round(shape.m, shape.r);
-    let found = walk::walk(f, &sl, &st, n, round, g, CAP);
-    found.least
+    let (st, round) = steps_in_rounds(shape, n);
+    walk::walk(f, &sl, &st, n, round, g, CAP).least
 }
 
-// The words of the places that take part in the least total, and whether each slot has one.
-fn agree(shape: Shape, t: &[u32], places: &[u16], g: &[u16], least: u16) -> Agreed
-    requires coded { Coded shape }
+// The words of the places that take part in the least total, where each slot has one.
+fn agree(shape: Shape, t: &[u32], places: &[u16], g: &[u16], least: u16) -> Option<[u16; 4]>
     requires placed { Placed shape.m shape.r shape.size places.now × (length g.now ≡ length places.now) }
-    ensures { result.all ≡ true → Agree (slots_of shape) t.now places.now g.now least result.words }
+    ensures { IfSome result (λ words. Agree (slots_of shape) t.now places.now g.now least words) }
 {
     let sl = spots::slots(shape.m, shape.r);
     ties::agree(g, t, places, &sl, least)
@@ -218,12 +232,11 @@ fn agree(shape: Shape, t: &[u32], places: &[u16], g: &[u16], least: u16) -> Agre
 
 // Of the tuples that cost the least, the words that come first: the places become words on the way, and are made again.
 fn first_words(shape: Shape, t: &[u32], places: &mut [u16], f: &[u16], least: u16) -> [u16; 4]
-    requires coded { Coded shape }
-    requires t_len { (length t.now ≡ shape.size * 4) × Laid shape (key_cost t.now) places.old f.now }
+    requires laid { (length t.now ≡ shape.size * 4) × Laid shape (key_cost t.now) places.old f.now }
     requires slots { Slots (turns_of shape) f.now (slots_of shape) (steps_of shape) }
-    requires by_index { (i : ℕ) × Ties shape f.now least i }
-    ensures first_words { FirstWords shape t.now places.old f.now least result }
-    ensures places_unchanged { places.new ≡ places.old }
+    requires tied { (i : ℕ) × Ties shape f.now least i }
+    ensures first { FirstWords shape t.now places.old f.now least result }
+    ensures same_places { places.new ≡ places.old }
 {
     let sl = spots::slots(shape.m, shape.r);
     let st = spots::steps(shape.m, shape.r);
@@ -242,26 +255,22 @@ fn words_of(
     g: &[u16],
     least: u16,
 ) -> [u16; 4]
-    requires coded { Coded shape }
     requires cheap { Cheap (key_cost t.now) (length t.now) × (length t.now ≡ shape.size * 4) × Laid shape (key_cost t.now) places.old f.now }
-    requires least_value { least ≡ least_total cap f.now (slots_of shape) (steps_of shape) (turns_of shape) }
-    requires g_len { (length g.now ≡ length places.old) × Marginals (turns_of shape) cap f.now (slots_of shape) (steps_of shape) g.now }
-    ensures first_words { FirstWords shape t.now places.old f.now least result }
-    ensures places_unchanged { places.new ≡ places.old }
+    requires least { least ≡ least_total cap f.now (slots_of shape) (steps_of shape) (turns_of shape) }
+    requires marginals { (length g.now ≡ length places.old) × Marginals (turns_of shape) cap f.now (slots_of shape) (steps_of shape) g.now }
+    ensures first { FirstWords shape t.now places.old f.now least result }
+    ensures same_places { places.new ≡ places.old }
 {
-    let agreed = agree(shape, t, places, g, least);
-    if agreed.all {
-        let words = agreed.words;
-        return words;
+    match agree(shape, t, places, g, least) {
+        Some(words) => words,
+        None => first_words(shape, t, places, f, least),
     }
-    first_words(shape, t, places, f, least)
 }
 
 // The walk: the least total, the words of the first codeword that has it, and in g the least with each place.
 pub fn best_of(shape: Shape, t: &[u32], places: &mut [u16], f: &mut [u16], g: &mut [u16]) -> Best
-    requires coded { Coded shape }
     requires cheap { Cheap (key_cost t.now) (length t.now) × (length t.now ≡ shape.size * 4) }
-    requires places_len { (length places.old ≡ start (slots_of shape) 4) × (length f.old ≡ length places.old) × (length g.old ≡ length places.old) }
+    requires rooms { (length places.old ≡ start (slots_of shape) 4) × (length f.old ≡ length places.old) × (length g.old ≡ length places.old) }
     ensures { Walked shape t.now places.new f.new g.new result.total result.words }
 {
     lay(shape, t, places, f);
@@ -275,23 +284,15 @@ pub fn best_of(shape: Shape, t: &[u32], places: &mut [u16], f: &mut [u16], g: &m
 
 // The least total alone, by a table of costs.
 pub fn least_of(shape: Shape, t: &[u16], places: &mut [u16], f: &mut [u16]) -> u16
-    requires coded { Coded shape }
     requires cheap { Cheap (λ x. get_or t.now x 0) (length t.now) × (length t.now ≡ shape.size * 4) }
-    requires places_len { (length places.old ≡ start (slots_of shape) 4) × (length f.old ≡ length places.old) }
+    requires rooms { (length places.old ≡ start (slots_of shape) 4) × (length f.old ≡ length places.old) }
     ensures { LeastLaid shape (λ x. get_or t.now x 0) places.new f.new result }
 {
     lay_costs(shape, t, places, f);
     let sl = spots::slots(shape.m, shape.r);
     let n = spots::turns(shape.m, shape.r);
-    if n == 1 {
-        let none = [0u16; 48];
-        let found = walk::least_of(f, &sl, &none, 1, 1, CAP);
-        return found.least;
-    }
-    let st = spots::steps(shape.m, shape.r);
-    let round = spots::round(shape.m, shape.r);
-    let found = walk::least_of(f, &sl, &st, n, round, CAP);
-    found.least
+    let (st, round) = steps_in_rounds(shape, n);
+    walk::least_of(f, &sl, &st, n, round, CAP).least
 }
 
 // The bit of a word at a place.
@@ -318,12 +319,9 @@ pub fn write_word(words: [u16; 4], word: &mut [u8])
     requires { length word.old ≤ 15 }
     ensures { word.new ≡ weave (λ j. leading (length word.old) (lane words j)) }
 {
-    let mut k = word.len();
-    let mut i = 0;
-    while 0 < k {
-        k -= 1;
-        word[i] = symbol_at(words, k as u32);
-        i += 1;
+    let last = word.len();
+    for i in 0..last {
+        word[i] = symbol_at(words, (last - 1 - i) as u32);
     }
 }
 
@@ -352,7 +350,7 @@ fn cost_at(top: u16, zs: &[u32], os: &[u32], word: &[u8], i: usize) -> u32
     requires i_in_bounds { i < length word.now }
     ensures { (result ≡ symbol_cost zs.now os.now i (get_or word.now i 0)) × (result ≤ top * 4) }
 {
-    symbol_cost(top, word[i], rows::load(zs, i), rows::load(os, i))
+    symbol_cost(top, word[i], lanes::load(zs, i), lanes::load(os, i))
 }
 
 // What a word costs by itself. Two symbols a turn.
@@ -361,62 +359,41 @@ pub fn word_cost(top: u16, zs: &[u32], os: &[u32], word: &[u8]) -> u32
     ensures { result ≡ word_cost zs.now os.now 0 word.now }
 {
     let mut sum = 0;
-    let mut i = 0;
-    while i + 1 < word.len() {
-        let a = cost_at(top, zs, os, word, i);
-        let b = cost_at(top, zs, os, word, i + 1);
+    for k in 0..word.len() / 2 {
+        let a = cost_at(top, zs, os, word, 2 * k);
+        let b = cost_at(top, zs, os, word, 2 * k + 1);
         sum += a + b;
-        i += 2;
     }
-    if i < word.len() {
-        sum += cost_at(top, zs, os, word, i);
+    if word.len() % 2 == 1 {
+        sum += cost_at(top, zs, os, word, word.len() - 1);
     }
     sum
 }
 
 // The size of a reliability.
 fn size_of(r: i16) -> u32
-    requires { reliability_good row_bound r ≡ true }
-    ensures { (result ≡ cost_zero r + cost_one r) × (result ≤ 127) }
+    ensures value { result ≡ cost_zero r + cost_one r }
+    ensures bound { result ≤ 32768 }
 {
-    if r < 0 {
-        cost_of_zero(r)
-    } else {
-        cost_of_one(r)
-    }
+    r.unsigned_abs() as u32
 }
 
 // The sum of a row's sizes.
 pub fn weight(row: &[i16]) -> u32
-    requires { (row_good row_bound row.now ≡ true) × (length row.now ≤ 60) }
+    requires { length row.now ≤ 60 }
     ensures { result ≡ weight_of row.now }
 {
     let mut sum = 0;
-    let mut i = 0;
-    while i < row.len() {
-        let r = row[i];
-        sum += size_of(r);
-        i += 1;
+    for r in row {
+        sum += size_of(*r);
     }
     sum
 }
 
 // How many places the walk of a code has.
 pub fn places_of(shape: Shape) -> usize
-    requires { Coded shape }
     ensures { result ≡ start (slots_of shape) 4 }
 {
     let sl = spots::slots(shape.m, shape.r);
     sl[4] as usize
-}
-
-// Every number of the scratch 0.
-pub fn clear(scratch: &mut [i32])
-    ensures { scratch.new ≡ replicate (length scratch.old) (pos 0) }
-{
-    let mut k = 0;
-    while k < scratch.len() {
-        scratch[k] = 0;
-        k += 1;
-    }
 }

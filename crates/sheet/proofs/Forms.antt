@@ -12,17 +12,18 @@ use mir.Syntax.{w64}
 use mir.Val.{Fits}
 use Rattle.field.specs.Field.{width_good}
 use Rattle.field.proofs.Tests.{to_T, widths}
-use Rattle.code.specs.declared.Shape.{Shape}
+use Rattle.code.specs.declared.shape.Shape.{Shape}
 use Rattle.code.specs.Code.{width, long, symbols_good}
 use Rattle.code.specs.Bits.{row_long}
-use Rattle.code.specs.Within.{Coded}
 use Rattle.code.proofs.Accepted.{width_fine}
 use Rattle.code.proofs.Words.{Below, below, widen}
 use Rattle.metric.specs.Row.{reliability_good, row_good}
 use Rattle.metric.proofs.Bounds.{row_first, row_rest}
-use Rattle.sheet.specs.declared.Form.{Form}
+use Rattle.sheet.specs.declared.form.Form.{Form}
+use Rattle.std.proofs.Props.{props}
+use Rattle.sheet.specs.Forms.{Fine, three, six}
 use Rattle.sheet.specs.Sheet.{reliabilities, symbols, unsigned_of, signed_of, row_items, row_of, sheet_bound, count, row_words, symbol_words, question_long}
-use Rattle.sheet.specs.Within.{Fine, RowForm, outside}
+use Rattle.sheet.specs.Within.{RowForm, outside}
 use Rattle.sheet.proofs.Items.{Tested, le_or_lt}
 
 row_splits : (f : Form) (k : ℕ) (a b : List ℕ) → row_good k (row_of f (a ++ b)) ≡ (row_good k (row_of f a) && row_good k (row_of f b))
@@ -35,20 +36,26 @@ unfolding symbols_good
 symbol_splits m [] b = refl
 symbol_splits m (d ∷ ds) b = rw (and_assoc, symbol_splits m ds b)
 
+-- a form is its three numbers
+fine_once : {k e b : ℕ} → IsProp (Fine k e b)
+fine_once = Prim.hlevel props
+
+pub rows_here : (z : Fine 2 3 (2 ^ 8)) → record { kind = 2; each = 3; base = 2 ^ 8; fine = z } ≡ reliabilities
+rows_here z = ap (λ (x : Fine 2 3 (2 ^ 8)). record { kind = 2; each = 3; base = 2 ^ 8; fine = x }) (fine_once z three)
+
+pub symbols_here : (z : Fine 3 6 (2 ^ 4)) → record { kind = 3; each = 6; base = 2 ^ 4; fine = z } ≡ symbols
+symbols_here z = ap (λ (x : Fine 3 6 (2 ^ 4)). record { kind = 3; each = 6; base = 2 ^ 4; fine = x }) (fine_once z six)
+
 -- today's forms
 pub row_form : RowForm reliabilities
 row_form = record {
-  form = record { kinds = lit< tt; some = lit< tt; small = lit< tt; holds = lit< tt; few = lit≤ tt; fits = lit≤ tt };
   even = refl;
   other = λ e. omega (arith, e);
 }
 
-pub symbols_fine : Fine symbols
-symbols_fine = record { kinds = lit< tt; some = lit< tt; small = lit< tt; holds = lit< tt; few = lit≤ tt; fits = lit≤ tt }
-
 pub symbol_tested : (m : ℕ) → Tested symbols (symbols_good m)
 unfolding symbols_good
-symbol_tested m = record { fine = symbols_fine; none = refl; splits = symbol_splits m }
+symbol_tested m = record { none = refl; splits = symbol_splits m }
 
 -- two's complement
 pub unsigned_lt : {b : ℕ} (r : ℤ) → 0 < b → reliability_good (b / 2 - 1) r ≡ true → unsigned_of b r < b
@@ -95,28 +102,28 @@ symbols_outside m [] g = refl
 symbols_outside m (d ∷ ds) g = rw (lt-leb 16 d g.0, or-false) (ap (λ (x : Bool). ltb d (2 ^ m) && x) (symbols_outside m ds g.1))
 
 -- the words of so many items have room for them, and are no more than these
-module _ (f : Form) (z : Fine f) where
+module _ (f : Form) where
   pub count_room : (n : ℕ) → n ≤ f.each * count f n
   unfolding count
-  count_room n = omega (arith, z.holds, mod-add-div (n + (f.each - 1)) f.each, mod-lt (n + (f.each - 1)) z.holds)
+  count_room n = omega (arith, f.fine.holds, mod-add-div (n + (f.each - 1)) f.each, mod-lt (n + (f.each - 1)) f.fine.holds)
 
   pub count_place : (n k : ℕ) → k < count f n → f.each * k < n
   unfolding count
   count_place n k h =
-      omega (arith, z.holds, mod-add-div (n + (f.each - 1)) f.each, mul-le-mul_left f.each h, mul-suc f.each k)
+      omega (arith, f.fine.holds, mod-add-div (n + (f.each - 1)) f.each, mul-le-mul_left f.each h, mul-suc f.each k)
 
   pub count_le : (n : ℕ) → count f n ≤ n
   count_le n = by (le_or_lt (count f n) n)
     where
       by : (count f n ≤ n) ⊎ (n < count f n) → count f n ≤ n
       by (inl h) = h
-      by (inr h) = absurd (omega (arith, count_place n n h, mul-le-mul_right n z.holds))
+      by (inr h) = absurd (omega (arith, count_place n n h, mul-le-mul_right n f.fine.holds))
 
 -- rows in a form
 module _ (f : Form) where
-  pub row_tested : Fine f → Tested f (λ ds. row_good (sheet_bound f) (row_of f ds))
+  pub row_tested : Tested f (λ ds. row_good (sheet_bound f) (row_of f ds))
   unfolding row_good row_of
-  row_tested z = record { fine = z; none = refl; splits = row_splits f (sheet_bound f) }
+  row_tested = record { none = refl; splits = row_splits f (sheet_bound f) }
 
   pub items_below : (rs : List ℤ) → 0 < f.base → row_good (sheet_bound f) rs ≡ true → Below f.base (row_items f rs)
   unfolding row_items
@@ -146,13 +153,13 @@ pub symbols_below : (m : ℕ) (ws : List ℕ) → m ≤ 4 → symbols_good m ws 
 symbols_below m ws h g = widen (pow_mono {j = 4} h) ws (below m ws (to_T g))
 
 -- the words of a row and of a word have room for them
-pub row_room : (f : Form) → Fine f → (m : ℕ) → row_long m ≤ f.each * row_words f m
+pub row_room : (f : Form) (m : ℕ) → row_long m ≤ f.each * row_words f m
 unfolding row_words
-row_room f z m = count_room f z (row_long m)
+row_room f m = count_room f (row_long m)
 
 pub symbol_room : (m : ℕ) → long m ≤ symbols.each * symbol_words m
 unfolding symbol_words
-symbol_room m = count_room symbols symbols_fine (long m)
+symbol_room m = count_room symbols (long m)
 
 -- a question is short
 pub row_long_le : (m : ℕ) → width_good m ≡ true → row_long m ≤ 60
@@ -163,17 +170,17 @@ pub long_le : (m : ℕ) → width_good m ≡ true → long m ≤ 15
 unfolding long
 long_le = widths (λ m. long m ≤ 15) (lit≤ tt) (lit≤ tt)
 
-pub bits_le : {s : Shape} → Coded s → s.bits ≤ 60
-bits_le {s} z = omega (arith, z.bits_is, row_long_le s.m z.width_is)
+pub bits_le : (s : Shape) → s.bits ≤ 60
+bits_le s = omega (arith, s.numbers.bits_is, row_long_le s.m s.numbers.width_is)
 
-pub n_le : {s : Shape} → Coded s → s.n ≤ 15
-n_le {s} z = omega (arith, z.n_is, long_le s.m z.width_is)
+pub n_le : (s : Shape) → s.n ≤ 15
+n_le s = omega (arith, s.numbers.n_is, long_le s.m s.numbers.width_is)
 
-pub question_long_le : (f : Form) → Fine f → (c : ℕ) → question_long f (width c) ≤ 75
+pub question_long_le : (f : Form) (c : ℕ) → question_long f (width c) ≤ 75
 unfolding question_long row_words symbol_words
-question_long_le f z c =
+question_long_le f c =
     let m : ℕ = width c in
-    omega (arith, count_le f z (row_long m), count_le symbols symbols_fine (long m), row_long_le m (width_fine c), long_le m (width_fine c))
+    omega (arith, count_le f (row_long m), count_le symbols (long m), row_long_le m (width_fine c), long_le m (width_fine c))
 
 -- so that a place past one fits
 pub at_most : {a b k : ℕ} → a ≡ b → b ≤ k → a ≤ k

@@ -12,9 +12,8 @@ use lib.Seq.{take_all, take_at, drop_at}
 use Rattle.refusal.specs.Refusal.{unless, first}
 use Rattle.refusal.proofs.Tests.{passed, first_none}
 use Rattle.code.proofs.Words.{Below}
-use Rattle.sheet.specs.declared.Form.{Form}
+use Rattle.sheet.specs.declared.form.Form.{Form}
 use Rattle.sheet.specs.Sheet.{packed, worded, kind, body, used, items, unused, items_words, word_refusal, items_refusal, items_in}
-use Rattle.sheet.specs.Within.{Fine}
 use Rattle.sheet.proofs.Digits.{digits_length, digits_below, digits_packed, packed_digits, packed_lt}
 
 pub both : (a b : Bool) → (a && b) ≡ true → (a ≡ true) × (b ≡ true)
@@ -57,7 +56,6 @@ items_words_length f (suc k) ds = ap suc (items_words_length f k (drop f.each ds
 
 -- a form, and what is asked of items
 pub record Tested (f : Form) (good : List ℕ → Bool) : Type 0 where
-  pub fine : Fine f
   pub none : good [] ≡ true
   pub splits : (a b : List ℕ) → good (a ++ b) ≡ (good a && good b)
 
@@ -116,20 +114,20 @@ module _ (f : Form) (good : List ℕ → Bool) (t : Tested f good) where
       let b : Below f.base (take f.each ds) = (below_parts f.base f.each ds g).0 in
       let l : length (take f.each ds) ≡ min f.each (length ds) = length-take f.each ds in
       let n : v < f.base ^ min f.each (length ds) = subst (λ (x : ℕ). v < f.base ^ x) l (packed_lt f.base (take f.each ds) b) in
-      let m : v < 2 ^ 28 = lt_of_lt_of_le n (le_trans (pow-le-pow_right t.fine.some (min-le_left f.each (length ds))) t.fine.fits) in
+      let m : v < 2 ^ 28 = lt_of_lt_of_le n (le_trans (pow-le-pow_right f.fine.some (min-le_left f.each (length ds))) f.fine.fits) in
       let e : body (worded f.kind v) ≡ v = body_worded f.kind v m in
       record {
         small = m;
         right = kind_worded f.kind v m;
         clear = rw e (div-eq_of_lt n);
-        same = rw e (rw (← l) (digits_packed f.base t.fine.some (take f.each ds) b));
+        same = rw e (rw (← l) (digits_packed f.base f.fine.some (take f.each ds) b));
       }
 
   pub items_words_below : (k : ℕ) (ds : List ℕ) → Below f.base ds → Below (2 ^ 32) (items_words f k ds)
   unfolding items_words worded
   items_words_below zero ds g = tt
   items_words_below (suc k) ds g =
-      (omega (arith, (word ds g).small, t.fine.kinds), items_words_below k (drop f.each ds) (below_parts f.base f.each ds g).1)
+      (omega (arith, (word ds g).small, f.fine.kinds), items_words_below k (drop f.each ds) (below_parts f.base f.each ds g).1)
 
   fine_parts : (ds : List ℕ) → good ds ≡ true → (good (take f.each ds) ≡ true) × (good (drop f.each ds) ≡ true)
   fine_parts ds h =
@@ -174,6 +172,6 @@ module _ (f : Form) (good : List ℕ → Bool) (t : Tested f good) where
             ds = items f n w ++ r.ds;
             long = omega (arith, length-append (items f n w) r.ds, items_length f n w, r.long);
             fine = t.splits (items f n w) r.ds ∙ ap₂ ◌&&◌ fine r.fine;
-            inside = below_join f.base (items f n w) r.ds (digits_below f.base t.fine.some (used f n) (body w)) r.inside;
+            inside = below_join f.base (items f n w) r.ds (digits_below f.base f.fine.some (used f n) (body w)) r.inside;
             again = rw (p.0, p.1) (ap₂ ◌∷◌ (sym (ap₂ worded (sym right) (packed_digits f.base (used f n) (body w) clear) ∙ worded_again w)) r.again);
           }

@@ -1,3 +1,4 @@
+pub mod Checks
 pub mod Digits
 pub mod Items
 pub mod Forms

@@ -9,7 +9,7 @@ use Rattle.code.specs.Code.{code_good, width, long, symbols_good}
 use Rattle.code.specs.Bits.{row_long}
 use Rattle.code.proofs.Accepted.{width_fine}
 use Rattle.metric.specs.Row.{reliability_good, row_good}
-use Rattle.sheet.specs.declared.Form.{Form}
+use Rattle.sheet.specs.declared.form.Form.{Form}
 use Rattle.sheet.specs.Sheet.{Question, question, reliabilities, end_kind, most, worded, count, row_words, symbol_words, question_long, question_words, all_words, written_in, written, questions, question_good, all_good}
 use Rattle.sheet.specs.Promise.{sheet_most, LongestSheet, ReadWritten, WrittenRead}
 use Rattle.sheet.proofs.Items.{items_words_length}

@@ -14,7 +14,7 @@ use Rattle.code.proofs.Words.{Below}
 use Rattle.code.proofs.Promise.{codes, few_codes}
 use Rattle.code.proofs.Accepted.{number_taken, number_free}
 use Rattle.metric.specs.Row.{row_good}
-use Rattle.sheet.specs.declared.Form.{Form}
+use Rattle.sheet.specs.declared.form.Form.{Form}
 use Rattle.sheet.specs.Sheet.{Question, question, reliabilities, symbols, head_kind, end_kind, most, numbers, worded, kind, body, head_code, low, row_items, row_of, sheet_bound, row_words, symbol_words, items_words, items_in, question_words, all_words, as_bytes, written_in, as_words, row_refusal, symbol_refusal, after_row, after, question_refusal, head_refusal, end_refusal, next_refusal, rest_refusal, sheet_refusal, question_in, questions_from, questions, question_good, all_good}
 use Rattle.sheet.specs.Within.{RowForm}
 use Rattle.sheet.specs.Promise.{WrittenRead, ReadWritten}
@@ -97,10 +97,10 @@ module _ {f : Form} (z : RowForm f) (q : Question) (g : Good f q) (rest : List �
   past_question = rw past_row (drop_at (word_part q) rest (symbol_words m) (items_words_length symbols (symbol_words m) q.word))
 
   row_below : Below f.base (row_items f q.row)
-  row_below = items_below f q.row z.form.some g.row_fine
+  row_below = items_below f q.row f.fine.some g.row_fine
 
   row_same : row_of f (row_items f q.row) ≡ q.row
-  row_same = row_back f q.row (omega (arith, z.form.some, z.even)) g.row_fine
+  row_same = row_back f q.row (omega (arith, f.fine.some, z.even)) g.row_fine
 
   word_below : Below symbols.base q.word
   word_below = symbols_below m q.word (width_le q.code g.known) g.word_fine
@@ -114,14 +114,14 @@ module _ {f : Form} (z : RowForm f) (q : Question) (g : Good f q) (rest : List �
         ← g.row_length,
         ← row_items_length f q.row,
         ← g.word_length,
-        written_accepted f _ (row_tested f z.form) 5 (row_words f m) (row_items f q.row) (word_part q ++ rest) row_below (ap (row_good (sheet_bound f)) row_same ∙ g.row_fine),
+        written_accepted f _ (row_tested f) 5 (row_words f m) (row_items f q.row) (word_part q ++ rest) row_below (ap (row_good (sheet_bound f)) row_same ∙ g.row_fine),
       )
       (written_accepted symbols (symbols_good m) (symbol_tested m) 6 (symbol_words m) q.word rest word_below g.word_fine)
 
   row_read : row_of f (items_in f (row_words f m) (row_long m) whole) ≡ q.row
   row_read =
-      let room : length (row_items f q.row) ≤ f.each * row_words f m = omega (arith, row_items_length f q.row, g.row_length, row_room f z.form m) in
-      rw (← g.row_length, ← row_items_length f q.row, written_back f _ (row_tested f z.form) (row_words f m) (row_items f q.row) (word_part q ++ rest) row_below room) row_same
+      let room : length (row_items f q.row) ≤ f.each * row_words f m = omega (arith, row_items_length f q.row, g.row_length, row_room f m) in
+      rw (← g.row_length, ← row_items_length f q.row, written_back f _ (row_tested f) (row_words f m) (row_items f q.row) (word_part q ++ rest) row_below room) row_same
 
   word_read : items_in symbols (symbol_words m) (long m) (word_part q ++ rest) ≡ q.word
   word_read =
@@ -140,7 +140,7 @@ module _ {f : Form} (z : RowForm f) (q : Question) (g : Good f q) (rest : List �
   unfolding question_words head_kind
   question_below = (
     head_lt 1 q.code q.number hc g.small (lit< tt),
-    below_join (2 ^ 32) (row_part f q) (word_part q) (items_words_below f _ (row_tested f z.form) (row_words f m) (row_items f q.row) row_below)
+    below_join (2 ^ 32) (row_part f q) (word_part q) (items_words_below f _ (row_tested f) (row_words f m) (row_items f q.row) row_below)
         (items_words_below symbols (symbols_good m) (symbol_tested m) (symbol_words m) q.word word_below),
   )
 
@@ -245,7 +245,7 @@ module _ {f : Form} (z : RowForm f) where
       let m : ℕ = width (head_code w) in
       let a = first_none _ _ e in
       let b = first_none _ _ a.1 in
-      let r = accepted_back f _ (row_tested f z.form) 4 (row_words f m) (row_long m) ws (row_room f z.form m) b.0 in
+      let r = accepted_back f _ (row_tested f) 4 (row_words f m) (row_long m) ws (row_room f m) b.0 in
       let s = accepted_back symbols (symbols_good m) (symbol_tested m) 5 (symbol_words m) (long m) (drop (row_words f m) ws) (symbol_room m) b.1 in
       record {
         q = question (head_code w) (low w) (row_of f r.ds) s.ds;

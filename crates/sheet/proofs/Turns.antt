@@ -13,14 +13,14 @@ use Rattle.refusal.proofs.Tests.{passed, first_none, first_refuses}
 use Rattle.code.specs.Code.{width, long}
 use Rattle.code.specs.Bits.{row_long}
 use Rattle.code.proofs.Words.{Below}
-use Rattle.sheet.specs.declared.Form.{Form}
+use Rattle.sheet.specs.declared.form.Form.{Form}
 use Rattle.sheet.specs.declared.judging.Scan.{Scan}
-use Rattle.sheet.specs.Sheet.{reliabilities, symbols, digits, kind, body, head_code, low, head_kind, end_kind, most, used, items, count, row_words, symbol_words, question_long, word_refusal, items_refusal, row_refusal, symbol_refusal, question_refusal, head_refusal, end_refusal, next_refusal, rest_refusal, after_row, after, questions_from, questions, sheet_refusal, as_words}
+use Rattle.sheet.specs.Sheet.{reliabilities, symbols, digits, kind, body, head_code, head_kind, end_kind, most, used, items, count, row_words, symbol_words, question_long, word_refusal, items_refusal, row_refusal, symbol_refusal, question_refusal, head_refusal, end_refusal, next_refusal, rest_refusal, after_row, after, questions_from, questions, sheet_refusal, as_words}
 use Rattle.sheet.specs.Within.{RowForm, outside, ScanSays, judged_from}
 use Rattle.sheet.specs.Calls.{judgement, judged}
 use Rattle.sheet.proofs.Digits.{digits_below}
 use Rattle.sheet.proofs.Items.{le_or_lt}
-use Rattle.sheet.proofs.Forms.{symbols_fine, row_outside, symbols_outside}
+use Rattle.sheet.proofs.Forms.{row_outside, symbols_outside}
 use Rattle.sheet.proofs.Bytes.{as_words_length}
 
 -- A DIGIT
@@ -58,42 +58,41 @@ module _ (f : Form) (some : 0 < f.base) (e : ℕ) (good fine : List ℕ → Bool
 pub row_judged : {f : Form} → RowForm f → (m : ℕ) (ws : List ℕ) →
     items_refusal f 5 (outside (f.base / 2) (f.base / 2 + 1)) (count f (row_long m)) (row_long m) ws ≡ row_refusal f m ws
 unfolding row_refusal row_words
-row_judged {f} z m ws = same_items f z.form.some 5 _ _ (row_outside f z.even) _ _ ws
+row_judged {f} z m ws = same_items f f.fine.some 5 _ _ (row_outside f z.even) _ _ ws
 
 pub symbols_judged : (m : ℕ) (ws : List ℕ) → items_refusal symbols 6 (outside (2 ^ m) 16) (count symbols (long m)) (long m) ws ≡ symbol_refusal m ws
 unfolding symbol_refusal symbol_words
-symbols_judged m ws = same_items symbols symbols_fine.some 6 _ _ (symbols_outside m) _ _ ws
+symbols_judged m ws = same_items symbols symbols.fine.some 6 _ _ (symbols_outside m) _ _ ws
 
-module _ (f : Form) (some : 0 < f.each) where
-  -- the words that items take: one more than those after it
-  pub count_more : (n : ℕ) → 0 < n → count f n ≡ suc (count f (n - f.each))
-  unfolding count
-  count_more n h =
-      div-eq-sub-div some (omega arith) ∙ rw add-one (ap suc (by (le_or_lt f.each n)))
-    where
-      by : (f.each ≤ n) ⊎ (n < f.each) → (n + (f.each - 1) - f.each) / f.each ≡ (n - f.each + (f.each - 1)) / f.each
-      by (inl l) = ap (λ (x : ℕ). x / f.each) (omega arith)
-      by (inr l) = div-eq_of_lt (omega arith) ∙ sym (div-eq_of_lt (omega arith))
+-- the words that items take: one more than those after it
+pub count_more : (f : Form) → 0 < f.each → (n : ℕ) → 0 < n → count f n ≡ suc (count f (n - f.each))
+unfolding count
+count_more f some n h =
+    div-eq-sub-div some (omega arith) ∙ rw add-one (ap suc (by (le_or_lt f.each n)))
+  where
+    by : (f.each ≤ n) ⊎ (n < f.each) → (n + (f.each - 1) - f.each) / f.each ≡ (n - f.each + (f.each - 1)) / f.each
+    by (inl l) = ap (λ (x : ℕ). x / f.each) (omega arith)
+    by (inr l) = div-eq_of_lt (omega arith) ∙ sym (div-eq_of_lt (omega arith))
 
-  module _ (e : ℕ) (good : List ℕ → Bool) (ws : List ℕ) where
-    -- n items from a word on
-    abbrev items_left : (n at : ℕ) → ℕ
-    items_left n i = items_refusal f e good (count f n) n (drop i ws)
+-- n items in so many words from a word on: none, no word there, and one word
+module _ (f : Form) (e : ℕ) (good : List ℕ → Bool) (ws : List ℕ) (n i : ℕ) where
+  pub items_none : (k : ℕ) → k ≤ 0 → items_refusal f e good k n (drop i ws) ≡ 0
+  unfolding items_refusal
+  items_none k h = let z : k ≡ 0 = omega arith in rw z
 
-    pub items_none : (n i : ℕ) → n ≤ 0 → items_left n i ≡ 0
-    unfolding items_refusal count
-    items_none n i h = let z : n ≡ 0 = omega arith in let d : (0 + (f.each - 1)) / f.each ≡ 0 = div-eq_of_lt (omega arith) in rw (z, d)
+  pub items_out : (k : ℕ) → 0 < k → length ws ≤ i → items_refusal f e good k n (drop i ws) ≡ 9
+  unfolding items_refusal
+  items_out zero h l = absurd (omega arith)
+  items_out (suc k) h l = rw (drop_of_length-le ws l)
 
-    pub items_out : (n i : ℕ) → 0 < n → length ws ≤ i → items_left n i ≡ 9
-    unfolding items_refusal
-    items_out n i h l = rw (count_more n h, drop_of_length-le ws l)
-
-    pub items_step : (n i : ℕ) → 0 < n → i < length ws → items_left n i ≡ first (word_refusal f e good n (get_or ws i 0)) (items_left (n - f.each) (i + 1))
-    unfolding items_refusal
-    items_step n i h l = rw (count_more n h, drop-cons ws i 0 l, add-one)
+  pub items_step : (k : ℕ) → 0 < k → i < length ws →
+      items_refusal f e good k n (drop i ws) ≡ first (word_refusal f e good n (get_or ws i 0)) (items_refusal f e good (k - 1) (n - f.each) (drop (i + 1) ws))
+  unfolding items_refusal
+  items_step zero h l = absurd (omega arith)
+  items_step (suc k) h l = let z : suc k - 1 ≡ k = omega arith in rw (z, drop-cons ws i 0 l, add-one)
 
 -- A QUESTION
-judgement_some : (e n : ℕ) → (e ≡ 0 → ⊥) → judgement e n ≡ e
+pub judgement_some : (e n : ℕ) → (e ≡ 0 → ⊥) → judgement e n ≡ e
 unfolding judgement
 judgement_some zero n h = absurd (h refl)
 judgement_some (suc e) n h = refl
@@ -102,10 +101,6 @@ judgement_unless : (b : Bool) (k e n : ℕ) → judgement (unless b (suc k) e) n
 unfolding judgement unless
 judgement_unless true k e n = refl
 judgement_unless false k e n = refl
-
-pub end_judged : (n w k : ℕ) → judgement (end_refusal n w k) n ≡ unless (eqb (head_code w) 0) 11 (unless (eqb (low w) n) 12 (unless (eqb k 0) 13 (100 + n)))
-unfolding end_refusal judgement
-end_judged n w k = judgement_unless _ 10 _ n ∙ ap (unless _ 11) (judgement_unless _ 11 _ n ∙ ap (unless _ 12) (judgement_unless _ 12 _ n))
 
 pub judged_whole : (bs : List ℕ) → judged bs ≡ unless (eqb (length bs % 4) 0) 9 (judged_from reliabilities most (as_words bs))
 unfolding judged sheet_refusal questions judged_from most

@@ -1,3 +1,4 @@
+pub mod Forms
 pub mod Sheet
 pub mod Calls
 pub mod Within

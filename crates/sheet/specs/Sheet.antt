@@ -5,7 +5,8 @@ use Rattle.refusal.specs.Refusal.{unless, first}
 use Rattle.code.specs.Code.{code_good, number_refusal, width, long, symbols_good}
 use Rattle.code.specs.Bits.{row_long}
 use Rattle.metric.specs.Row.{row_good}
-use Rattle.sheet.specs.declared.Form.{Form}
+use Rattle.sheet.specs.declared.form.Form.{Form}
+use Rattle.sheet.specs.Forms.{three, six}
 
 -- the kinds of the words that begin a question and end a sheet
 unfoldable pub head_kind : ℕ
@@ -16,11 +17,11 @@ end_kind = 15
 
 -- a kind of word that holds items: how many, and below what each is. Kind 2: three reliabilities of 8 bits
 abbrev pub reliabilities : Form
-reliabilities = record { kind = 2; each = 3; base = 2 ^ 8 }
+reliabilities = record { kind = 2; each = 3; base = 2 ^ 8; fine = three }
 
 -- kind 3: six 4-bit symbols
 abbrev pub symbols : Form
-symbols = record { kind = 3; each = 6; base = 2 ^ 4 }
+symbols = record { kind = 3; each = 6; base = 2 ^ 4; fine = six }
 
 -- at most 200 questions; a question number and a count have 24 bits
 unfoldable pub most : ℕ

@@ -1,23 +1,13 @@
 -- What the inner functions ask and compute, where it is no definition of the format. No call offered to callers cites these.
 -- Assumes nothing: these are definitions.
 use Rattle.std.specs.Prelude.{◌≡◌, Bool, true, ◌&&◌, ◌||◌, List, [], ◌∷◌, ℕ, ◌+◌, ◌-◌, ◌/◌, ◌%◌, ◌^◌, ◌<◌, ◌≤◌, ltb, leb, length}
-use Rattle.sheet.specs.declared.Form.{Form}
+use Rattle.sheet.specs.declared.form.Form.{Form}
 use Rattle.sheet.specs.declared.judging.Scan.{Scan}
 use Rattle.sheet.specs.Sheet.{symbols, most, digits, rest_refusal, questions_from}
 use Rattle.sheet.specs.Calls.{judgement}
 
--- a word has room for the items of a form, one at least, and an item fits an i16
-pub record Fine (f : Form) : Type 0 where
-  pub kinds : f.kind < 16
-  pub some : 0 < f.base
-  pub small : f.base < 2 ^ 15
-  pub holds : 0 < f.each
-  pub few : f.each ≤ 28
-  pub fits : f.base ^ f.each ≤ 2 ^ 28
-
 -- a form of reliabilities has a kind of its own, and an even base: the least number of two's complement is one item
 pub record RowForm (f : Form) : Type 0 where
-  pub form : Fine f
   pub even : f.base % 2 ≡ 0
   pub other : f.kind ≡ symbols.kind → ⊥
 

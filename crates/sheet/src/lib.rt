@@ -4,23 +4,19 @@
 #![tactic(auto)]
 
 ghost use Rattle.std.specs.Prelude.{◌≡◌};
-ghost use Rattle.sheet.specs.Calls.{judged};
+ghost use Rattle.sheet.specs.Calls.{judged, judged_of};
 
+mod form;
 mod judging;
 pub mod words;
 
-// A kind of word that holds items: how many, and below what each is.
-#[derive(Clone, Copy)]
-pub struct Form {
-    pub kind: u32,
-    pub each: usize,
-    pub base: u32,
-}
+pub use form::Form;
+use refusal::{Refusal, ensure};
 
-// The refusal of a sheet, the byte count first, then the first offending word; or 100 and the number of questions.
-pub fn judge_sheet(sheet: &[u8]) -> u32
-    ensures { result ≡ judged sheet.now }
+/// How many questions a sheet has, or what it is refused by: the byte count first, then the first offending word.
+pub fn judge_sheet(sheet: &[u8]) -> Result<u32, Refusal>
+    ensures { judged_of result ≡ judged sheet.now }
 {
-    let words = judging::judged_words(sheet, words::RELIABILITIES);
-    refusal::unless(sheet.len() % 4 == 0, 9, words)
+    ensure(sheet.len() % 4 == 0, Refusal::RunsOut)?;
+    judging::judged_words(sheet, words::RELIABILITIES)
 }

@@ -1,11 +1,12 @@
 // The words of a sheet and their parts.
-ghost use Rattle.std.specs.Prelude.{◌≡◌, ◌&&◌, ◌+◌, ◌*◌, ◌^◌, ◌<◌, min, get_or};
+ghost use Rattle.std.specs.Prelude.{◌≡◌, ◌^◌, ◌<◌, get_or};
 ghost use Rattle.code.specs.Code.{width};
 ghost use Rattle.sheet.specs.Sheet.{as_words, kind, body, head_code, low, count, question_long};
-ghost use Rattle.sheet.specs.Within.{Fine};
 
 use crate::Form;
+use code::Shape;
 
+// Kinds stay numbers: a word's four bits may say none of them, and each place asks for the one or two that it allows, so that nothing is matched on.
 pub const HEAD: u32 = 1;
 
 pub const END: u32 = 15;
@@ -32,13 +33,6 @@ pub const SYMBOLS: Form = Form {
     base: 16,
 };
 
-// Four bytes as one number, the first lowest.
-fn joined(a: u8, b: u8, c: u8, d: u8) -> u32
-    ensures { result ≡ a + 256 * (b + 256 * (c + 256 * d)) }
-{
-    (a as u32) + 256 * ((b as u32) + 256 * ((c as u32) + 256 * (d as u32)))
-}
-
 // The word at a place, low byte first; 0 past the last.
 pub fn word_at(sheet: &[u8], i: usize) -> u32
     ensures { result ≡ get_or (as_words sheet.now) i 0 }
@@ -47,7 +41,7 @@ pub fn word_at(sheet: &[u8], i: usize) -> u32
         return 0;
     }
     let at = 4 * i;
-    joined(sheet[at], sheet[at + 1], sheet[at + 2], sheet[at + 3])
+    u32::from_le_bytes([sheet[at], sheet[at + 1], sheet[at + 2], sheet[at + 3]])
 }
 
 pub fn kind_of(w: u32) -> u32
@@ -74,34 +68,19 @@ pub fn low_of(w: u32) -> u32
     w % NUMBERS
 }
 
-pub fn both(a: bool, b: bool) -> bool
-    ensures { result ≡ (a && b) }
-{
-    if a { b } else { false }
-}
-
-pub fn least(a: usize, b: usize) -> usize
-    ensures { result ≡ min a b }
-{
-    if a <= b { a } else { b }
-}
-
 // How many words so many items take.
+#[tactic(auto, unfolding(crate::specs::Sheet::count))]
 pub fn count_of(f: Form, n: usize) -> usize
-    requires fine { Fine f }
-    requires n_bound { n < 2 ^ 16 }
+    requires { n < 2 ^ 16 }
     ensures { result ≡ count f n }
 {
-    let each = f.each;
-    (n + (each - 1)) / each
+    (n + (f.each - 1)) / f.each
 }
 
 // How many words a question of a code has after its head.
 pub fn question_words_of(f: Form, code: u32) -> usize
-    requires { Fine f }
     ensures { result ≡ question_long f (width code) }
 {
-    let chosen = code::by_number(code);
-    let shape = chosen.shape;
+    let shape = Shape::numbered(code);
     count_of(f, shape.bits) + count_of(SYMBOLS, shape.n)
 }

@@ -5,13 +5,15 @@ use mathlib.Core.Path.{subst}
 use mathlib.Core.Logic.{◌⊎◌, inl, inr}
 use native.Mathlib.Nat.{add-zero, zero-add, add-suc, suc-add}
 use borrow.Author.Tests.{eq-eqb, ne_eqb}
-use Rattle.sheet.specs.declared.Form.{Form}
+use Rattle.sheet.specs.declared.form.Form.{Form}
 use Rattle.sheet.specs.Sheet.{Question, reliabilities, kind, head_code, head_kind, as_words, sheet_refusal, question_in, questions}
 use Rattle.sheet.specs.Calls.{judgement, judged}
-use Rattle.sheet_reader.specs.declared.Step.{Step}
-use Rattle.sheet_reader.specs.declared.Yield.TheVariants.{NoneLeft, Refused}
+use Rattle.std.specs.Prelude.{Some, None, Ok, Err}
+use Rattle.refusal.specs.declared.Refusal.{Refusal}
+use Rattle.refusal.specs.Refusal.{number}
+use Rattle.sheet_reader.specs.Answer.{Answer, numbered}
 use Rattle.sheet_reader.specs.Calls.{filled, chosen, row_first, word_first, ChoiceSays}
-use Rattle.sheet_reader.specs.Within.{Stands, answered, behind, yielded, question_here, PlaceSays, skipped}
+use Rattle.sheet_reader.specs.Within.{Stands, answered, behind, question_here, PlaceSays, skipped}
 use Rattle.sheet_reader.proofs.Order.{stands_first, Done, More, cases}
 
 -- one turn of the loop over heads
@@ -44,41 +46,52 @@ pub place_there : (bs : List ℕ) (i : ℕ) → sheet_refusal bs ≡ 0 → Stand
 place_there bs i h = subst (λ (x : ℕ). Stands bs x (skipped reliabilities i (as_words bs) 0)) (zero-add i) (skip_stands i 0 0 (stands_first bs h))
 
 -- a refused sheet
-pub refused : (bs : List ℕ) (i j : ℕ) (row : List ℤ) (word : List ℕ) → j ≡ judged bs → j < 100 → ChoiceSays bs i (Refused j) row row word word
+pub refused : (bs : List ℕ) (i : ℕ) (e : Refusal) (row : List ℤ) (word : List ℕ) → number e ≡ judged bs → number e < 100 → ChoiceSays bs i (Err e) row row word word
 unfolding chosen filled judged judgement
-refused bs i j row word e l = record { answer = by (sheet_refusal bs) e; row_is = refl; word_is = refl }
+refused bs i e row word h l = record { answer = by (sheet_refusal bs) h; row_is = refl; word_is = refl }
   where
-    by : (n : ℕ) → j ≡ judgement n (length (questions bs)) → Refused j ≡ chosen n (drop i (questions bs)) (length row) (length word)
+    by : (n : ℕ) → number e ≡ judgement n (length (questions bs)) → Err (number e) ≡ chosen n (drop i (questions bs)) (length row) (length word)
     by zero h = absurd (omega arith)
-    by (suc n) h = ap Refused h
+    by (suc n) h = ap Err h
+
+-- where none is left the output is kept
+filled_none : {A : Type 0} (a : Answer Refusal) (l o : List A) → numbered a ≡ Ok None → filled a l o ≡ o
+unfolding filled
+filled_none (Ok (Some q)) l o h = absurd (cc)
+filled_none (Ok None) l o h = refl
+filled_none (Err e) l o h = absurd (cc)
 
 -- from the yield at a place to the choice by number
-module _ {bs : List ℕ} {i at : ℕ} {row row_now : List ℤ} {word word_now : List ℕ} {s : Step} (t : Stands bs i at) (y : PlaceSays reliabilities bs at s row row_now word word_now) where
-  none : Done t → ChoiceSays bs i s.answer row row_now word word_now
-  unfolding yielded answered filled chosen
+module _ {bs : List ℕ} {i at at_now : ℕ} {row row_now : List ℤ} {word word_now : List ℕ} {a : Answer Refusal} (t : Stands bs i at) (y : PlaceSays reliabilities bs at at_now a row row_now word word_now) where
+  none_is : Done t → numbered a ≡ Ok None
+  unfolding answered
+  none_is d = y.answer ∙ rw (ne_eqb (kind (get_or (as_words bs) at 0)) head_kind d.no_head) refl
+
+  none : Done t → ChoiceSays bs i a row row_now word word_now
+  unfolding chosen
   none d =
-      let a : s.answer ≡ NoneLeft = ap (λ (x : Step). x.answer) y.step ∙ rw (ne_eqb (kind (get_or (as_words bs) at 0)) head_kind d.no_head) in
+      let e = none_is d in
       record {
-        answer = a ∙ sym (ap₂ (λ (x : ℕ) (qs : List Question). chosen x qs (length row) (length word)) t.accepted d.none);
-        row_is = y.row_is ∙ rw a;
-        word_is = y.word_is ∙ rw a;
+        answer = e ∙ sym (ap₂ (λ (x : ℕ) (qs : List Question). chosen x qs (length row) (length word)) t.accepted d.none);
+        row_is = y.row_is ∙ (filled_none a _ row e ∙ sym (filled_none a _ row e));
+        word_is = y.word_is ∙ (filled_none a _ word e ∙ sym (filled_none a _ word e));
       }
 
-  asked : More t → ChoiceSays bs i s.answer row row_now word word_now
-  unfolding yielded answered filled chosen row_first word_first question_here question_in
+  asked : More t → ChoiceSays bs i a row row_now word word_now
+  unfolding answered chosen row_first word_first question_here question_in
   asked m =
       record {
         answer =
-            ap (λ (x : Step). x.answer) y.step
+            y.answer
             ∙ rw (eq-eqb (kind (get_or (as_words bs) at 0)) head_kind m.head)
             (sym (ap₂ (λ (x : ℕ) (qs : List Question). chosen x qs (length row) (length word)) t.accepted m.list));
-        row_is = y.row_is ∙ ap (λ (qs : List Question). filled s.answer (row_first qs) row) (sym m.list);
-        word_is = y.word_is ∙ ap (λ (qs : List Question). filled s.answer (word_first qs) word) (sym m.list);
+        row_is = y.row_is ∙ ap (λ (qs : List Question). filled a (row_first qs) row) (sym m.list);
+        word_is = y.word_is ∙ ap (λ (qs : List Question). filled a (word_first qs) word) (sym m.list);
       }
 
-  pub choice : ChoiceSays bs i s.answer row row_now word word_now
+  pub choice : ChoiceSays bs i a row row_now word word_now
   choice = by (cases t)
     where
-      by : Done t ⊎ More t → ChoiceSays bs i s.answer row row_now word word_now
+      by : Done t ⊎ More t → ChoiceSays bs i a row row_now word word_now
       by (inl d) = none d
       by (inr m) = asked m

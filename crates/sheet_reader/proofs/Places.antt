@@ -1,10 +1,12 @@
 -- Refusals are small, so 100 and a count is none.
 -- Assumes nothing.
-use Rattle.basics.proofs.Kit.{◌≡◌, refl, Bool, true, false, cond, List, [], ◌∷◌, ℕ, zero, suc, ◌-◌, ◌≤◌, arith, length, eqb}
-use lib.Dec.{lit≤}
-use Rattle.refusal.specs.Refusal.{unless, first}
+use Rattle.basics.proofs.Kit.{◌≡◌, refl, Bool, true, false, cond, List, [], ◌∷◌, ℕ, zero, suc, ◌-◌, ◌≤◌, ◌<◌, arith, length, eqb}
+use lib.Dec.{lit≤, lit<}
+use Rattle.refusal.specs.declared.Refusal.{Refusal}
+use Rattle.refusal.specs.declared.Refusal.TheVariants.{Code, RowLength, WordLength, Output, Reliability, Symbol, Sample, NoCodeword, RunsOut, Kind, UnusedBits, Count, AfterEnd, SymbolKind, Fill, Roots, Scratch, NoBchWord, Configuration}
+use Rattle.refusal.specs.Refusal.{number, unless, first}
 use Rattle.code.specs.Code.{number_refusal}
-use Rattle.sheet.specs.declared.Form.{Form}
+use Rattle.sheet.specs.declared.form.Form.{Form}
 use Rattle.sheet.specs.Sheet.{kind, end_kind, most, as_words, word_refusal, items_refusal, row_refusal, symbol_refusal, question_refusal, head_refusal, end_refusal, next_refusal, rest_refusal, sheet_refusal, questions}
 use Rattle.sheet.specs.Calls.{judgement, judged}
 
@@ -66,3 +68,25 @@ judgement_large (suc e) n l h = absurd (omega arith)
 pub judged_large : (bs : List ℕ) → 100 ≤ judged bs → sheet_refusal bs ≡ 0
 unfolding judged
 judged_large bs h = judgement_large (sheet_refusal bs) (length (questions bs)) (sheet_le bs) h
+
+-- and so are their numbers
+pub number_small : (e : Refusal) → number e < 100
+number_small Code = lit< tt
+number_small RowLength = lit< tt
+number_small WordLength = lit< tt
+number_small Output = lit< tt
+number_small Reliability = lit< tt
+number_small Symbol = lit< tt
+number_small Sample = lit< tt
+number_small NoCodeword = lit< tt
+number_small RunsOut = lit< tt
+number_small Kind = lit< tt
+number_small UnusedBits = lit< tt
+number_small Count = lit< tt
+number_small AfterEnd = lit< tt
+number_small SymbolKind = lit< tt
+number_small Fill = lit< tt
+number_small Roots = lit< tt
+number_small Scratch = lit< tt
+number_small NoBchWord = lit< tt
+number_small Configuration = lit< tt

@@ -5,16 +5,15 @@ use native.Mathlib.Nat.{mod-lt, add-zero, sub-zero, zero-lt-suc}
 use native.Mathlib.Numerals.{add-one}
 use lib.ListN.{length-set, get_or-map}
 use lib.Seq.{get_or-drop, drop-drop, take-suc, take-suc-set, take_all}
-use Rattle.sheet.specs.declared.Form.{Form}
+use Rattle.sheet.specs.declared.form.Form.{Form}
 use Rattle.sheet.specs.Sheet.{body, digits, used, items, count, items_in, row_of, signed_of}
-use Rattle.sheet.specs.Within.{Fine}
 use Rattle.sheet.proofs.Items.{items_in_length}
 use Rattle.sheet.proofs.Forms.{count_room, row_of_length}
 use Rattle.sheet.proofs.Turns.{count_more}
 use Rattle.sheet_reader.specs.declared.items.Spot.{Spot}
 use Rattle.sheet_reader.specs.Within.{items_from, spot_items, TakenSays}
 
-module _ (f : Form) (z : Fine f) where
+module _ (f : Form) where
   module _ (ws : List ℕ) where
     abbrev next_items : (n rest left next : ℕ) → List ℕ
     next_items n v l k = digits f.base (min l n) v ++ items_from f (n - l) (drop k ws)
@@ -32,23 +31,23 @@ module _ (f : Form) (z : Fine f) where
     unfolding items_from items_in items used digits
     new_word n v k =
         let a : min 0 (suc n) ≡ 0 = omega arith in
-        rw (a, sub-zero, count_more f z.holds (suc n) (zero-lt-suc n), get_or-drop k ws 0 0, add-zero, drop-drop 1 k ws)
+        rw (a, sub-zero, count_more f f.fine.holds (suc n) (zero-lt-suc n), get_or-drop k ws 0 0, add-zero, drop-drop 1 k ws)
 
     pub taken_on : (s : Spot) → (s.left ≡ 0 → ⊥) → TakenSays f ws s (record { item = s.rest % f.base; rest = s.rest / f.base; left = s.left - 1; next = s.next })
     unfolding spot_items
-    taken_on s h = record { is = λ n. of_word n s.rest s.left s.next h; small = mod-lt _ z.some; near = omega arith }
+    taken_on s h = record { is = λ n. of_word n s.rest s.left s.next h; small = mod-lt _ f.fine.some; near = omega arith }
 
     pub taken_new : (s : Spot) (v : ℕ) → s.left ≡ 0 → v ≡ body (get_or ws s.next 0) → TakenSays f ws s (record { item = v % f.base; rest = v / f.base; left = f.each - 1; next = s.next + 1 })
     unfolding spot_items
     taken_new s v e h = record {
-      is = λ n. rw (e, h) (new_word n s.rest s.next ∙ of_word n (body (get_or ws s.next 0)) f.each (s.next + 1) (λ x. absurd (omega (arith, x, z.holds))));
-      small = mod-lt _ z.some;
+      is = λ n. rw (e, h) (new_word n s.rest s.next ∙ of_word n (body (get_or ws s.next 0)) f.each (s.next + 1) (λ x. absurd (omega (arith, x, f.fine.holds))));
+      small = mod-lt _ f.fine.some;
       near = omega arith;
     }
 
   pub items_from_length : (n : ℕ) (ws : List ℕ) → length (items_from f n ws) ≡ n
   unfolding items_from
-  items_from_length n ws = items_in_length f (count f n) n ws (count_room f z n)
+  items_from_length n ws = items_in_length f (count f n) n ws (count_room f n)
 
   pub row_length : (n : ℕ) (ws : List ℕ) → length (row_of f (items_from f n ws)) ≡ n
   row_length n ws = row_of_length f (items_from f n ws) ∙ items_from_length n ws
@@ -102,18 +101,18 @@ pub record Rowed (f : Form) (ws : List ℕ) (at n : ℕ) (now : List ℤ) (i : �
   pub row : Filled (row_of f (items_from f n (drop at ws))) now i
   pub items : Reading f ws at n i s
 
-module _ {f : Form} {ws : List ℕ} {at n : ℕ} (z : Fine f) where
+module _ {f : Form} {ws : List ℕ} {at n : ℕ} where
   pub row_none : {now : List ℤ} → length now ≡ n → Rowed f ws at n now 0 (record { item = 0; rest = 0; left = 0; next = at })
-  row_none e = record { row = filled_none (e ∙ sym (row_length f z n _)); items = reading_first }
+  row_none e = record { row = filled_none (e ∙ sym (row_length f n _)); items = reading_first }
 
   pub row_long : {now : List ℤ} {i : ℕ} {s : Spot} → Rowed f ws at n now i s → length now ≡ n
-  row_long w = w.row.same ∙ row_length f z n _
+  row_long w = w.row.same ∙ row_length f n _
 
   pub row_more : {now next : List ℤ} {i : ℕ} {s r : Spot} → i < n →
       TakenSays f ws s r → next ≡ set now i (signed_of f.base r.item) → Rowed f ws at n now i s → Rowed f ws at n next (i + 1) r
   row_more {i = i} h t e w =
       record {
-        row = rw e (filled_more (signed_of f.base 0) _ (omega (arith, row_length f z n (drop at ws))) (ap (signed_of f.base) (item_is h t w.items) ∙ sym (row_at f _ i)) w.row);
+        row = rw e (filled_more (signed_of f.base 0) _ (omega (arith, row_length f n (drop at ws))) (ap (signed_of f.base) (item_is h t w.items) ∙ sym (row_at f _ i)) w.row);
         items = reading_more h t w.items;
       }
 

@@ -1,5 +1,5 @@
 pub mod Lists
 pub mod Packing
-pub mod Questions
+pub mod Words
 pub mod Writing
 pub mod Return

@@ -14,7 +14,7 @@ use mir.Val.{SFits, Fits, to_z, of_z}
 use mir.Facts.{to_z_pos, to_z-of_z}
 use Rattle.code.proofs.Words.{Below}
 use Rattle.metric.specs.Row.{reliability_good}
-use Rattle.sheet.specs.declared.Form.{Form}
+use Rattle.sheet.specs.declared.form.Form.{Form}
 use Rattle.sheet.specs.Sheet.{digits, packed, unsigned_of, row_items, as_bytes}
 use Rattle.sheet.proofs.Digits.{digits_length, packed_lt}
 use Rattle.sheet.proofs.Items.{below_parts}

@@ -11,7 +11,7 @@ use Rattle.refusal.proofs.Outcomes.{outcome_zero}
 use Rattle.code.specs.Code.{width, long}
 use Rattle.code.specs.Bits.{row_long}
 use Rattle.code.proofs.Accepted.{number_free}
-use Rattle.sheet.specs.declared.Form.{Form}
+use Rattle.sheet.specs.declared.form.Form.{Form}
 use Rattle.sheet.specs.Sheet.{Question, reliabilities, most, all_good, questions}
 use Rattle.sheet.specs.Promise.{WrittenRead, ReadWritten}
 use Rattle.sheet.proofs.Items.{both}

@@ -2,7 +2,6 @@
 -- Assumes nothing.
 use Rattle.basics.proofs.Kit.{◌≡◌, refl, sym, ap, ◌∙◌, true, List, [], ◌∷◌, ◌++◌, ℕ, suc, ◌+◌, ◌-◌, ◌*◌, ◌≤◌, ◌<◌, arith, length, get_or, take, drop, ℤ}
 use mathlib.Core.List.{append_assoc, append-nil}
-use native.Mathlib.Nat.{add-sub_cancel_left}
 use native.Mathlib.Numerals.{add-one}
 use borrow.Author.Tests.{ltb-true, leb-true, eqb-true}
 use lib.ListN.{length-take, length-drop, length-append, take-append-drop, drop_of_length-le}
@@ -11,7 +10,7 @@ use Rattle.refusal.proofs.Tests.{passed, first_none}
 use Rattle.code.specs.Code.{width, long}
 use Rattle.code.specs.Bits.{row_long}
 use Rattle.code.proofs.Accepted.{number_taken}
-use Rattle.sheet.specs.declared.Form.{Form}
+use Rattle.sheet.specs.declared.form.Form.{Form}
 use Rattle.sheet.specs.Sheet.{Question, question, end_kind, most, worded, digits, question_words, all_words, written_in, question_good}
 use Rattle.sheet.specs.Within.{RowForm}
 use Rattle.sheet.proofs.Items.{both}
@@ -32,9 +31,9 @@ abbrev pub first_of : (c n : ℕ) → List ℤ → List ℕ → Question
 first_of c n rs ws = question c n (take (row_long (width c)) rs) (take (long (width c)) ws)
 
 -- as it is lent
-pub lent_is : (c n : ℕ) (rs : List ℤ) (ws : List ℕ) (row word : ℕ) {a b : ℕ} → a ≡ row_long (width c) → b ≡ long (width c) →
-    question c n (take (row + a - row) (drop row rs)) (take (word + b - word) (drop word ws)) ≡ first_of c n (drop row rs) (drop word ws)
-lent_is c n rs ws row word {a} {b} e h = rw (add-sub_cancel_left row a, add-sub_cancel_left word b, e, h)
+pub lent_is : (c n : ℕ) (r : List ℤ) (w : List ℕ) {a b : ℕ} {row : List ℤ} {word : List ℕ} → row ≡ take a r → a ≡ row_long (width c) → word ≡ take b w → b ≡ long (width c) →
+    question c n row word ≡ first_of c n r w
+lent_is c n r w p e q h = rw (p, e, q, h) refl
 
 -- an output from a place on has room for it, and is written so far
 pub part_room : (f : Form) (l : List ℕ) (n : ℕ) {p q : Question} → p ≡ q → n + 4 * length (question_words f q) ≤ length l →
@@ -158,20 +157,18 @@ module _ {f : Form} {qs : List Question} {o : List ℕ} where
           let w : ℕ = worded end_kind (length qs) in
           rw (e, end_place, b.holds, all_of) (begun_word (all_words f qs) o w ∙ begun_all (all_words f qs ++ w ∷ []) o (b.room ∙ rw length-append))
 
--- the same of a list that is lent
-pub record LentBegun (f : Form) (cs ns : List ℕ) (rs : List ℤ) (ws o : List ℕ) (i row word at : ℕ) (out : List ℕ) : Type 0 where
+-- the same of a list that is lent, of whose rows and words so many are left
+pub record LentBegun (f : Form) (cs ns : List ℕ) (rs : List ℤ) (ws o : List ℕ) (i : ℕ) (r : List ℤ) (w : List ℕ) (at : ℕ) (out : List ℕ) : Type 0 where
   pub list_in : ListWithin f cs ns rs ws (length o)
-  pub refused : list_refusal f (drop i cs) (drop i ns) (drop row rs) (drop word ws) ≡ 0
-  pub left : drop i (listed cs ns rs ws) ≡ listed (drop i cs) (drop i ns) (drop row rs) (drop word ws)
+  pub refused : list_refusal f (drop i cs) (drop i ns) r w ≡ 0
+  pub left : drop i (listed cs ns rs ws) ≡ listed (drop i cs) (drop i ns) r w
   pub written : Begun f (listed cs ns rs ws) o i at out
-  pub row_in : row ≤ length rs
-  pub word_in : word ≤ length ws
 
 module _ {f : Form} {cs ns : List ℕ} {rs : List ℤ} {ws o : List ℕ} where
-  pub lent_begin : ListWithin f cs ns rs ws (length o) → LentBegun f cs ns rs ws o 0 0 0 0 o
-  lent_begin w = record { list_in = w; refused = w.taken; left = refl; written = begin w.room; row_in = omega arith; word_in = omega arith }
+  pub lent_begin : ListWithin f cs ns rs ws (length o) → LentBegun f cs ns rs ws o 0 rs ws 0 o
+  lent_begin w = record { list_in = w; refused = w.taken; left = refl; written = begin w.room }
 
-  module _ {i row word at : ℕ} {out : List ℕ} (b : LentBegun f cs ns rs ws o i row word at out) where
+  module _ {i at : ℕ} {r : List ℤ} {w out : List ℕ} (b : LentBegun f cs ns rs ws o i r w at out) where
     abbrev list : List Question
     list = listed cs ns rs ws
 
@@ -180,44 +177,41 @@ module _ {f : Form} {cs ns : List ℕ} {rs : List ℤ} {ws o : List ℕ} where
     next_code = get_or cs i 0
 
     abbrev pub next : Question
-    next = first_of next_code (get_or ns i 0) (drop row rs) (drop word ws)
+    next = first_of next_code (get_or ns i 0) r w
 
     module _ (h : i < length cs) where
       other : i < length ns
       other = omega (arith, b.list_in.same)
 
-      asked : (asked_refusal f next_code (get_or ns i 0) (length cs - (i + 1)) (drop row rs) (drop word ws) ≡ 0)
-          × (list_refusal f (drop (i + 1) cs) (drop (i + 1) ns) (drop (row_long (width next_code)) (drop row rs)) (drop (long (width next_code)) (drop word ws)) ≡ 0)
-      asked = first_none _ _ (sym (list_step f cs ns i (drop row rs) (drop word ws) h other) ∙ b.refused)
+      asked : (asked_refusal f next_code (get_or ns i 0) (length cs - (i + 1)) r w ≡ 0)
+          × (list_refusal f (drop (i + 1) cs) (drop (i + 1) ns) (drop (row_long (width next_code)) r) (drop (long (width next_code)) w) ≡ 0)
+      asked = first_none _ _ (sym (list_step f cs ns i r w h other) ∙ b.refused)
 
       pub next_good : question_good f next ≡ true
       next_good = parts_good f next (asked_good f _ _ _ _ _ asked.0)
 
-      pub rows_left : row + row_long (width next_code) ≤ length rs
-      rows_left = omega (arith, (room f _ _ _ _ _ asked.0).0, length-drop row rs, b.row_in)
+      pub rows_left : row_long (width next_code) ≤ length r
+      rows_left = (room f _ _ _ _ _ asked.0).0
 
-      pub words_left : word + long (width next_code) ≤ length ws
-      words_left = omega (arith, (room f _ _ _ _ _ asked.0).1, length-drop word ws, b.word_in)
+      pub words_left : long (width next_code) ≤ length w
+      words_left = (room f _ _ _ _ _ asked.0).1
 
       pub rest : List Question
-      rest = listed (drop (i + 1) cs) (drop (i + 1) ns) (drop (row_long (width next_code)) (drop row rs)) (drop (long (width next_code)) (drop word ws))
+      rest = listed (drop (i + 1) cs) (drop (i + 1) ns) (drop (row_long (width next_code)) r) (drop (long (width next_code)) w)
 
       pub split : drop i list ≡ next ∷ rest
       unfolding listed rest
       split = b.left ∙ rw (drop-cons cs i 0 h, drop-cons ns i 0 other, add-one)
 
-      pub more : {row_now word_now at_now : ℕ} {out_now : List ℕ} → row_now ≡ row + row_long (width next_code) → word_now ≡ word + long (width next_code) →
-          at_now ≡ at + 4 * length (question_words f next) → out_now ≡ take at out ++ begun (question_words f next) (drop at out) →
-          LentBegun f cs ns rs ws o (i + 1) row_now word_now at_now out_now
+      pub more : {at_now : ℕ} {out_now : List ℕ} → at_now ≡ at + 4 * length (question_words f next) → out_now ≡ take at out ++ begun (question_words f next) (drop at out) →
+          LentBegun f cs ns rs ws o (i + 1) (drop (row_long (width next_code)) r) (drop (long (width next_code)) w) at_now out_now
       unfolding rest
-      more p q r e = rw (p, q) (record {
+      more p e = record {
         list_in = b.list_in;
-        refused = rw (drop-drop (row_long (width next_code)) row rs, drop-drop (long (width next_code)) word ws) at asked.1;
-        left = sym (drop-drop 1 i list) ∙ ap (drop 1) split ∙ rw (drop-drop, drop-drop);
-        written = one_more b.written split r e;
-        row_in = rows_left;
-        word_in = words_left;
-      })
+        refused = asked.1;
+        left = sym (drop-drop 1 i list) ∙ ap (drop 1) split;
+        written = one_more b.written split p e;
+      }
 
     pub count : length cs ≡ length list
     count = sym (listed_length cs ns rs ws b.list_in.same)

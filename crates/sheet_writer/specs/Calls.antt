@@ -5,7 +5,7 @@ use Rattle.refusal.specs.Refusal.{unless, first, Outcome}
 use Rattle.code.specs.Code.{number_refusal, width, long, symbols_good}
 use Rattle.code.specs.Bits.{row_long}
 use Rattle.metric.specs.Row.{row_good}
-use Rattle.sheet.specs.declared.Form.{Form}
+use Rattle.sheet.specs.declared.form.Form.{Form}
 use Rattle.sheet.specs.Sheet.{Question, question, reliabilities, sheet_bound, most, numbers, written_in, written}
 
 -- a question list is lent as its codes, its question numbers, all rows end to end and all handed-in words end to end

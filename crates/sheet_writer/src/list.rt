@@ -1,118 +1,109 @@
 // What a question list is refused by.
 ghost use Rattle.std.specs.Prelude.{◌≡◌, ◌≤◌, length};
-ghost use Rattle.code.specs.Within.{Coded};
+ghost use Rattle.refusal.specs.Refusal.{number_of};
 ghost use Rattle.sheet.specs.Within.{RowForm};
 ghost use Rattle.sheet_writer.specs.Calls.{fits, parts_refusal, asked_refusal, list_refusal, write_refusal};
 ghost use Rattle.sheet_writer.specs.Within.{words_needed};
 
-use sheet::Form;
+use crate::Questions;
+use code::{Choice, Shape};
+use refusal::{Refusal, ensure};
+use sheet::{Form, words};
 
 fn is_enough(after: usize, left: usize, needed: usize) -> bool
     ensures { result ≡ fits after left needed }
 {
     if after == 0 {
-        return left == needed;
+        left == needed
+    } else {
+        needed <= left
     }
-    needed <= left
 }
 
-// The row and the word of the first question of what is left, with so many questions after it. A short row and a short word are tested too,
-// as far as they go.
-fn refused_parts(f: Form, shape: code::Shape, after: usize, rows: &[i16], words: &[u8]) -> u32
-    requires row_form { RowForm f }
-    requires coded { Coded shape }
-    ensures { result ≡ parts_refusal f shape.m after rows.now words.now }
+// The row and the word of the first question of what is left, with so many questions after it.
+#[tactic(auto, using(refusal::proofs::Results::stops, refusal::proofs::Results::goes_on), unfolding(crate::specs::Calls::parts_refusal, refusal::specs::Refusal::unless))]
+fn check_parts(
+    f: Form,
+    shape: Shape,
+    after: usize,
+    rows: &[i16],
+    symbols: &[u8],
+) -> Result<(), Refusal>
+    requires { RowForm f }
+    ensures { number_of result ≡ parts_refusal f shape.m after rows.now symbols.now }
 {
-    let k = sheet::words::least(shape.n, words.len());
-    let symbols = refusal::unless(code::symbols_good(shape.m, &words[..k]), 6, 0);
-    let n = sheet::words::least(shape.bits, rows.len());
+    ensure(is_enough(after, rows.len(), shape.bits), Refusal::RowLength)?;
+    ensure(
+        is_enough(after, symbols.len(), shape.n),
+        Refusal::WordLength,
+    )?;
     let bound = (f.base / 2 - 1) as u16;
-    let row = refusal::unless(metric::is_row(bound, &rows[..n]), 5, symbols);
-    let words_long = refusal::unless(is_enough(after, words.len(), shape.n), 3, row);
-    refusal::unless(is_enough(after, rows.len(), shape.bits), 2, words_long)
+    ensure(
+        metric::is_row(bound, &rows[..shape.bits]),
+        Refusal::Reliability,
+    )?;
+    ensure(
+        code::symbols_good(shape.m, &symbols[..shape.n]),
+        Refusal::Symbol,
+    )
 }
 
-fn refused_question(
+fn check_question(
     f: Form,
     code: u32,
     number: u32,
     after: usize,
     rows: &[i16],
-    words: &[u8],
-) -> u32
+    symbols: &[u8],
+) -> Result<(), Refusal>
     requires { RowForm f }
-    ensures { result ≡ asked_refusal f code number after rows.now words.now }
+    ensures { number_of result ≡ asked_refusal f code number after rows.now symbols.now }
 {
-    let chosen = code::by_number(code);
-    let shape = chosen.shape;
-    let parts = refused_parts(f, shape, after, rows, words);
-    let numbered = refusal::unless(number < sheet::words::NUMBERS, 11, parts);
-    refusal::first(chosen.number, numbered)
+    let shape = Choice::Number(code).shape()?;
+    ensure(number < words::NUMBERS, Refusal::UnusedBits)?;
+    check_parts(f, shape, after, rows, symbols)
 }
 
 // Question by question.
-fn refused_list(f: Form, codes: &[u32], numbers: &[u32], rows: &[i16], words: &[u8]) -> u32
+fn check_list(f: Form, questions: Questions) -> Result<(), Refusal>
     requires row_form { RowForm f }
-    requires codes_len { length codes.now ≡ length numbers.now }
-    ensures { result ≡ list_refusal f codes.now numbers.now rows.now words.now }
+    requires paired { length questions.codes.now ≡ length questions.numbers.now }
+    ensures { number_of result ≡ list_refusal f questions.entry.codes.now questions.entry.numbers.now questions.entry.rows.now questions.entry.words.now }
 {
-    let mut i = 0;
-    let mut row = 0;
-    let mut word = 0;
-    while i < codes.len() {
-        let code = codes[i];
-        let e = refused_question(
-            f,
-            code,
-            numbers[i],
-            codes.len() - (i + 1),
-            &rows[row..],
-            &words[word..],
-        );
-        if e != 0 {
-            return e;
-        }
-        let chosen = code::by_number(code);
-        let shape = chosen.shape;
-        row += shape.bits;
-        word += shape.n;
-        i += 1;
+    let mut rows = questions.rows;
+    let mut symbols = questions.words;
+    for (i, code) in questions.codes.iter().enumerate() {
+        let after = questions.codes.len() - (i + 1);
+        check_question(f, *code, questions.numbers[i], after, rows, symbols)?;
+        let shape = Shape::numbered(*code);
+        rows = rows.split_at(shape.bits).1;
+        symbols = symbols.split_at(shape.n).1;
     }
-    let over = refusal::unless(words.len() - word == 0, 3, 0);
-    refusal::unless(rows.len() - row == 0, 2, over)
+    ensure(rows.len() == 0, Refusal::RowLength)?;
+    ensure(symbols.len() == 0, Refusal::WordLength)
 }
 
 // How many words the questions of these codes take.
 fn needed(f: Form, codes: &[u32]) -> usize
-    requires row_form { RowForm f }
-    requires codes_len_bound { length codes.now ≤ 200 }
+    requires { length codes.now ≤ 200 }
     ensures { result ≡ words_needed f codes.now }
 {
     let mut total = 0;
-    let mut i = codes.len();
-    while 0 < i {
-        i -= 1;
-        total += 1 + sheet::words::question_words_of(f, codes[i]);
+    for code in codes {
+        total += 1 + words::question_words_of(f, *code);
     }
     total
 }
 
 // What writing a list into an output of a length is refused by.
-pub fn refused_write(
-    f: Form,
-    codes: &[u32],
-    numbers: &[u32],
-    rows: &[i16],
-    words: &[u8],
-    output: usize,
-) -> u32
+pub fn check_write(f: Form, questions: Questions, output: usize) -> Result<(), Refusal>
     requires { RowForm f }
-    ensures { result ≡ write_refusal f codes.now numbers.now rows.now words.now output }
+    ensures { number_of result ≡ write_refusal f questions.entry.codes.now questions.entry.numbers.now questions.entry.rows.now questions.entry.words.now output }
 {
-    let same = codes.len() == numbers.len();
-    if !sheet::words::both(codes.len() <= sheet::words::MOST, same) {
-        return 12;
-    }
-    let room = refusal::unless(output == 4 * (needed(f, codes) + 1), 4, 0);
-    refusal::first(refused_list(f, codes, numbers, rows, words), room)
+    let count = questions.codes.len();
+    ensure(count <= words::MOST, Refusal::Count)?;
+    ensure(count == questions.numbers.len(), Refusal::Count)?;
+    check_list(f, questions)?;
+    let long = 4 * (needed(f, questions.codes) + 1);
+    ensure(output == long, Refusal::Output)
 }

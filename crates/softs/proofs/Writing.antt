@@ -1,46 +1,18 @@
 -- Soft outputs as the program writes them: differences of costs in 16 signed bits, position by position.
 -- Assumes nothing.
-use Rattle.basics.proofs.Kit.{◌≡◌, refl, ap₂, ◌∙◌, Bool, true, false, cond, List, ℕ, zero, suc, ◌+◌, ◌-◌, ◌*◌, ◌^◌, ◌≤◌, ◌<◌, arith, length, get_or, set, ltb, ℤ, pos, negsuc, ◌-ℤ◌}
+use Rattle.basics.proofs.Kit.{◌≡◌, refl, ap₂, ◌∙◌, true, List, ℕ, zero, suc, ◌+◌, ◌*◌, ◌≤◌, ◌<◌, arith, length, get_or, set, ℤ, pos, ◌-ℤ◌}
 use native.Mathlib.Nat.{suc-mul, mul-le-mul_right}
 use native.Mathlib.Decide.{dec_le}
-use native.Mathlib.Numerals.{add-one}
-use borrow.Author.Tests.{ltb-true, ltb-false}
 use lib.ListN.{length-set}
 use lib.Seq.{get_or-set_same, get_or-set_other}
-use lib.Signed.{mag}
-use mir.Syntax.{w16, w32}
+use mir.Syntax.{w16}
 use mir.Val.{SFits, to_z, of_z}
-use mir.Facts.{to_z-of_z, to_z_pos}
+use mir.Facts.{to_z-of_z}
 use Rattle.field.specs.Field.{width_good}
 use Rattle.field.proofs.Tests.{widths}
 use Rattle.lanes.specs.Lanes.{lane, row}
 use Rattle.lanes.proofs.Rows.{row_at}
 use Rattle.softs.specs.Softs.{soft_of, SoftWithin, SoftWritten, SoftsWithin, Softened}
-
--- a difference is no larger than its parts
-pub within : (a b k : ℕ) → a < k → b < k → mag (pos a -ℤ pos b) < k
-within a zero k ha hb = omega arith
-within a (suc b) k ha hb = go (ltb a (suc b)) refl
-  where
-    go : (t : Bool) → ltb a (suc b) ≡ t → mag (cond t (negsuc (suc b - suc a)) (pos (a - suc b))) < k
-    go true e = omega (arith, ltb-true)
-    go false e = omega (arith, ltb-false)
-
-pub minus_is : (a b : ℕ) → a < 2 ^ 31 → b < 2 ^ 31 → to_z w32 a -ℤ to_z w32 b ≡ pos a -ℤ pos b
-minus_is a b ha hb = ap₂ (λ (x y : ℤ). x -ℤ y) (to_z_pos w32 ha) (to_z_pos w32 hb)
-
-pub minus_fits : (a b : ℕ) → a < 2 ^ 31 → b < 2 ^ 31 → SFits w32 (pos a -ℤ pos b)
-minus_fits a b ha hb = record { sfits = within a b (2 ^ 31) ha hb }
-
-pub soft_fits : (zero one : ℕ) → zero < 2 ^ 14 → one < 2 ^ 14 → SFits w16 (pos (2 * one) -ℤ pos (2 * zero))
-soft_fits za oa hz ho = record { sfits = within (2 * oa) (2 * za) 32768 (omega arith) (omega arith) }
-
--- a number that fits both widths, made narrower
-pub narrow_fits : (r z : ℤ) → r ≡ z → SFits w32 z → SFits w16 z → SFits w16 (to_z w32 (of_z w32 r))
-narrow_fits r z e h g = rw (e, to_z-of_z h) g
-
-pub narrow_is : (r z : ℤ) → r ≡ z → SFits w32 z → SFits w16 z → to_z w16 (of_z w16 (to_z w32 (of_z w32 r))) ≡ z
-narrow_is r z e h g = rw (e, to_z-of_z h) (to_z-of_z g)
 
 -- what was written was what was computed
 pub written_is : (v r z : ℤ) → SFits w16 r → r ≡ z → v ≡ to_z w16 (of_z w16 r) → v ≡ z
@@ -140,9 +112,6 @@ module _ (m n : ℕ) (za oa : List ℕ) (s₀ : List ℤ) (w : SoftsWithin m n z
           where
             place : (k j : ℕ) → k < i → j < m → k * m + j < i * m
             place k j h lj = omega (arith, mul-le-mul_right m h, suc-mul k m)
-
-pub next : (i m at : ℕ) → at ≡ i * m → at + m ≡ (i + 1) * m
-next i m at e = rw add-one (omega (arith, suc-mul i m))
 
 pub at_least : (m : ℕ) → width_good m ≡ true → 3 ≤ m
 at_least = widths (λ (m : ℕ). 3 ≤ m) (omega arith) (omega arith)

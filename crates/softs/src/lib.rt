@@ -22,6 +22,7 @@ fn soft_from(zero: u16, one: u16) -> i16
 }
 
 // One position's soft outputs.
+#[tactic(auto, using(crate::proofs::Writing::at_least))]
 fn soft_row(m: u32, z: [u16; 4], o: [u16; 4], at: usize, soft: &mut [i16])
     requires { SoftWithin m at z o soft.old }
     ensures { SoftWritten m at z o soft.old soft.new }
@@ -40,11 +41,7 @@ pub fn soft_rows(m: u32, n: usize, zero: &[u16], one: &[u16], soft: &mut [i16])
     ensures { Softened m zero.now one.now n soft.old soft.new }
 {
     let w = m as usize;
-    let mut i = 0;
-    let mut at = 0;
-    while i < n {
-        soft_row(m, lanes::load(zero, i), lanes::load(one, i), at, soft);
-        at += w;
-        i += 1;
+    for i in 0..n {
+        soft_row(m, lanes::load(zero, i), lanes::load(one, i), i * w, soft);
     }
 }

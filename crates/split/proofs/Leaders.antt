@@ -1,8 +1,9 @@
 -- Each coset has one leader. The heads give a member of it and the rows every BCH word, so that their sums are all its members: the least of them
 -- by weight and number leads, and no other can. Where a syndrome has m bits, the words of weight 1 or 0 have each coset once, and lead.
 -- Assumes nothing.
-use Rattle.basics.proofs.Kit.{◌≡◌, refl, sym, ap, ap₂, ◌∙◌, Bool, true, false, ◌&&◌, cond, List, [], ◌∷◌, ℕ, zero, suc, ◌+◌, ◌-◌, ◌*◌, ◌/◌, ◌%◌, ◌^◌, ◌≤◌, ◌<◌, arith, length, get_or, drop, eqb, leb, ltb}
-use native.Mathlib.Nat.{not-suc-le-zero, le_refl, le_trans, le_antisymm, eq-or-lt_of_le, le_of_suc-le-suc, lt_of_lt_of_le, div-eq_of_lt}
+use Rattle.basics.proofs.Kit.{◌≡◌, refl, sym, ap, ap₂, ◌∙◌, Bool, true, ◌&&◌, cond, List, [], ◌∷◌, ℕ, zero, suc, ◌+◌, ◌-◌, ◌*◌, ◌/◌, ◌%◌, ◌^◌, ◌≤◌, ◌<◌, arith, length, get_or, drop, min, eqb, leb, ltb}
+use native.Mathlib.Nat.{not-suc-le-zero, le_refl, le_trans, le_antisymm, eq-or-lt_of_le, le_of_suc-le-suc, lt_of_lt_of_le, div-eq_of_lt, min-le_left, min-le_right, min-eq_left, min-eq_right}
+use Rattle.std.proofs.lemmas.Bool.{cases_lt}
 use lib.Pow.{pow_mono, shr_lt}
 use mathlib.Core.List.{map}
 use mathlib.Core.Logic.{◌⊎◌, inl, inr}
@@ -10,7 +11,7 @@ use lib.Bits as B
 use lib.Count.{ones, ones_in}
 use lib.Dec.{T, lit≤, eqb→eq, leb→le, ltb→lt}
 use lib.ListN.{replicate, length-drop, length-map}
-use borrow.Author.Tests.{ltb-true, ltb-false, eq-eqb}
+use borrow.Author.Tests.{eq-eqb}
 use Rattle.field.specs.Field.{width_good, xor, times, times_from, doubled, alpha}
 use Rattle.field.proofs.Tests.{widths, all, at, and_l, and_r}
 use Rattle.field.proofs.Xor as X
@@ -18,10 +19,10 @@ use Rattle.code.specs.Code.{long, message_long, value_from, value_at, syndrome_l
 use Rattle.code.specs.Bits.{bits_of}
 use Rattle.code.proofs.Words.{drop_below}
 use Rattle.code.proofs.Accepted.{accepted_parts, at_each, syndrome_room}
+use Rattle.split.specs.declared.tables.TheConstants.{HEADS_3_6, HEADS_4_8, HEADS_4_10, ROWS_3_6, ROWS_4_8, ROWS_4_10, SINGLES_3, SINGLES_4}
 use Rattle.split.specs.Split.{number, syndrome, cosets, Binary, Leader, weight, word_number, sum, all_below, BchEnding}
-use Rattle.code.specs.declared.Shape.{Shape}
-use Rattle.split.specs.Within.{Coset}
-use Rattle.split.specs.Members.{picked, rank, lower, least_rank, foremost}
+use Rattle.code.specs.declared.shape.Shape.{Shape}
+use Rattle.split.specs.Members.{picked, rank, least_rank, foremost}
 use Rattle.split.specs.Promise.{BchDimension, SumIsBch, LeaderThere, OneLeader}
 use Rattle.split.proofs.Layers as L
 use Rattle.split.proofs.Numbers.{bits_binary, bits_number, number_lt, number_bits, ones_none, ones_one, weight_ones, bits_xor, drop_bits, sum_cancel, drop_sum}
@@ -48,32 +49,30 @@ same_word m r bs ds w h p q e f =
     let only = (bch_dimension_right m r (drop k (sum bs bs)) w h many (L.all_of 2 _ (drop_below 2 k (sum bs bs) (L.bits m _ b)))).1 in
     sym (sum_cancel bs ds n) ∙ ap (sum bs) (only (sum bs ds) (sum bs bs) one two) ∙ sum_cancel bs bs refl
 
--- THE TABLES, by m and the number of bits of a syndrome
-unfoldable pub heads : (m q : ℕ) → List ℕ
-heads m q =
-    cond (eqb m 3) (cond (eqb q 3) (1 ∷ 2 ∷ 4 ∷ []) (23 ∷ 46 ∷ 35 ∷ 22 ∷ 58 ∷ 49 ∷ []))
+-- THE TABLES, by the number of bits of a syndrome
+unfoldable pub heads : (q : ℕ) → List ℕ
+heads q =
+    cond (eqb q 3) (1 ∷ 2 ∷ 4 ∷ [])
     (cond (eqb q 4) (1 ∷ 2 ∷ 4 ∷ 8 ∷ [])
-    (cond (eqb q 8) (198 ∷ 93 ∷ 186 ∷ 165 ∷ 199 ∷ 242 ∷ 225 ∷ 95 ∷ [])
-    (693 ∷ 93 ∷ 186 ∷ 372 ∷ 278 ∷ 242 ∷ 835 ∷ 556 ∷ 930 ∷ 627 ∷ [])))
+    (cond (eqb q 6) HEADS_3_6 (cond (eqb q 8) HEADS_4_8 HEADS_4_10)))
 
-unfoldable pub rows : (m q : ℕ) → List ℕ
-rows m q =
-    cond (eqb m 3) (cond (eqb q 3) (11 ∷ 22 ∷ 39 ∷ 69 ∷ []) (127 ∷ []))
+unfoldable pub rows : (q : ℕ) → List ℕ
+rows q =
+    cond (eqb q 3) (11 ∷ 22 ∷ 39 ∷ 69 ∷ [])
     (cond (eqb q 4) (19 ∷ 38 ∷ 76 ∷ 139 ∷ 261 ∷ 522 ∷ 1031 ∷ 2062 ∷ 4111 ∷ 8205 ∷ 16393 ∷ [])
-    (cond (eqb q 8) (465 ∷ 627 ∷ 1254 ∷ 2077 ∷ 4154 ∷ 8308 ∷ 16616 ∷ [])
-    (1335 ∷ 2670 ∷ 4587 ∷ 9174 ∷ 17051 ∷ [])))
+    (cond (eqb q 6) ROWS_3_6 (cond (eqb q 8) ROWS_4_8 ROWS_4_10)))
 
 -- THE TESTS: a head is 0 from position q on and has the syndrome of a single bit; a row has syndrome 0 and ends in a single bit
 pub syndrome_at : (m r x : ℕ) → ℕ
 syndrome_at m r x = syndrome m r (bits_of (long m) x)
 
 abbrev good_heads : (m r q : ℕ) → Bool
-good_heads m r q = all_below (2 ^ q) (heads m q) && same (map (syndrome_at m r) (heads m q)) (powers q 0)
+good_heads m r q = all_below (2 ^ q) (heads q) && same (map (syndrome_at m r) (heads q)) (powers q 0)
 
 abbrev good_rows : (m r q : ℕ) → Bool
 good_rows m r q =
-    (all_below (2 ^ long m) (rows m q) && same (map (syndrome_at m r) (rows m q)) (replicate (long m - q) 0))
-    && same (map (λ x. x / 2 ^ q) (rows m q)) (powers (long m - q) 0)
+    (all_below (2 ^ long m) (rows q) && same (map (syndrome_at m r) (rows q)) (replicate (long m - q) 0))
+    && same (map (λ x. x / 2 ^ q) (rows q)) (powers (long m - q) 0)
 
 abbrev good_tables : (m r : ℕ) → Bool
 good_tables m r = good_heads m r (syndrome_long m r) && good_rows m r (syndrome_long m r)
@@ -84,9 +83,7 @@ tables_good = at_each good_tables tt tt
 
 -- where a syndrome has m bits: a leader for each coset, of weight 1 or 0, and each such word leads its own
 unfoldable pub singles : (m : ℕ) → List ℕ
-singles m =
-    cond (eqb m 3) (0 ∷ 1 ∷ 2 ∷ 8 ∷ 4 ∷ 64 ∷ 16 ∷ 32 ∷ [])
-    (0 ∷ 1 ∷ 2 ∷ 16 ∷ 4 ∷ 256 ∷ 32 ∷ 1024 ∷ 8 ∷ 16384 ∷ 512 ∷ 128 ∷ 64 ∷ 8192 ∷ 2048 ∷ 4096 ∷ [])
+singles m = cond (eqb m 3) SINGLES_3 SINGLES_4
 
 abbrev leads_one : (m r x : ℕ) → Bool
 leads_one m r x = eqb (get_or (singles m) (syndrome_at m r x) 0) x
@@ -102,30 +99,18 @@ singles_good : (m r : ℕ) → accepted m r ≡ true → T (cond (eqb (syndrome_
 unfolding singles syndrome_at accepted roots_good configuration_long bch_dimension message_long long width_good number syndrome value_from value_at xor times times_from doubled alpha bits_of ones ones_in
 singles_good = at_each (λ m r. cond (eqb (syndrome_long m r) m) (good_singles m r) true) tt tt
 
+-- so many bits are those of one symbol
+one_symbol : (m r : ℕ) → accepted m r ≡ true → T (cond (eqb (syndrome_long m r) 3) (eqb m 3) (cond (eqb (syndrome_long m r) 4) (eqb m 4) true))
+unfolding accepted roots_good configuration_long bch_dimension message_long long width_good
+one_symbol = at_each (λ m r. cond (eqb (syndrome_long m r) 3) (eqb m 3) (cond (eqb (syndrome_long m r) 4) (eqb m 4) true)) tt tt
+
 -- THE LEAST RANK is that of one of the words, and no more than any of theirs
-lower_l : (a b : ℕ) → lower a b ≤ a
-unfolding lower
-lower_l a b = go (ltb b a) refl
+min_one : (P : ℕ → Type 0) (a b : ℕ) → P a → P b → P (min a b)
+min_one P a b p q = go (cases_lt b a)
   where
-    go : (x : Bool) → ltb b a ≡ x → cond x b a ≤ a
-    go true e = omega (arith, ltb-true b a e)
-    go false e = le_refl a
-
-lower_r : (a b : ℕ) → lower a b ≤ b
-unfolding lower
-lower_r a b = go (ltb b a) refl
-  where
-    go : (x : Bool) → ltb b a ≡ x → cond x b a ≤ b
-    go true e = le_refl b
-    go false e = ltb-false b a e
-
-lower_one : (P : ℕ → Type 0) (a b : ℕ) → P a → P b → P (lower a b)
-unfolding lower
-lower_one P a b p q = go (ltb b a)
-  where
-    go : (x : Bool) → P (cond x b a)
-    go true = q
-    go false = p
+    go : (b < a) ⊎ (a ≤ b) → P (min a b)
+    go (inl h) = let l : b ≤ a = omega arith in rw (min-eq_right l) q
+    go (inr h) = rw (min-eq_left h) p
 
 module _ (rs : List ℕ) (x : ℕ) where
   least_le : (n k : ℕ) → k < n → least_rank rs x n ≤ rank (xor x (picked rs k))
@@ -133,24 +118,24 @@ module _ (rs : List ℕ) (x : ℕ) where
   least_le zero k h = absurd (not-suc-le-zero h)
   least_le (suc n) k h = go (least_le n k) (eq-or-lt_of_le (le_of_suc-le-suc h))
     where
-      go : (k < n → least_rank rs x n ≤ rank (xor x (picked rs k))) → (k ≡ n) ⊎ (k < n) → lower (least_rank rs x n) (rank (xor x (picked rs n))) ≤ rank (xor x (picked rs k))
-      go rest (inl e) = rw e (lower_r (least_rank rs x n) (rank (xor x (picked rs n))))
-      go rest (inr l) = le_trans (lower_l (least_rank rs x n) (rank (xor x (picked rs n)))) (rest l)
+      go : (k < n → least_rank rs x n ≤ rank (xor x (picked rs k))) → (k ≡ n) ⊎ (k < n) → min (least_rank rs x n) (rank (xor x (picked rs n))) ≤ rank (xor x (picked rs k))
+      go rest (inl e) = rw e (min-le_right (least_rank rs x n) (rank (xor x (picked rs n))))
+      go rest (inr l) = le_trans (min-le_left (least_rank rs x n) (rank (xor x (picked rs n)))) (rest l)
 
   least_one : (P : ℕ → Type 0) → P (rank x) → ((k : ℕ) → P (rank (xor x (picked rs k)))) → (n : ℕ) → P (least_rank rs x n)
   unfolding least_rank
   least_one P p q zero = p
-  least_one P p q (suc n) = lower_one P (least_rank rs x n) (rank (xor x (picked rs n))) (least_one P p q n) (q n)
+  least_one P p q (suc n) = min_one P (least_rank rs x n) (rank (xor x (picked rs n))) (least_one P p q n) (q n)
 
 module _ (m r : ℕ) (a : accepted m r ≡ true) where
   abbrev q : ℕ
   q = syndrome_long m r
 
   abbrev hs : List ℕ
-  hs = heads m q
+  hs = heads q
 
   abbrev rs : List ℕ
-  rs = rows m q
+  rs = rows q
 
   w : width_good m ≡ true
   w = (accepted_parts m r a).wide
@@ -348,7 +333,7 @@ module _ (m r : ℕ) (a : accepted m r ≡ true) where
 
 -- THE leader of a coset
 unfoldable pub the_leader : (m r s : ℕ) → List ℕ
-the_leader m r s = bits_of (long m) (foremost (heads m (syndrome_long m r)) (rows m (syndrome_long m r)) s)
+the_leader m r s = bits_of (long m) (foremost (heads (syndrome_long m r)) (rows (syndrome_long m r)) s)
 
 pub the_leader_leads : (m r s : ℕ) → accepted m r ≡ true → s < cosets m r → Leader m r s (the_leader m r s)
 unfolding the_leader cosets
@@ -359,17 +344,25 @@ unfolding LeaderThere
 leader_there m r s a h = (the_leader m r s, the_leader_leads m r s a h)
 
 -- for the function that finds it
-pub found : {h : Shape} {s : ℕ} → Coset h s → (x : ℕ) → x ≡ foremost (heads h.m h.q) (rows h.m h.q) s → Leader h.m h.r s (bits_of (long h.m) x)
-found {h} {s} z x e =
-    let c = z.coded in
-    let i : s < 2 ^ syndrome_long h.m h.r = rw (← c.q_is, ← c.size_is) z.inside in
-    leads h.m h.r c.accepted_is s i x (rw (← c.q_is) e)
+module _ (h : Shape) (s : ℕ) (inside : s < h.size) where
+  its_bits : s < 2 ^ syndrome_long h.m h.r
+  its_bits = let c = h.numbers in rw (← c.q_is, ← c.size_is) inside
 
-pub found_single : {h : Shape} {s : ℕ} → Coset h s → h.q ≡ h.m → (x : ℕ) → x ≡ get_or (singles h.m) s 0 → Leader h.m h.r s (bits_of (long h.m) x)
-found_single {h} {s} z e x f =
-    let c = z.coded in
-    let i : s < 2 ^ syndrome_long h.m h.r = rw (← c.q_is, ← c.size_is) z.inside in
-    rw f (single_leads h.m h.r c.accepted_is s i (sym c.q_is ∙ e))
+  pub found : (x : ℕ) → x ≡ foremost (heads h.q) (rows h.q) s → Leader h.m h.r s (bits_of (long h.m) x)
+  found x e = let c = h.numbers in leads h.m h.r c.accepted_is s its_bits x (rw (← c.q_is) e)
+
+  found_single : h.q ≡ h.m → (x : ℕ) → x ≡ get_or (singles h.m) s 0 → Leader h.m h.r s (bits_of (long h.m) x)
+  found_single e x f = let c = h.numbers in rw f (single_leads h.m h.r c.accepted_is s its_bits (sym c.q_is ∙ e))
+
+  pub found_3 : h.q ≡ 3 → (x : ℕ) → x ≡ get_or (singles 3) s 0 → Leader h.m h.r s (bits_of (long h.m) x)
+  found_3 e x f =
+      let w : h.m ≡ 3 = eqb→eq h.m 3 (rw (sym h.numbers.q_is ∙ e) at (one_symbol h.m h.r h.numbers.accepted_is)) in
+      found_single (e ∙ sym w) x (rw w f)
+
+  pub found_4 : h.q ≡ 4 → (x : ℕ) → x ≡ get_or (singles 4) s 0 → Leader h.m h.r s (bits_of (long h.m) x)
+  found_4 e x f =
+      let w : h.m ≡ 4 = eqb→eq h.m 4 (rw (sym h.numbers.q_is ∙ e) at (one_symbol h.m h.r h.numbers.accepted_is)) in
+      found_single (e ∙ sym w) x (rw w f)
 
 -- AND NO OTHER: of two leaders each has the least weight, and then the smallest number
 pub one_leader : OneLeader

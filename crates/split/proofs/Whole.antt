@@ -1,6 +1,6 @@
 -- The output of a split, piece by piece: the layers with THE leaders of their cosets, end to end.
 -- Assumes nothing.
-use Rattle.basics.proofs.Kit.{◌≡◌, sym, ap, ◌∙◌, true, List, ◌++◌, ℕ, zero, suc, ◌+◌, ◌-◌, ◌*◌, ◌≤◌, ◌<◌, arith, length, get_or, take, drop}
+use Rattle.basics.proofs.Kit.{◌≡◌, refl, sym, ap, ◌∙◌, true, List, ◌++◌, ℕ, zero, suc, ◌+◌, ◌-◌, ◌*◌, ◌≤◌, ◌<◌, arith, length, get_or, take, drop}
 use mathlib.Core.List.{append_assoc}
 use native.Mathlib.Nat.{not-suc-le-zero, le_of_suc-le-suc, zero-mul, suc-mul, add-zero, zero-add, add-suc, suc-add, mul_comm, mul-le-mul_right}
 use lib.ListN.{replicate, length-append, length-take, length-drop, get_or-append}
@@ -9,14 +9,9 @@ use borrow.Rule.Slice.PartMut.{put_mid}
 use Rattle.code.specs.Code.{long, accepted}
 use Rattle.code.specs.Bits.{bits_of, row_long}
 use Rattle.split.specs.Split.{layer, syndrome, syndromes, cosets, padded, Binary, Leader, sum}
-use Rattle.split.specs.Calls.{remainders, SplitRight, SplitSays}
+use Rattle.split.specs.Calls.{remainders, SplitRight}
 use Rattle.split.specs.Promise.{SyndromeInside, OneLeader, SumIsBch, PartsAreBch}
 use Rattle.code.proofs.Accepted.{accepted_parts}
-use Rattle.code.proofs.Promise.{as_chosen}
-use Rattle.code.specs.declared.Chosen.{Chosen}
-use Rattle.code.specs.Within.{ChosenSays}
-use Rattle.refusal.specs.Refusal.{first, Outcome}
-use Rattle.split.specs.declared.Splitting.{Splitting}
 use Rattle.split.proofs.Layers as L
 use Rattle.split.proofs.Cosets.{syndrome_inside, sum_is_bch}
 use Rattle.split.proofs.Leaders.{the_leader, the_leader_leads, one_leader}
@@ -116,6 +111,10 @@ module _ (m r : ℕ) (ws tuple : List ℕ) (g : accepted m r ≡ true) (n : leng
 pub fits : (j m n at room : ℕ) → j < m → at ≡ j * n → m * n ≡ room → at + n ≤ room
 fits j m n at room h e r = omega (arith, mul-le-mul_right n h, suc-mul j n)
 
+pub piece_room : (m j : ℕ) (ws o : List ℕ) → length ws ≡ long m → length o ≡ row_long m → j < m → j * length ws + length ws ≤ length o
+unfolding row_long
+piece_room m j ws o n e h = fits j m (length ws) (j * length ws) (length o) h refl (mul_comm m (length ws) ∙ ap (λ (x : ℕ). x * m) n ∙ sym e)
+
 pub whole_room : (m k n o : ℕ) → k ≡ m * n → o ≡ row_long m → n ≡ long m → k ≡ o
 unfolding row_long
 whole_room m k n o e r l = e ∙ mul_comm m n ∙ ap (λ (x : ℕ). x * m) l ∙ sym r
@@ -145,9 +144,3 @@ parts_are_bch m r ws tuple out w n p = (
     rw (part m r ws tuple out n p j h) (sum_is_bch m r (layer j ws) (p.leaders j) w (L.layer_binary m j ws n) (p.lead j h).binary (p.lead j h).of_coset),
   )),
 )
-
--- what a split says of the chosen m and r it says of those that were asked for
-pub split_as : {z m r : ℕ} {a : Chosen} → ChosenSays z m r a → (ws : List ℕ) (x : Splitting) (o p : List ℕ) →
-    SplitSays a.number a.shape.m a.shape.r ws x o p → SplitSays z m r ws x o p
-unfolding SplitSays first Outcome
-split_as s ws x o p = as_chosen (λ z m r. SplitSays z m r ws x o p) (λ n m r k l e. e) s

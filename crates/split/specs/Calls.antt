@@ -4,7 +4,6 @@ use Rattle.std.specs.Prelude.{◌≡◌, List, [], ◌∷◌, ◌++◌, ℕ, zer
 use Rattle.refusal.specs.Refusal.{first, Outcome}
 use Rattle.code.specs.Bits.{row_long}
 use Rattle.code.specs.Calls.{member_refusal}
-use Rattle.split.specs.declared.Splitting.{Splitting}
 use Rattle.split.specs.Split.{layer, syndrome, syndromes, padded, Leader, sum}
 
 -- each layer with a leader added, layer 1 first
@@ -19,8 +18,11 @@ pub record SplitRight (m r : ℕ) (word configuration output : List ℕ) : Type 
   pub lead : (j : ℕ) → j < m → Leader m r (syndrome m r (layer j word)) (leaders j)
   pub left : output ≡ remainders m 0 leaders word
 
+-- four places that are 0
+abbrev pub zeros : List ℕ
+zeros = 0 ∷ 0 ∷ 0 ∷ 0 ∷ []
+
 -- where the call is refused the configuration is all 0
-unfoldable pub SplitSays : (z m r : ℕ) → (word : List ℕ) → (answer : Splitting) → (output output_now : List ℕ) → Type 0
-SplitSays z m r ws a o p =
-    Outcome (first z (member_refusal m r ws (length o) (row_long m))) a.number (SplitRight m r ws a.configuration p)
-    ((a.configuration ≡ 0 ∷ 0 ∷ 0 ∷ 0 ∷ []) × (p ≡ o))
+unfoldable pub SplitSays : (z m r : ℕ) → (word : List ℕ) → (answer : ℕ) → (configuration output output_now : List ℕ) → Type 0
+SplitSays z m r ws a ss o p =
+    Outcome (first z (member_refusal m r ws (length o) (row_long m))) a (SplitRight m r ws ss p) ((ss ≡ zeros) × (p ≡ o))

@@ -1,6 +1,6 @@
 -- Sums of a table's numbers, which tails and spots name too. Then the members of a coset as numbers and the least of them, for the promises of the
 -- leader's parts: no promise of a call cites these, and proofs/Leaders.antt shows that they give the leader. Assumes nothing: these are definitions.
-use Rattle.std.specs.Prelude.{cond, List, [], ◌∷◌, ℕ, zero, suc, ◌+◌, ◌*◌, ◌/◌, ◌%◌, ◌^◌, ltb, eqb, length}
+use Rattle.std.specs.Prelude.{cond, List, [], ◌∷◌, ℕ, zero, suc, ◌+◌, ◌*◌, ◌/◌, ◌%◌, ◌^◌, min, eqb, length}
 use Rattle.std.specs.Int.Count.{ones}
 use Rattle.field.specs.Field.{xor}
 
@@ -17,13 +17,10 @@ picked (h ∷ hs) k = xor (where_odd k h) (picked hs (k / 2))
 unfoldable pub rank : (number : ℕ) → ℕ
 rank x = 32768 * ones x + x
 
-unfoldable pub lower : (a b : ℕ) → ℕ
-lower a b = cond (ltb b a) b a
-
 -- the least rank of a word and of its sums with so many BCH words
 unfoldable pub least_rank : (rows : List ℕ) → (word : ℕ) → (many : ℕ) → ℕ
 least_rank rs x zero = rank x
-least_rank rs x (suc k) = lower (least_rank rs x k) (rank (xor x (picked rs k)))
+least_rank rs x (suc k) = min (least_rank rs x k) (rank (xor x (picked rs k)))
 
 -- the first member of coset s
 unfoldable pub foremost : (heads rows : List ℕ) → (s : ℕ) → ℕ

@@ -73,13 +73,6 @@ begun_more {es} {j} {b} {s} {l₀} {l} {l'} g lj d = record {
         ap (λ (x : ℕ). get_or l' x 0) q ∙ d.again (p - s) lq ∙ ap (λ (x : ℕ). bit_xor x (get_or es b 0 * 4)) (g.entries (p - s) lq)
         ∙ entry_more es j b (p - s) lj lw ∙ ap (entry es j) (ap (λ (x : ℕ). x + (p - s)) (sym g.power) ∙ sym q)
 
--- from a later list on, and from an earlier one
-pub begun_here : {es l₀ l : List ℕ} {j b s : ℕ} → Begun es j b s l₀ l → Begun es j b s l l
-begun_here g = record { power = g.power; long = refl; entries = g.entries }
-
-pub begun_since : {es l₀ l₁ l : List ℕ} {j b s a n : ℕ} → Begun es j a n l₀ l₁ → Begun es j b s l₁ l → Begun es j b s l₀ l
-begun_since f g = record { power = g.power; long = g.long ∙ f.long; entries = g.entries }
-
 -- the next doubling stays in the slot
 pub sixteen : {es l : List ℕ} {j : ℕ} → Slot es j l → 16 ≤ length l
 sixteen w = omega (arith, w.long, pow_mono w.some)

@@ -1,4 +1,5 @@
 pub mod Cases
+pub mod Choices
 pub mod Filled
 pub mod Data
 pub mod Entries

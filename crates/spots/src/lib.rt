@@ -34,6 +34,7 @@ pub fn columns(m: u32, r: u32) -> [u16; 15]
 }
 
 // Where each slot begins, and where the last one ends.
+#[tactic(auto, using(crate::proofs::Choices::slots_are))]
 pub fn slots(m: u32, r: u32) -> [u16; 5]
     requires { accepted m r ≡ true }
     ensures { result ≡ slots m r }
@@ -60,6 +61,7 @@ pub fn slots(m: u32, r: u32) -> [u16; 5]
 }
 
 // What the places of the four slots are xored with, four numbers to a step.
+#[tactic(auto, using(crate::proofs::Choices::steps_are), unfolding(crate::specs::Spots::all_steps, tails::specs::Tails::steps))]
 pub fn steps(m: u32, r: u32) -> [u16; 48]
     requires { accepted m r ≡ true }
     ensures { result ≡ all_steps m r }
@@ -86,6 +88,7 @@ pub fn steps(m: u32, r: u32) -> [u16; 48]
 }
 
 // How many turns the walk has.
+#[tactic(auto, using(crate::proofs::Choices::turns_are))]
 pub fn turns(m: u32, r: u32) -> usize
     requires { accepted m r ≡ true }
     ensures { result ≡ turns m r }
@@ -109,6 +112,7 @@ pub fn turns(m: u32, r: u32) -> usize
 }
 
 // How many turns a round of it has.
+#[tactic(auto, using(crate::proofs::Choices::round_is))]
 pub fn round(m: u32, r: u32) -> usize
     requires { accepted m r ≡ true }
     ensures { result ≡ round m r }
@@ -164,10 +168,8 @@ fn double(columns: &[u16], b: usize, s: usize, part: &mut [u16])
     ensures { Doubled s s (get_or columns.now b 0 * 4) part.old part.new }
 {
     let h = columns[b] * 4;
-    let mut p: usize = 0;
-    while p < s {
+    for p in 0..s {
         part[s + p] = part[p] ^ h;
-        p += 1;
     }
 }
 
@@ -191,6 +193,7 @@ fn fill_slot(columns: &[u16], j: u16, part: &mut [u16])
     first_sixteen(columns, j, part);
     let mut b: usize = 4;
     let mut s: usize = 16;
+    // s doubles, and a `for` over b would have to say s and the last b by powers and logarithms: no plainer
     while s < part.len() {
         double(columns, b, s, part);
         b += 1;
@@ -203,18 +206,17 @@ fn fill_slots(columns: &[u16], slots: &[u16], places: &mut [u16])
     requires { Slots columns.now slots.now places.old }
     ensures { SlotsFilled 4 columns.now slots.now places.old places.new }
 {
-    let mut j: usize = 0;
-    while j < 4 {
+    for j in 0..4 {
         let from = slots[j] as usize;
         let to = slots[j + 1] as usize;
         let c = j * 10;
         let e = c + 10;
         fill_slot(&columns[c..e], j as u16, &mut places[from..to]);
-        j += 1;
     }
 }
 
 // Where the walk has one turn: the columns as one number, six bits to each, three for slots 0, 1 and 2 in turn. All other columns are 0.
+#[tactic(auto, using(crate::proofs::Choices::packed_is))]
 fn short_columns(r: u32) -> u64
     requires { (accepted 3 r ≡ true) × (turns 3 r ≡ 1) }
     ensures { result ≡ packed (nine_columns r) }
@@ -297,8 +299,8 @@ fn fill_short(w: u64, places: &mut [u16])
 
 // The entry that each place stands for.
 pub fn fill(m: u32, r: u32, size: usize, places: &mut [u16])
-    requires r_value { accepted m r ≡ true }
-    requires size_value { (size ≡ 2 ^ syndrome_long m r) × (length places.old ≡ start (slots m r) 4) }
+    requires code_accepted { accepted m r ≡ true }
+    requires room_of_code { (size ≡ 2 ^ syndrome_long m r) × (length places.old ≡ start (slots m r) 4) }
     ensures { Placed m r size places.new }
 {
     if turns(m, r) == 1 {

@@ -6,6 +6,7 @@ use std::rt::Files;
 use std::{fs, io};
 
 fn main(rt: HostRuntime) -> io::Result<()> {
+    // Names by their index, since `env::args` ends at one that is not UTF-8, and each is to be printed as it stands.
     for i in 1..usize::MAX {
         let mut name = [0u8; 4096];
         match rt.arg(i, &mut name) {

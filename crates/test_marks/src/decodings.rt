@@ -1,106 +1,119 @@
 // The decoder: metrics, first best words and soft outputs on record, and the refusals in their order with the outputs kept.
+use code::Choice;
+use metric::Verdict;
+use refusal::Refusal;
 use test_tally::tally::Tally;
+use test_tally::words::Word;
 use test_tally::{parts, words};
 
-pub fn agree() -> Tally {
-    // All 10, the row of the sheet's questions; all -10; all 127; and all zero, where every codeword is best and the zero word is the first.
-    let mut t = gives(Tally::none(), 10, 10, 210, 0, 60, false);
-    t = gives(t, -10, -10, 210, 7, -60, false);
-    t = gives(t, 127, 127, 2667, 0, 762, false);
-    t = gives(t, 0, 0, 0, 0, 0, false);
-    t = decodes(t, 2, 7, &[b'0'; 21], 0, 0);
-    t = decodes(t, 3, 15, &[b'0'; 60], 0, 0);
-    t = decodes(t, 4, 15, &[b'0'; 60], 0, 0);
-    t = decodes(t, 5, 15, &[b'0'; 60], 0, 0);
-    // All 10 but bit 0 at -10: the zero word, and of the soft outputs those of layer 1, bits 0, 3, 6 and so on.
-    t = gives(t, 10, -10, 190, 0, 20, true);
-    // Two best words. The other one would be the first if layers, low bits or last positions were compared first. Its configuration comes
-    // before that of the first word, and in a code's second row behind it.
-    t = ties(t, 1, 7, b"1a4594di1h18372683ff4", 90, 0x1031043, 0x2131003);
-    t = ties(t, 1, 7, b"22173977c7cc4ec4b1d65", 78, 0x1046641, 0x2042621);
-    t = ties(t, 2, 7, b"5a7b5di4bhddcg17d067h", 60, 0x1457306, 0x2114724);
-    t = ties(t, 2, 7, b"8ffee86572a7i1b2h4f4e", 61, 0x5702725, 0x6001761);
-    t = ties(
-        t,
+// Rows with two best words, written as letters: the code, the row, its metric, the first best word and the other one. The other one would be the
+// first if layers, low bits or last positions were compared first. Its configuration comes before that of the first word, and in a code's second row
+// behind it.
+const TIES: [(u32, &[u8], i32, &[u8], &[u8]); 10] = [
+    (1, b"1a4594di1h18372683ff4", 90, b"1031043", b"2131003"),
+    (1, b"22173977c7cc4ec4b1d65", 78, b"1046641", b"2042621"),
+    (2, b"5a7b5di4bhddcg17d067h", 60, b"1457306", b"2114724"),
+    (2, b"8ffee86572a7i1b2h4f4e", 61, b"5702725", b"6001761"),
+    (
         3,
-        15,
         b"ab8b7cb424b0i8363b9g8851ge1gb8f694bga4c74c9g932cef27hci6ag3h",
         284,
-        0x96c1a0f5c5a837b,
-        0xa6c180b5c5a837b,
-    );
-    t = ties(
-        t,
+        b"96c1a0f5c5a837b",
+        b"a6c180b5c5a837b",
+    ),
+    (
         3,
-        15,
         b"2ai3797h46681hi354g07bb7cf3d766c883g03fg67hig66g42ea22178c68",
         302,
-        0x580646b88cc9402,
-        0x680742b88cc9402,
-    );
-    t = ties(
-        t,
+        b"580646b88cc9402",
+        b"680742b88cc9402",
+    ),
+    (
         4,
-        15,
         b"a6cdg981f939451e0if1a365b6i7fg7e58c59hhf8fcah2f7c164cgg8170f",
         291,
-        0xd118615b46e5379,
-        0xd11cf15b0e67178,
-    );
-    t = ties(
-        t,
+        b"d118615b46e5379",
+        b"d11cf15b0e67178",
+    ),
+    (
         4,
-        15,
         b"1b8cgc88ba5a6i4id48546c9750fi488d8cc4153169bh3ca0hf5b29e97cd",
         271,
-        0x03ba1483d08569c,
-        0xa33a1489d28d69c,
-    );
-    t = ties(
-        t,
+        b"03ba1483d08569c",
+        b"a33a1489d28d69c",
+    ),
+    (
         5,
-        15,
         b"b547f4d3ci5b6efg18d3e4051499ia8chi44c8853b2cdh60bb36050gi16i",
         241,
-        0x05bc450b71e7399,
-        0x152c570931ab7c9,
-    );
-    t = ties(
-        t,
+        b"05bc450b71e7399",
+        b"152c570931ab7c9",
+    ),
+    (
         5,
-        15,
         b"94ba65f5855663d5ab4f51c6291d3ff44dge26502h6ddbfe8d7gd1acdh32",
         225,
-        0x460084c6e1afac3,
-        0xc404b7c7e9a7a9b,
-    );
-    // -128 at the last bit, and 128 at the first.
-    t = refuses(t, 1, 0, 0, -128, 21, 7, 21, 16384, 5);
-    t = refuses(t, 1, 0, 128, 0, 21, 7, 21, 16384, 5);
-    // Codes, rows, outputs and the scratch.
-    t = refuses(t, 6, 128, 128, 128, 20, 6, 20, 16383, 1);
-    t = refuses(t, 0, 128, 128, 128, 20, 6, 20, 16383, 1);
-    t = refuses(t, 1, 128, 128, 128, 20, 6, 20, 16383, 2);
-    t = refuses(t, 3, 128, 128, 128, 21, 6, 20, 16383, 2);
-    t = refuses(t, 5, 128, 128, 128, 21, 6, 20, 16383, 2);
-    t = refuses(t, 1, 128, 128, 128, 21, 6, 21, 16383, 4);
-    t = refuses(t, 1, 128, 128, 128, 21, 7, 20, 16383, 4);
-    t = refuses(t, 1, 128, 128, 128, 21, 7, 21, 16383, 17);
-    refuses(t, 1, 128, 128, 128, 21, 7, 21, 0, 17)
-}
+        b"460084c6e1afac3",
+        b"c404b7c7e9a7a9b",
+    ),
+];
 
 // What the scratch holds before a call.
 const RUBBISH: i32 = -123456789;
 
-// Whether every number of the scratch is x.
-fn holds(scratch: &[i32; 16384], x: i32) -> bool {
-    let mut all = true;
-    for i in 0..16384 {
-        if scratch[i] != x {
-            all = false;
-        }
+pub fn agree() -> Tally {
+    // All 10, the row of the sheet's questions; all -10; all 127; and all zero, where every codeword is best and the zero word is the first.
+    let mut t = gives(Tally::default(), 10, 10, 210, 0, 60, false);
+    t = gives(t, -10, -10, 210, 7, -60, false);
+    t = gives(t, 127, 127, 2667, 0, 762, false);
+    t = gives(t, 0, 0, 0, 0, 0, false);
+    t = decodes(t, 2, &[b'0'; 21], 0, b"0000000");
+    for code in 3..=5 {
+        t = decodes(t, code, &[b'0'; 60], 0, b"000000000000000");
     }
-    all
+    // All 10 but bit 0 at -10: the zero word, and of the soft outputs those of layer 1, bits 0, 3, 6 and so on.
+    t = gives(t, 10, -10, 190, 0, 20, true);
+    for (code, letters, metric, first, other) in TIES {
+        t = decodes(t, code, letters, metric, first).with(is_best(code, letters, other));
+    }
+    refusals(t)
+}
+
+// Codes, rows, outputs, the scratch, and reliabilities: -128 at the last bit, and 128 at the first.
+fn refusals(tally: Tally) -> Tally {
+    let high = [128i16; 21];
+    let mut t = refuses(
+        tally,
+        1,
+        &words::row(0, 0, -128),
+        7,
+        21,
+        16384,
+        Refusal::Reliability,
+    );
+    t = refuses(
+        t,
+        1,
+        &words::row(0, 128, 0),
+        7,
+        21,
+        16384,
+        Refusal::Reliability,
+    );
+    t = refuses(t, 6, &high[..20], 6, 20, 16383, Refusal::Code);
+    t = refuses(t, 0, &high[..20], 6, 20, 16383, Refusal::Code);
+    t = refuses(t, 1, &high[..20], 6, 20, 16383, Refusal::RowLength);
+    t = refuses(t, 3, &high, 6, 20, 16383, Refusal::RowLength);
+    t = refuses(t, 5, &high, 6, 20, 16383, Refusal::RowLength);
+    t = refuses(t, 1, &high, 6, 21, 16383, Refusal::Output);
+    t = refuses(t, 1, &high, 7, 20, 16383, Refusal::Output);
+    t = refuses(t, 1, &high, 7, 21, 16383, Refusal::Scratch);
+    refuses(t, 1, &high, 7, 21, 0, Refusal::Scratch)
+}
+
+// Whether every number of the scratch is x.
+fn holds(scratch: &[i32], x: i32) -> bool {
+    scratch.iter().all(|number| *number == x)
 }
 
 // In code 1, decoding a row of equal reliabilities but for the first answers a metric and leaves a word of equal symbols and equal soft
@@ -118,82 +131,68 @@ fn gives(
     let mut word = [9u8; 7];
     let mut softs = [9i16; 21];
     let mut scratch = [RUBBISH; 16384];
-    let d = decoder::decode(1, &row, &mut word, &mut softs, &mut scratch);
-    t.with(d.number == 0 && d.metric == metric)
+    let found = decoder::decode(Choice::Number(1), &row, &mut word, &mut softs, &mut scratch);
+    t.with(found == Ok(metric))
         .with(holds(&scratch, 0))
-        .with(check::same(&word, &[symbol; 7]))
+        .with(word == [symbol; 7])
         .places(&softs, &[soft; 21], layered)
 }
 
-// Decoding a row, written as letters, answers a metric and leaves a word of n symbols.
-fn decodes(t: Tally, code: u32, n: usize, letters: &[u8], metric: i32, word: u64) -> Tally {
+// Decoding a row, written as letters, answers a metric and leaves a word.
+fn decodes(t: Tally, code: u32, letters: &[u8], metric: i32, word: &[u8]) -> Tally {
     let row = words::reliabilities(letters);
-    let long = letters.len();
-    let mut left = [9u8; 16];
-    let mut soft = [9i16; 60];
+    let expected = Word::new(word);
+    let mut left = expected.with_nines();
+    let mut softs = [9i16; 60];
     let mut scratch = [RUBBISH; 16384];
-    let d = decoder::decode(
-        code,
-        parts::of_row(&row, long),
-        parts::of_mut(&mut left, n),
-        parts::of_row_mut(&mut soft, long),
+    let found = decoder::decode(
+        Choice::Number(code),
+        parts::of(&row, letters.len()),
+        left.symbols_mut(),
+        parts::of_mut(&mut softs, letters.len()),
         &mut scratch,
     );
-    t.with(d.number == 0 && d.metric == metric)
+    t.with(found == Ok(metric))
         .with(holds(&scratch, 0))
-        .with(check::same(&left, &words::symbols(n, word)))
+        .with(left == expected)
 }
 
-// It leaves the first of two words, and the marker calls the other one best too.
-fn ties(
-    t: Tally,
-    code: u32,
-    n: usize,
-    letters: &[u8],
-    metric: i32,
-    first: u64,
-    other: u64,
-) -> Tally {
+// Whether the marker calls a word best.
+fn is_best(code: u32, letters: &[u8], word: &[u8]) -> bool {
     let row = words::reliabilities(letters);
-    let symbols = words::symbols(n, other);
     let mut scratch = [RUBBISH; 16384];
-    let m = marker::judge_word(
-        code,
-        parts::of_row(&row, letters.len()),
-        parts::of(&symbols, n),
+    marker::judge_word(
+        Choice::Number(code),
+        parts::of(&row, letters.len()),
+        Word::new(word).symbols(),
         &mut scratch,
-    );
-    decodes(t, code, n, letters, metric, first).with(m.number == 0 && m.verdict == 2)
+    ) == Ok(Verdict::Best)
 }
 
-// Decoding the start of a row into so many nines and soft nines, with so much scratch, is refused by a number, with the metric 0; both outputs keep their
-// nines, and the scratch what it held.
+// Decoding a row into so many nines and soft nines, with so much scratch, is refused, and answers no metric; both outputs keep their nines, and the
+// scratch what it held.
 fn refuses(
     t: Tally,
     code: u32,
-    all: i16,
-    first: i16,
-    last: i16,
-    long: usize,
-    n: usize,
+    row: &[i16],
+    word: usize,
     softs: usize,
-    lent: usize,
-    number: u32,
+    scratch: usize,
+    refusal: Refusal,
 ) -> Tally {
-    let row = words::row(all, first, last);
-    let mut word = [9u8; 7];
-    let mut soft = [9i16; 21];
-    let mut scratch = [RUBBISH; 16384];
-    let d = decoder::decode(
-        code,
-        parts::of_row(&row, long),
-        parts::of_mut(&mut word, n),
-        parts::of_row_mut(&mut soft, softs),
-        parts::of_scratch(&mut scratch, lent),
+    let mut symbols = [9u8; 7];
+    let mut space = [9i16; 21];
+    let mut lent = [RUBBISH; 16384];
+    let found = decoder::decode(
+        Choice::Number(code),
+        row,
+        parts::of_mut(&mut symbols, word),
+        parts::of_mut(&mut space, softs),
+        parts::of_mut(&mut lent, scratch),
     );
-    t.with(d.number == number)
-        .with(holds(&scratch, RUBBISH))
-        .with(d.metric == 0)
-        .with(check::same(&word, &[9; 7]))
-        .with(Tally::none().row(soft, 9).is_whole())
+    t.with(found.err() == Some(refusal))
+        .with(holds(&lent, RUBBISH))
+        .with(found.ok() == None)
+        .with(symbols == [9; 7])
+        .with(space == [9; 21])
 }

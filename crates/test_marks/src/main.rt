@@ -10,8 +10,8 @@ mod sheets;
 use std::io;
 
 fn main(rt: HostRuntime) -> io::Result<()> {
-    test_tally::report(&rt, "decoder: ", decodings::agree())?;
-    test_tally::report(&rt, "marker: ", marks::agree())?;
-    test_tally::report(&rt, "sheets: ", sheets::agree())?;
-    test_tally::report(&rt, "practice sheets: ", drills::agree())
+    println!(rt; "decoder: {}", decodings::agree())?;
+    println!(rt; "marker: {}", marks::agree())?;
+    println!(rt; "sheets: {}", sheets::agree())?;
+    println!(rt; "practice sheets: {}", drills::agree())
 }

@@ -11,10 +11,10 @@ mod splits;
 use std::io;
 
 fn main(rt: HostRuntime) -> io::Result<()> {
-    test_tally::report(&rt, "fields: ", fields::agree())?;
-    test_tally::report(&rt, "codes: ", codes::agree())?;
-    test_tally::report(&rt, "split: ", splits::agree())?;
-    test_tally::report(&rt, "join: ", joins::agree())?;
-    test_tally::report(&rt, "quantiser: ", samples::agree())?;
-    test_tally::report(&rt, "receiver: ", received::agree())
+    println!(rt; "fields: {}", fields::agree())?;
+    println!(rt; "codes: {}", codes::agree())?;
+    println!(rt; "split: {}", splits::agree())?;
+    println!(rt; "join: {}", joins::agree())?;
+    println!(rt; "quantiser: {}", samples::agree())?;
+    println!(rt; "receiver: {}", received::agree())
 }

@@ -1,4 +1,6 @@
 // The quantiser: the samples on record, the edges beside them, and the refusals in their order with the row kept.
+use code::Choice;
+use refusal::Refusal;
 use test_tally::parts;
 use test_tally::tally::Tally;
 
@@ -14,58 +16,35 @@ const QUANTISED: [i16; 21] = [
     32, 1, -1, 127, 0, 0, 127, -127, 0, 0, 1, 0, -1, 3, 126, 127, 127, -126, -127, 127, -127,
 ];
 
-pub fn agree() -> Tally {
-    let samples = on_record();
-    let mut t = gives(Tally::none(), 1, samples, 0, QUANTISED, 21);
-    t = gives(t, 2, samples, 0, QUANTISED, 21);
-    let kept = [9i16; 21];
-    t = gives(t, 6, samples, 1, kept, 21);
-    t = gives(t, 3, samples, 2, kept, 21);
-    let wrong = with_nan(samples);
-    t = gives(t, 1, wrong, 7, kept, 21);
-    t = gives(t, 0, wrong, 1, kept, 21);
-    t = gives(t, 3, wrong, 2, kept, 21);
-    gives(t, 1, wrong, 4, kept, 20)
-}
+const KEPT: [i16; 21] = [9; 21];
 
-// The last of the samples is not a number.
-fn with_nan(on_record: [f32; 21]) -> [f32; 21] {
-    let mut samples = on_record;
-    samples[20] = float_of(0x7fc00000);
-    samples
+pub fn agree() -> Tally {
+    let samples = SAMPLES.map(float_of);
+    let mut wrong = samples;
+    wrong[20] = f32::NAN;
+    let mut t = gives(Tally::default(), 1, &samples, Ok(()), &QUANTISED);
+    t = gives(t, 2, &samples, Ok(()), &QUANTISED);
+    t = gives(t, 6, &samples, Err(Refusal::Code), &KEPT);
+    t = gives(t, 3, &samples, Err(Refusal::RowLength), &KEPT);
+    t = gives(t, 1, &wrong, Err(Refusal::Sample), &KEPT);
+    t = gives(t, 0, &wrong, Err(Refusal::Code), &KEPT);
+    t = gives(t, 3, &wrong, Err(Refusal::RowLength), &KEPT);
+    gives(t, 1, &wrong, Err(Refusal::Output), &KEPT[..20])
 }
 
 // The float with these bits; every NaN's bits give the one NaN.
+#[tactic(auto, using(std::proofs::lemmas::Float::not_nan_f32_bits))]
 fn float_of(bits: u32) -> f32 {
-    if bits % 2147483648 > 2139095040 {
-        return 0.0 / 0.0;
+    if bits % 0x80000000 > 0x7f800000 {
+        return f32::NAN;
     }
     f32::from_bits(bits)
 }
 
-// The samples, from their bits.
-fn on_record() -> [f32; 21] {
-    let mut samples = [0.0f32; 21];
-    for i in 0..21 {
-        samples[i] = float_of(SAMPLES[i]);
-    }
-    samples
-}
-
-// Quantising into so many nines answers a number and leaves the start of a row: a comparison a place.
-fn gives(
-    t: Tally,
-    code: u32,
-    samples: [f32; 21],
-    number: u32,
-    row: [i16; 21],
-    long: usize,
-) -> Tally {
+// Quantising into a row of nines answers, and leaves a row: a comparison a place.
+fn gives(t: Tally, code: u32, samples: &[f32], answer: Result<(), Refusal>, row: &[i16]) -> Tally {
     let mut space = [9i16; 21];
-    let answer = quantiser::quantise(code, &samples, parts::of_row_mut(&mut space, long));
-    t.with(answer == number).places(
-        parts::of_row(&space, long),
-        parts::of_row(&row, long),
-        false,
-    )
+    let left = parts::of_mut(&mut space, row.len());
+    let found = quantiser::quantise(Choice::Number(code), samples, left);
+    t.with(found == answer).places(left, row, false)
 }

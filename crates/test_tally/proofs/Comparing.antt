@@ -1,43 +1,21 @@
--- Numbers that are the same, and the turns of a comparison of two rows.
+-- What a comparison at a place says, and the turns of a comparison of two rows.
 -- Assumes nothing.
-use Rattle.basics.proofs.Kit.{◌≡◌, refl, ap, Bool, true, false, ◌&&◌, not, cond, List, ℕ, ◌+◌, ◌%◌, ◌≤◌, ◌<◌, length, get_or, drop, eqb, ℤ, pos, negsuc}
-use Rattle.std.proofs.Common.{add-one, drop_of_length-le, drop-cons, le-ltb, lt-ltb, eq-eqb, eqb-true}
-use mathlib.Core.Bool.{false≢true}
+use Rattle.basics.proofs.Kit.{◌≡◌, refl, Bool, ◌&&◌, not, cond, List, ℕ, ◌+◌, ◌%◌, ◌≤◌, ◌<◌, length, get_or, drop, eqb, ℤ, pos}
+use Rattle.std.proofs.Common.{add-one, drop_of_length-le, drop-cons, ltb, Option, Some, None}
+use Rattle.std.specs.Option.{is_some, unwrap_or, option_map, option_eq}
+use Rattle.std.specs.Ordering.{int_eq}
+use denote.Bor.{Bor}
 use Rattle.test_tally.specs.declared.tally.Tally.{Tally}
-use Rattle.test_tally.specs.Tally.{counted, same, stands_at, compared}
+use Rattle.test_tally.specs.Tally.{counted, stands_at, compared}
 
-same_refl : (z : ℤ) → same z z ≡ true
-unfolding same
-same_refl (pos n) = eq-eqb n n refl
-same_refl (negsuc n) = eq-eqb n n refl
-
-same_true : (x y : ℤ) → same x y ≡ true → x ≡ y
-unfolding same
-same_true (pos a) (pos b) e = ap pos (eqb-true a b e)
-same_true (pos a) (negsuc b) e = absurd (false≢true e)
-same_true (negsuc a) (pos b) e = absurd (false≢true e)
-same_true (negsuc a) (negsuc b) e = ap negsuc (eqb-true a b e)
-
-same_not : (x y : ℤ) → (x ≡ y → ⊥) → same x y ≡ false
-same_not x y n = go (same x y) refl
-  where
-    go : (b : Bool) → same x y ≡ b → b ≡ false
-    go true e = absurd (n (same_true x y e))
-    go false e = refl
-
--- ---- a number at a place
-module _ (rs : List ℤ) (i : ℕ) (r : ℤ) where
-  pub past_end : length rs ≤ i → false ≡ stands_at rs i r
-  unfolding stands_at
-  past_end h = rw (le-ltb i (length rs) h)
-
-  pub stands : i < length rs → get_or rs i (pos 0) ≡ r → true ≡ stands_at rs i r
-  unfolding stands_at
-  stands h e = rw (lt-ltb i (length rs) h, e, same_refl r)
-
-  pub differs : i < length rs → (get_or rs i (pos 0) ≡ r → ⊥) → false ≡ stands_at rs i r
-  unfolding stands_at
-  differs h n = rw (lt-ltb i (length rs) h, same_not (get_or rs i (pos 0)) r n)
+-- what a row has at a place, if any, is a number exactly when that stands there
+pub stands : (es : List ℤ) (i : ℕ) (o : Option (Bor ℤ)) (r : Bor ℤ) →
+    is_some o ≡ ltb i (length es) →
+    ((d : ℤ) → unwrap_or (option_map (λ (x : Bor ℤ). x.now) o) d ≡ get_or es i d) →
+    option_eq (λ (x y : Bor ℤ). int_eq x.now y.now) o (Some r) ≡ stands_at es i r.now
+unfolding stands_at
+stands es i None r s v = rw (← s) refl
+stands es i (Some x) r s v = rw (← s, ← v (pos 0)) refl
 
 -- ---- one place after another
 module _ (l : Bool) (xs es : List ℤ) (i : ℕ) (t : Tally) where

@@ -1,17 +1,53 @@
-// Words written as numbers, a hexadecimal digit for each symbol, the first one leading; and rows, written as letters where they are of small
-// reliabilities.
+// Words and rows on record, written as text: of a word a hexadecimal digit for each symbol, the first one leading, and of a row a letter for each
+// small reliability.
+use crate::parts;
 
-// The n symbols of a word, 16 at most; nines behind them.
-pub fn symbols(n: usize, digits: u64) -> [u8; 16] {
-    let mut word = [9u8; 16];
-    let mut rest = digits;
-    let mut i = n % 17;
-    while 0 < i {
-        i -= 1;
-        word[i] = (rest % 16) as u8;
-        rest = rest / 16;
+// A word of 16 symbols at most, with nines behind them.
+#[derive(Clone, Copy, Debug, PartialEq)]
+pub struct Word {
+    symbols: [u8; 16],
+    long: usize,
+}
+
+impl Word {
+    // The word with these digits.
+    pub fn new(digits: &[u8]) -> Word {
+        let mut word = Word::nines(digits.len());
+        for (symbol, digit) in word.symbols.iter_mut().zip(digits) {
+            *symbol = value(*digit);
+        }
+        word
     }
-    word
+
+    // A word of nines, which an output holds before a call.
+    pub fn nines(long: usize) -> Word {
+        Word {
+            symbols: [9; 16],
+            long,
+        }
+    }
+
+    // Nines in its place.
+    pub fn with_nines(self) -> Word {
+        Word::nines(self.long)
+    }
+
+    pub fn symbols(&self) -> &[u8] {
+        parts::of(&self.symbols, self.long)
+    }
+
+    pub fn symbols_mut(&mut self) -> &mut [u8] {
+        let long = self.long;
+        parts::of_mut(&mut self.symbols, long)
+    }
+}
+
+// The value of a hexadecimal digit.
+fn value(digit: u8) -> u8 {
+    match digit {
+        b'a'..=b'f' => digit - b'a' + 10,
+        _ => digit % 16,
+    }
 }
 
 // A row of equal reliabilities but for the first and the last.
@@ -25,28 +61,16 @@ pub fn row(all: i16, first: i16, last: i16) -> [i16; 21] {
 // What a letter stands for: a to i for -1 to -9, a digit for itself.
 fn reliability(letter: u8) -> i16 {
     match letter {
-        b'a' => -1,
-        b'b' => -2,
-        b'c' => -3,
-        b'd' => -4,
-        b'e' => -5,
-        b'f' => -6,
-        b'g' => -7,
-        b'h' => -8,
-        b'i' => -9,
-        _ => (letter % 16) as i16,
+        b'a'..=b'i' => -i16::from(letter % 32),
+        _ => i16::from(letter % 16),
     }
-}
-
-fn letter_at(letters: &[u8], i: usize) -> u8 {
-    if i < letters.len() { letters[i] } else { b'0' }
 }
 
 // The reliabilities of so many letters, 60 at most; zeros behind them.
 pub fn reliabilities(letters: &[u8]) -> [i16; 60] {
     let mut row = [0i16; 60];
-    for i in 0..60 {
-        row[i] = reliability(letter_at(letters, i));
+    for (place, letter) in row.iter_mut().zip(letters) {
+        *place = reliability(*letter);
     }
     row
 }

@@ -1,20 +1,16 @@
 -- The fields of a line: bits one by one, signs, the least magnitude, and verdicts.
 -- Assumes nothing.
-use Rattle.basics.proofs.Kit.{◌≡◌, refl, sym, ap, ◌∙◌, true, false, cond, List, [], ◌∷◌, ◌++◌, ℕ, zero, suc, ◌+◌, ◌^◌, ◌≤◌, ◌<◌, min, arith, length, get_or, drop, ℤ, pos, negsuc, nat_abs, ◌-ℤ◌}
-use mathlib.Core.Bool.{false≢true}
+use Rattle.basics.proofs.Kit.{◌≡◌, refl, ap, cond, List, [], ◌∷◌, ◌++◌, ℕ, zero, suc, ◌+◌, ◌≤◌, ◌<◌, min, arith, length, get_or, take, drop, set, ℤ, pos, negsuc, nat_abs}
 use mathlib.Core.List.{map, append_assoc}
-use native.Mathlib.Nat.{zero-add}
 use native.Mathlib.Numerals.{add-one}
-use borrow.Author.Tests.{ltb-true, le-ltb}
-use lib.Dec.{T}
+use borrow.Author.Tests.{le-ltb}
 use lib.ListN.{length-map, drop_of_length-le}
 use lib.Seq.{drop-cons}
-use lib.Signed.{lt_z, non_neg}
-use mir.Syntax.{w16, w32, w64}
-use mir.Val.{SFits, Fits, to_z, of_z}
-use mir.Facts.{to_z-of_z}
+use lib.Signed.{lt_z}
 use Rattle.metric.specs.Metric.{is_neg, decided}
-use Rattle.text.specs.Text.{space, dash, decimal, sign, signed, none_word, short_word, best_word, verdict_field, shortfall_field, bit_byte, bits_field, least_from, least_magnitude}
+use Rattle.text.specs.Text.{space, dash, decimal_from, decimal, sign, signed, none_word, short_word, best_word, verdict_field, shortfall_field, bit_byte, bits_field, least_from, least_magnitude}
+use Rattle.metric.specs.declared.Verdict.TheVariants.{NoCodeword, Short, Best}
+use Rattle.metric.specs.Verdict.{verdict_number, shortfall_of}
 use Rattle.text.specs.Within.{ended, mark_part}
 
 -- ---- bits
@@ -31,21 +27,15 @@ pub bits_at : (so : List ℤ) (i : ℕ) → i < length so → get_or (bits_field
 unfolding bits_field
 bits_at so i h = each_at _ so i h
 
--- what is shown of a bit, by the tests of its soft output
-pub bit_one : (z : ℤ) → lt_z z (pos 0) ≡ true → 49 ≡ bit_byte (decided z)
-unfolding bit_byte decided
-bit_one (pos n) e = absurd (omega (arith, ltb-true n 0 e))
-bit_one (negsuc n) e = refl
-
-pub bit_none : (z : ℤ) → z ≡ pos 0 → 63 ≡ bit_byte (decided z)
-unfolding bit_byte decided
-bit_none z e = rw e
-
-pub bit_zero : (z : ℤ) → lt_z z (pos 0) ≡ false → (z ≡ pos 0 → ⊥) → 48 ≡ bit_byte (decided z)
-unfolding bit_byte decided
-bit_zero (pos zero) e f = absurd (f refl)
-bit_zero (pos (suc n)) e f = refl
-bit_zero (negsuc n) e f = absurd (false≢true (sym e))
+-- a part filled from the front
+pub bits_stored :
+    (so : List ℤ) (part : List ℕ) (i : ℕ) → i < length so → length part ≡ length so →
+    set (take i (bits_field so) ++ drop i part) i (bit_byte (decided (get_or so i (pos 0)))) ≡ take (suc i) (bits_field so) ++ drop (suc i) part
+unfolding bits_field
+bits_stored [] part i h e = absurd (omega arith)
+bits_stored (s ∷ so) [] i h e = absurd (omega arith)
+bits_stored (s ∷ so) (x ∷ part) zero h e = refl
+bits_stored (s ∷ so) (x ∷ part) (suc i) h e = ap (◌∷◌ (bit_byte (decided s))) (bits_stored so part i (omega arith) (omega arith))
 
 -- ---- signs
 pub below_zero : (z : ℤ) → lt_z z (pos 0) ≡ is_neg z
@@ -62,56 +52,16 @@ pub signed_parts : {z y : ℤ} {x : ℕ} → y ≡ z → x ≡ nat_abs y → end
 unfolding signed ended
 signed_parts p q = rw (← p, q) (simp append_assoc)
 
--- ---- magnitudes
-pub wider : (r : ℤ) → SFits w16 r → SFits w32 r
-wider r f = record { sfits = omega (arith, f.sfits) }
-
--- the size of a 16-bit number takes 16 bits
-pub size_small : (r : ℤ) → SFits w16 r → nat_abs r < 2 ^ 16
-size_small (pos n) f = omega (arith, f.sfits)
-size_small (negsuc n) f = omega (arith, f.sfits)
-
-pub widest : (r : ℤ) → SFits w32 r → SFits w64 r
-widest r f = record { sfits = omega (arith, f.sfits) }
-
-negated : (r : ℤ) → SFits w32 r → lt_z r (pos 0) ≡ true → pos 0 -ℤ to_z w64 (of_z w64 r) ≡ pos (nat_abs r)
-negated (pos n) f e = absurd (omega (arith, ltb-true n 0 e))
-negated (negsuc n) f e = rw (to_z-of_z (widest (negsuc n) f)) (ap pos (zero-add (suc n)))
-
-size_fits : (r : ℤ) → SFits w32 r → nat_abs r ≤ 2147483648
-size_fits (pos n) f = omega (arith, f.sfits)
-size_fits (negsuc n) f = omega (arith, f.sfits)
-
-pub below_fits : (r : ℤ) → SFits w32 r → lt_z r (pos 0) ≡ true → SFits w64 (pos 0 -ℤ to_z w64 (of_z w64 r))
-below_fits r f e = rw (negated r f e) (record { sfits = omega (arith, size_fits r f) })
-
-again : (r : ℤ) → SFits w32 r → lt_z r (pos 0) ≡ true → to_z w64 (of_z w64 (pos 0 -ℤ to_z w64 (of_z w64 r))) ≡ pos (nat_abs r)
-again r f e = to_z-of_z (below_fits r f e) ∙ negated r f e
-
-pub below_cast : (r : ℤ) → SFits w32 r → lt_z r (pos 0) ≡ true →
-    T (non_neg (to_z w64 (of_z w64 (pos 0 -ℤ to_z w64 (of_z w64 r))))) × Fits w32 (nat_abs (to_z w64 (of_z w64 (pos 0 -ℤ to_z w64 (of_z w64 r)))))
-below_cast r f e = rw (again r f e) (tt, record { fits = omega (arith, size_fits r f) })
-
-pub below_size : (r : ℤ) → SFits w32 r → lt_z r (pos 0) ≡ true → nat_abs (to_z w64 (of_z w64 (pos 0 -ℤ to_z w64 (of_z w64 r)))) ≡ nat_abs r
-below_size r f e = rw (again r f e)
-
-pub above_cast : (r : ℤ) → SFits w32 r → lt_z r (pos 0) ≡ false → T (non_neg r) × Fits w32 (nat_abs r)
-above_cast (pos n) f e = (tt, record { fits = omega (arith, f.sfits) })
-above_cast (negsuc n) f e = absurd (false≢true (sym e))
-
 -- ---- the least magnitude: the least of what was passed, and what follows
-pub least_first :
-    (so : List ℤ) (x : ℕ) → 0 < length so → SFits w16 (get_or so 0 (pos 0)) → x ≡ nat_abs (to_z w16 (of_z w16 (get_or so 0 (pos 0)))) →
-    least_from x (drop 1 so) ≡ least_magnitude so
+pub least_first : (so : List ℤ) (x : ℕ) → 0 < length so → x ≡ nat_abs (get_or so 0 (pos 0)) → least_from x (drop 1 so) ≡ least_magnitude so
 unfolding least_magnitude
-least_first [] x h f e = absurd (omega arith)
-least_first (s ∷ so) x h f e = rw (e, to_z-of_z f)
+least_first [] x h e = absurd (omega arith)
+least_first (s ∷ so) x h e = rw e
 
 pub least_next :
-    (so : List ℤ) (i d x : ℕ) → i < length so → SFits w16 (get_or so i (pos 0)) → x ≡ nat_abs (to_z w16 (of_z w16 (get_or so i (pos 0)))) →
-    least_from (min d x) (drop (i + 1) so) ≡ least_from d (drop i so)
+    (so : List ℤ) (i d x : ℕ) → i < length so → x ≡ nat_abs (get_or so i (pos 0)) → least_from (min d x) (drop (i + 1) so) ≡ least_from d (drop i so)
 unfolding least_from
-least_next so i d x h f e = rw (drop-cons so i (pos 0) h, e, to_z-of_z f, add-one)
+least_next so i d x h e = rw (drop-cons so i (pos 0) h, e, add-one)
 
 pub least_none : (so : List ℤ) → length so ≡ 0 → 0 ≡ least_magnitude so
 unfolding least_magnitude
@@ -123,19 +73,14 @@ unfolding least_from
 least_end so i d h = rw (drop_of_length-le so h)
 
 -- ---- verdict and shortfall, by the bytes that are written
-pub mark_none : {v : ℕ} (d : ℤ) → v ≡ 0 → mark_part v d ≡ 110 ∷ 111 ∷ 110 ∷ 101 ∷ 32 ∷ 45 ∷ 32 ∷ []
+pub mark_none : mark_part (verdict_number NoCodeword) (shortfall_of NoCodeword) ≡ 110 ∷ 111 ∷ 110 ∷ 101 ∷ 32 ∷ 45 ∷ 32 ∷ []
 unfolding mark_part ended verdict_field shortfall_field none_word
-mark_none d e = rw e
+mark_none = refl
 
-pub mark_short :
-    {v : ℕ} {d y : ℤ} → v ≡ 1 → y ≡ d → mark_part v d ≡ (115 ∷ 104 ∷ 111 ∷ 114 ∷ 116 ∷ 32 ∷ []) ++ ended (signed y) space
+pub mark_short : (d : ℤ) → mark_part (verdict_number (Short d)) (shortfall_of (Short d)) ≡ (115 ∷ 104 ∷ 111 ∷ 114 ∷ 116 ∷ 32 ∷ []) ++ ended (signed d) space
 unfolding mark_part ended verdict_field shortfall_field short_word
-mark_short e p = rw (e, p)
+mark_short d = refl
 
-pub mark_best :
-    (v : ℕ) {d y : ℤ} → (v ≡ 0 → ⊥) → (v ≡ 1 → ⊥) → y ≡ d →
-    mark_part v d ≡ (98 ∷ 101 ∷ 115 ∷ 116 ∷ 32 ∷ []) ++ ended (signed y) space
-unfolding mark_part ended verdict_field shortfall_field best_word
-mark_best zero e f p = absurd (e refl)
-mark_best (suc zero) e f p = absurd (f refl)
-mark_best (suc (suc v)) e f p = rw p
+pub mark_best : mark_part (verdict_number Best) (shortfall_of Best) ≡ 98 ∷ 101 ∷ 115 ∷ 116 ∷ 32 ∷ 48 ∷ 32 ∷ []
+unfolding mark_part ended verdict_field shortfall_field best_word signed sign is_neg decimal decimal_from
+mark_best = refl

@@ -10,22 +10,16 @@ use Rattle.text.specs.Text.{feed, space, decimal, sign, signed, line, none_word,
 use Rattle.text.specs.Within.{ended, mark_part}
 use Rattle.text.proofs.Decimal.{digits_at_most}
 
--- a question's line in the parts in which it is written; the machine's numbers are equal to those of the contract, not the same
+-- a question's line in the parts in which it is written
 abbrev pub parts : (number code : ℕ) → (best : ℤ) → (verdict : ℕ) → (shortfall : ℤ) → (bits : List ℕ) → (least : ℕ) → List ℕ
 parts n c g v d bs x =
     ended (decimal n) space ++ (ended (decimal c) space ++ (ended (signed g) space ++ (mark_part v d ++ (bs ++ ((space ∷ []) ++ ended (decimal x) feed)))))
 
-pub question_parts :
-    (n c v : ℕ) (bs : List ℕ) {g g' d d' : ℤ} {x y : ℕ} → g' ≡ g → d' ≡ d → y ≡ x →
-    question_line n c g v d bs x ≡ parts n c g' v d' bs y
+pub question_parts : (n c : ℕ) (g : ℤ) (v : ℕ) (d : ℤ) (bs : List ℕ) (x : ℕ) → question_line n c g v d bs x ≡ parts n c g v d bs x
 unfolding ended mark_part question_line line
-question_parts n c v bs p q r = rw (p, q, r) (simp append_assoc)
+question_parts n c g v d bs x = simp append_assoc
 
 -- ---- lengths
-pub ended_length : (f : List ℕ) (e : ℕ) → length (ended f e) ≡ length f + 1
-unfolding ended
-ended_length f e = length-append f (e ∷ [])
-
 pub question_length :
     (n c : ℕ) (g : ℤ) (v : ℕ) (d : ℤ) (bs : List ℕ) (x : ℕ) →
     length (question_line n c g v d bs x)

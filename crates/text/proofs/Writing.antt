@@ -1,12 +1,15 @@
--- Texts written one behind the other are one text, and a stored byte is a text of one.
+-- Texts written one behind the other are one text, a stored byte is a text of one, and a part written anew is a text.
 -- Assumes nothing.
-use Rattle.basics.proofs.Kit.{◌≡◌, ap, ap₂, ◌∙◌, List, [], ◌∷◌, ◌++◌, ℕ, ◌+◌, ◌≤◌, ◌<◌, arith, length, get_or, take, drop, set}
+use Rattle.basics.proofs.Kit.{◌≡◌, refl, ◌-◌, ap, ap₂, ◌∙◌, List, [], ◌∷◌, ◌++◌, ℕ, ◌+◌, ◌≤◌, ◌<◌, arith, length, take, drop, set}
 use mathlib.Core.List.{append_assoc}
-use native.Mathlib.Nat.{add-zero, add-suc, add_assoc}
+use native.Mathlib.Nat.{add-zero, add_assoc}
 use native.Mathlib.Numerals.{add-one}
 use lib.ListN.{length-append, length-drop, take-append-drop}
-use lib.Seq.{length-take-le, take_at, drop-append-add, drop-drop, set_split, take-suc, take_all}
+use lib.Seq.{length-take-le, take_at, drop-append-add, drop-drop, set_split}
+use borrow.Rule.Slice.Mut.{set_vals}
+use Rattle.text.specs.declared.Writer.{Writer}
 use Rattle.text.specs.Within.{put, Written}
+use Rattle.text.specs.Writer.{Room, Puts}
 
 pub put_length : (at : ℕ) (t o : List ℕ) → at + length t ≤ length o → length (put at t o) ≡ length o
 unfolding put
@@ -52,16 +55,26 @@ then {at} {i} {j} {s} {t} {o} {p} {q} v w =
       next_is = omega (arith, w.next_is);
     }
 
--- ---- a text that is written byte by byte
-pub start : {at : ℕ} {o : List ℕ} → at ≤ length o → Written at [] o o (at + 0)
-start h = rw add-zero (nothing _ _ h)
+-- a part of the buffer was written anew
+pub stored : (at : ℕ) (t p o : List ℕ) → at + length t ≤ length o → p ≡ t →
+    Written at t o (take at o ++ (p ++ drop (at + length t - at) (drop at o))) (at + length t)
+unfolding put
+stored at t p o h e =
+    let k : at + length t - at ≡ length t = omega arith in
+    record { room = h; now_is = rw (e, k, drop-drop (length t) at o) refl; next_is = refl }
 
-pub more :
-    (i : ℕ) (s : List ℕ) {at x : ℕ} {o p : List ℕ} → at + length s ≤ length o → i < length s → x ≡ get_or s i 0 →
-    Written at (take i s) o p (at + i) → Written at (take (i + 1) s) o (set p (at + i) x) (at + (i + 1))
-more i s {at} {x} {o} {p} h l e w =
-    let v : Written at (take i s ++ (x ∷ [])) o (set p (at + i) x) (at + i + 1) = then w (one (at + i) x p (omega (arith, written_length w))) in
-    rw (add-one, take-suc s i 0, ← e, add-suc, ← add-one) v
+-- ---- the same of a writer
+pub puts_one : (b : ℕ) (w : Writer) → Room (b ∷ []) w → Puts (b ∷ []) w (record { out = set_vals (set w.out.now w.at b) w.out; at = w.at + 1 })
+puts_one b w h = record { same_reference = refl; written = one w.at b w.out.now (omega (arith, h.room)) }
 
-pub whole : (i : ℕ) (s : List ℕ) {at n : ℕ} {o p : List ℕ} → length s ≤ i → Written at (take i s) o p n → Written at s o p n
-whole i s h w = rw (take_all i s h) at w
+pub puts_nothing : (w : Writer) → Room [] w → Puts [] w w
+puts_nothing w h = record { same_reference = refl; written = nothing w.at w.out.now (omega (arith, h.room)) }
+
+pub puts_then : {s t : List ℕ} {w v u : Writer} → Puts s w v → Puts t v u → Puts (s ++ t) w u
+puts_then p q = record { same_reference = q.same_reference ∙ p.same_reference; written = then p.written q.written }
+
+pub room_first : (s t : List ℕ) (w : Writer) → Room (s ++ t) w → Room s w
+room_first s t w h = record { room = omega (arith, h.room, length-append s t) }
+
+pub room_after : (s t : List ℕ) (w v : Writer) → Puts s w v → Room (s ++ t) w → Room t v
+room_after s t w v p h = record { room = omega (arith, h.room, p.written.next_is, written_length p.written, length-append s t) }

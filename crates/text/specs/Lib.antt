@@ -1,3 +1,4 @@
 pub mod Text
 pub mod Within
+pub mod Writer
 pub mod Promise

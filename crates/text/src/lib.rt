@@ -1,119 +1,173 @@
 // The lines of a listing, written into a lent buffer from a place on. The functions are for the crates above: each asks that
-// its text has room, and promises by `Written` of specs/Within.antt that the text of specs/Text.antt stands there, that the
-// rest of the buffer is kept, and which place follows the text.
+// its text has room, and promises by `Puts` of specs/Writer.antt that the text of specs/Text.antt stands there, that the
+// rest of the buffer is kept, and that the writer stands behind the text.
 #![tactic(auto)]
 
-ghost use Rattle.std.specs.Prelude.{◌≡◌, ◌∷◌, [], ◌++◌, ◌+◌, ◌<◌, ◌≤◌, length, nat_abs};
+ghost use Rattle.std.specs.Prelude.{◌≡◌, ◌∷◌, [], length};
 ghost use Rattle.metric.specs.Metric.{decided};
-ghost use Rattle.text.specs.Text.{space, digit, decimal, sign, signed, bit_byte, bits_field, least_magnitude, header, question_line, count_line, refused_line};
-ghost use Rattle.text.specs.Within.{Written, ended, mark_part};
+ghost use Rattle.metric.specs.Verdict.{verdict_number, shortfall_of};
+ghost use Rattle.text.specs.Text.{space, decimal, sign, signed, bit_byte, bits_field, least_magnitude, header, question_line, count_line, refused_line};
+ghost use Rattle.text.specs.Within.{ended, mark_part};
+ghost use Rattle.text.specs.Writer.{Puts, Room};
 
-const FEED: u8 = 10;
+use metric::Verdict;
 
-const SPACE: u8 = 32;
+const FEED: u8 = b'\n';
 
-const DASH: u8 = 45;
+const SPACE: u8 = b' ';
 
-const ZERO: u8 = 48;
+const DASH: u8 = b'-';
 
-const QUESTION_MARK: u8 = 63;
+const ZERO: u8 = b'0';
 
-pub fn put_byte(b: u8, out: &mut [u8], at: usize) -> usize
-    requires { at + 1 ≤ length out.old }
-    ensures { Written at (b ∷ []) out.old out.new result }
-{
-    out[at] = b;
-    at + 1
+const QUESTION_MARK: u8 = b'?';
+
+/// A lent buffer, and the place from which on the next text is written.
+#[derive(Drop)]
+pub struct Writer<'a> {
+    pub out: &'a mut [u8],
+    pub at: usize,
 }
 
-pub fn put_bytes(text: &[u8], out: &mut [u8], at: usize) -> usize
-    requires { at + length text.now ≤ length out.old }
-    ensures { Written at text.now out.old out.new result }
-{
-    let mut i = 0;
-    while i < text.len() {
-        out[at + i] = text[i];
-        i += 1;
+impl<'a> Writer<'a> {
+    /// One that writes from the start on.
+    pub fn new(out: &'a mut [u8]) -> Writer<'a>
+        ensures same_reference { result.out.ghost_name ≡ out.entry.ghost_name }
+        ensures same_buffer { result.out.now ≡ out.old }
+        ensures start { result.at ≡ 0 }
+    {
+        Writer { out, at: 0 }
     }
-    at + i
-}
 
-fn put_digit(d: u32, out: &mut [u8], at: usize) -> usize
-    requires d_bound { d < 10 }
-    requires at_in_bounds { at < length out.old }
-    ensures { Written at (digit d ∷ []) out.old out.new result }
-{
-    put_byte(ZERO + d as u8, out, at)
-}
-
-// A number in decimal digits, the last one behind those of its tenth part.
-pub fn put_decimal(n: u32, out: &mut [u8], at: usize) -> usize
-    requires { at + length (decimal n) ≤ length out.old }
-    ensures { Written at (decimal n) out.old out.new result }
-{
-    if n < 10 {
-        return put_digit(n, out, at);
+    pub fn put_byte(&mut self, byte: u8)
+        requires { Room (byte ∷ []) self.old }
+        ensures { Puts (byte ∷ []) self.old self.new }
+    {
+        self.out[self.at] = byte;
+        self.at += 1;
     }
-    let next = put_decimal(n / 10, out, at);
-    put_digit(n % 10, out, next)
-}
 
-// A number, and the byte that ends its field.
-fn put_number(n: u32, end: u8, out: &mut [u8], at: usize) -> usize
-    requires { at + length (ended (decimal n) end) ≤ length out.old }
-    ensures { Written at (ended (decimal n) end) out.old out.new result }
-{
-    let next = put_decimal(n, out, at);
-    put_byte(end, out, next)
-}
-
-// The size of a number.
-fn magnitude(z: i32) -> u32
-    ensures { result ≡ nat_abs z }
-{
-    if z < 0 {
-        return (0 - (z as i64)) as u32;
+    pub fn put_bytes(&mut self, text: &[u8])
+        requires { Room text.now self.old }
+        ensures { Puts text.now self.old self.new }
+    {
+        let end = self.at + text.len();
+        self.out[self.at..end].copy_from_slice(text);
+        self.at = end;
     }
-    z as u32
-}
 
-// A dash where a number is negative.
-fn put_sign(z: i32, out: &mut [u8], at: usize) -> usize
-    requires { at + length (sign z) ≤ length out.old }
-    ensures { Written at (sign z) out.old out.new result }
-{
-    if z < 0 {
-        return put_byte(DASH, out, at);
+    // A number in decimal digits, the last one behind those of its tenth part.
+    pub fn put_decimal(&mut self, n: u32)
+        requires { Room (decimal n) self.old }
+        ensures { Puts (decimal n) self.old self.new }
+    {
+        if n < 10 {
+            self.put_byte(ZERO + n as u8);
+        } else {
+            self.put_decimal(n / 10);
+            self.put_byte(ZERO + (n % 10) as u8);
+        }
     }
-    at
-}
 
-// A signed number as a field that others follow.
-fn put_signed(z: i32, out: &mut [u8], at: usize) -> usize
-    requires { at + length (ended (signed z) space) ≤ length out.old }
-    ensures { Written at (ended (signed z) space) out.old out.new result }
-{
-    let next = put_sign(z, out, at);
-    put_number(magnitude(z), SPACE, out, next)
-}
+    // A number, and the byte that ends its field.
+    fn put_number(&mut self, n: u32, end: u8)
+        requires { Room (ended (decimal n) end) self.old }
+        ensures { Puts (ended (decimal n) end) self.old self.new }
+    {
+        self.put_decimal(n);
+        self.put_byte(end);
+    }
 
-// Verdict and shortfall.
-fn put_mark(verdict: u32, shortfall: i32, out: &mut [u8], at: usize) -> usize
-    requires { at + length (mark_part verdict shortfall) ≤ length out.old }
-    ensures { Written at (mark_part verdict shortfall) out.old out.new result }
-{
-    if verdict == 0 {
-        return put_bytes(b"none - ", out, at);
+    // A dash where a number is negative.
+    fn put_sign(&mut self, z: i32)
+        requires { Room (sign z) self.old }
+        ensures { Puts (sign z) self.old self.new }
+    {
+        if z < 0 {
+            self.put_byte(DASH);
+        }
     }
-    if verdict == 1 {
-        let next = put_bytes(b"short ", out, at);
-        return put_signed(shortfall, out, next);
+
+    // A signed number as a field that others follow.
+    fn put_signed(&mut self, z: i32)
+        requires { Room (ended (signed z) space) self.old }
+        ensures { Puts (ended (signed z) space) self.old self.new }
+    {
+        self.put_sign(z);
+        self.put_number(z.unsigned_abs(), SPACE);
     }
-    let next = put_bytes(b"best ", out, at);
-    put_signed(shortfall, out, next)
+
+    // Verdict and shortfall.
+    fn put_mark(&mut self, verdict: Verdict)
+        requires { Room (mark_part (verdict_number verdict) (shortfall_of verdict)) self.old }
+        ensures { Puts (mark_part (verdict_number verdict) (shortfall_of verdict)) self.old self.new }
+    {
+        match verdict {
+            Verdict::NoCodeword => self.put_bytes(b"none - "),
+            Verdict::Short(shortfall) => {
+                self.put_bytes(b"short ");
+                self.put_signed(shortfall);
+            }
+            Verdict::Best => self.put_bytes(b"best 0 "),
+        }
+    }
+
+    fn put_bits(&mut self, soft: &[i16])
+        requires { Room (bits_field soft.now) self.old }
+        ensures { Puts (bits_field soft.now) self.old self.new }
+    {
+        let end = self.at + soft.len();
+        fill_bits(soft, &mut self.out[self.at..end]);
+        self.at = end;
+    }
+
+    pub fn put_question(
+        &mut self,
+        number: u32,
+        code: u32,
+        best: i32,
+        verdict: Verdict,
+        soft: &[i16],
+    )
+        requires { Room (question_line number code best (verdict_number verdict) (shortfall_of verdict) (bits_field soft.now) (least_magnitude soft.now)) self.old }
+        ensures { Puts (question_line number code best (verdict_number verdict) (shortfall_of verdict) (bits_field soft.now) (least_magnitude soft.now)) self.old self.new }
+    {
+        let least = least_of(soft);
+        self.put_number(number, SPACE);
+        self.put_number(code, SPACE);
+        self.put_signed(best);
+        self.put_mark(verdict);
+        self.put_bits(soft);
+        self.put_byte(SPACE);
+        self.put_number(u32::from(least), FEED);
+    }
+
+    pub fn put_header(&mut self)
+        requires { Room header self.old }
+        ensures { Puts header self.old self.new }
+    {
+        self.put_bytes(b"question code best verdict short bits least\n");
+    }
+
+    pub fn put_count(&mut self, count: u32)
+        requires { Room (count_line count) self.old }
+        ensures { Puts (count_line count) self.old self.new }
+    {
+        self.put_decimal(count);
+        self.put_bytes(b" questions\n");
+    }
+
+    pub fn put_refused(&mut self, refusal: u32)
+        requires { Room (refused_line refusal) self.old }
+        ensures { Puts (refused_line refusal) self.old self.new }
+    {
+        self.put_bytes(b"refused ");
+        self.put_number(refusal, FEED);
+    }
 }
 
 // A bit by its soft output: the digit that is decided, or a question mark.
+#[tactic(auto, unfolding(crate::specs::Text::bit_byte, metric::specs::Metric::decided))]
 fn bit_of(s: i16) -> u8
     ensures { result ≡ bit_byte (decided s) }
 {
@@ -126,81 +180,26 @@ fn bit_of(s: i16) -> u8
     ZERO
 }
 
-fn put_bits(soft: &[i16], out: &mut [u8], at: usize) -> usize
-    requires { at + length (bits_field soft.now) ≤ length out.old }
-    ensures { Written at (bits_field soft.now) out.old out.new result }
+// The bits, each in its place, by its index: of a part that `iter_mut().zip(..)` wrote, a proof knows the length alone.
+fn fill_bits(soft: &[i16], part: &mut [u8])
+    requires { length part.old ≡ length soft.now }
+    ensures { part.new ≡ bits_field soft.now }
 {
-    let mut i = 0;
-    while i < soft.len() {
-        out[at + i] = bit_of(soft[i]);
-        i += 1;
+    for (i, s) in soft.iter().enumerate() {
+        part[i] = bit_of(*s);
     }
-    at + i
 }
 
-// In 16 bits, so that several are compared at a time.
-fn size_of(s: i16) -> u16
-    ensures { result ≡ nat_abs s }
-{
-    magnitude(s as i32) as u16
-}
-
+// The least size of a soft output; in 16 bits, so that several are compared at a time.
 fn least_of(soft: &[i16]) -> u16
     ensures { result ≡ least_magnitude soft.now }
 {
-    if soft.len() == 0 {
+    let Some(first) = soft.first() else {
         return 0;
-    }
-    let mut least = size_of(soft[0]);
-    let mut i = 1;
-    while i < soft.len() {
-        least = lanes::less_of(least, size_of(soft[i]));
-        i += 1;
+    };
+    let mut least = first.unsigned_abs();
+    for s in &soft[1..] {
+        least = least.min(s.unsigned_abs());
     }
     least
-}
-
-pub fn put_question(
-    number: u32,
-    code: u32,
-    best: i32,
-    verdict: u32,
-    shortfall: i32,
-    soft: &[i16],
-    out: &mut [u8],
-    at: usize,
-) -> usize
-    requires { at + length (question_line number code best verdict shortfall (bits_field soft.now) (least_magnitude soft.now)) ≤ length out.old }
-    ensures { Written at (question_line number code best verdict shortfall (bits_field soft.now) (least_magnitude soft.now)) out.old out.new result }
-{
-    let a = put_number(number, SPACE, out, at);
-    let b = put_number(code, SPACE, out, a);
-    let c = put_signed(best, out, b);
-    let d = put_mark(verdict, shortfall, out, c);
-    let e = put_bits(soft, out, d);
-    let f = put_byte(SPACE, out, e);
-    put_number(least_of(soft) as u32, FEED, out, f)
-}
-
-pub fn put_header(out: &mut [u8], at: usize) -> usize
-    requires { at + length header ≤ length out.old }
-    ensures { Written at header out.old out.new result }
-{
-    put_bytes(b"question code best verdict short bits least\n", out, at)
-}
-
-pub fn put_count(count: u32, out: &mut [u8], at: usize) -> usize
-    requires { at + length (count_line count) ≤ length out.old }
-    ensures { Written at (count_line count) out.old out.new result }
-{
-    let next = put_decimal(count, out, at);
-    put_bytes(b" questions\n", out, next)
-}
-
-pub fn put_refused(refusal: u32, out: &mut [u8], at: usize) -> usize
-    requires { at + length (refused_line refusal) ≤ length out.old }
-    ensures { Written at (refused_line refusal) out.old out.new result }
-{
-    let next = put_bytes(b"refused ", out, at);
-    put_number(refusal, FEED, out, next)
 }

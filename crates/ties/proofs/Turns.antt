@@ -1,11 +1,10 @@
 -- A turn of the second walk, lane by lane, and what the turns so far leave.
 -- Assumes nothing.
-use Rattle.basics.proofs.Kit.{◌≡◌, refl, sym, Bool, true, false, ◌&&◌, not, cond, List, ℕ, zero, suc, ◌+◌, ◌*◌, ◌/◌, ◌%◌, ◌≤◌, ◌<◌, arith, eqb, ltb, length}
+use Rattle.basics.proofs.Kit.{◌≡◌, refl, sym, Bool, true, false, ◌&&◌, ◌||◌, not, cond, List, ℕ, zero, suc, ◌+◌, ◌*◌, ◌/◌, ◌%◌, ◌≤◌, ◌<◌, arith, eqb, ltb, length}
 use mathlib.Core.Bool.{false≢true}
 use native.Mathlib.Numerals.{add-one}
-use native.Mathlib.Decide.{dec_le}
 use borrow.Author.Tests.{eqb-true, eq-eqb, lt-ltb, le-ltb}
-use lib.Bits.{bit_or, or_add_and, and_le_l, and_le_r}
+use borrow.Author.Count.{below_more}
 use Rattle.lanes.specs.Lanes.{lane}
 use Rattle.walk.specs.Walk.{Slots}
 use Rattle.walk.specs.declared.At.{At}
@@ -14,29 +13,22 @@ use Rattle.walk.proofs.Turns.{row_in}
 use Rattle.ties.specs.Ties.{number_of, words}
 use Rattle.ties.specs.Turn.{four, words_at, Inside, earlier, meet, NoneCosts, BeforeAll}
 
--- what is chosen where two numbers are the same
-pub value_same : (o : ℕ) {a b v r : ℕ} → r ≡ cond (eqb a b) v o → a ≡ b → r ≡ v
-value_same o {a} {b} e h = rw (eq-eqb a b h) at e
-
-pub both_true : (a b : Bool) → a && b ≡ true → (a ≡ true) × (b ≡ true)
-both_true true b e = (refl, e)
-both_true false b e = absurd (false≢true e)
-
 -- a test of the lanes below x, and of one more
-pub none_more : {P : ℕ → Type 0} {any one x : ℕ} → (any ≡ 0 → Each x P) → (one ≡ 0 → P x) → bit_or any one ≡ 0 → Each (x + 1) P
-none_more {P} {any} {one} {x} h p e y l = go (dec_le x y)
+pub none_more : {P : ℕ → Type 0} {any one : Bool} {x : ℕ} → (any ≡ false → Each x P) → (one ≡ false → P x) → any || one ≡ false → Each (x + 1) P
+none_more {P} {any} {one} {x} = go any one
   where
-    a0 : any ≡ 0
-    a0 = omega (arith, or_add_and any one, and_le_l any one, and_le_r any one)
+    go : (any one : Bool) → (any ≡ false → Each x P) → (one ≡ false → P x) → any || one ≡ false → Each (x + 1) P
+    go false false h p e = below_more _ _ (h refl) (p refl)
+    go false true h p e = absurd (false≢true (sym e))
+    go true one h p e = absurd (false≢true (sym e))
 
-    o0 : one ≡ 0
-    o0 = omega (arith, or_add_and any one, and_le_l any one, and_le_r any one)
-
-    go : Dec (x ≤ y) → P y
-    go (yes a) =
-        let q : y ≡ x = omega arith in
-        rw q (p o0)
-    go (no a) = h a0 y (omega arith)
+-- a lane that does not count
+pub not_counted : {t r : ℕ} {before : Bool} {P : Type 0} → (before ≡ true → P) → eqb t r && not before ≡ false → t ≡ r → P
+not_counted {t} {r} {before} {P} h e q = go before h (rw (eq-eqb t r q) at e)
+  where
+    go : (before : Bool) → (before ≡ true → P) → not before ≡ false → P
+    go true h e = h refl
+    go false h e = absurd (false≢true (sym e))
 
 -- the words of a list one by one
 pub one_by_one : (b : List ℕ) → number_of (four (lane b 0) (lane b 1) (lane b 2) (lane b 3)) ≡ number_of b

@@ -1,2 +1,3 @@
 pub mod Judging
+pub mod Testing
 pub mod Promise

@@ -10,7 +10,7 @@ use Rattle.code.specs.Code.{long}
 use Rattle.code.specs.Bits.{row_long}
 use Rattle.code.proofs.Accepted.{number_free}
 use Rattle.metric.specs.Row.{row_bound, row_good}
-use Rattle.sheet.specs.declared.Form.{Form}
+use Rattle.sheet.specs.declared.form.Form.{Form}
 use Rattle.sheet.specs.Sheet.{Question, reliabilities, question_good, all_good}
 use Rattle.sheet.proofs.Items.{both}
 use Rattle.sheet.proofs.Trips.{good_parts}

@@ -7,7 +7,7 @@
 
 ghost use Rattle.std.specs.Prelude.{◌≡◌};
 ghost use Rattle.code.specs.Code.{number_refusal, width, roots, parameter_refusal};
-ghost use Rattle.code.specs.Calls.{EncodeSays, ReadSays, checked, number_of};
+ghost use Rattle.code.specs.Calls.{EncodeSays, ReadSays, checked};
 ghost use Rattle.split.specs.Calls.{SplitSays};
 ghost use Rattle.join.specs.Calls.{JoinSays};
 ghost use Rattle.decoder.specs.Calls.{DecodeSays};
@@ -17,40 +17,22 @@ ghost use Rattle.receiver.specs.Calls.{ReceiveSays};
 ghost use Rattle.sheet_writer.specs.Calls.{WriteSays};
 ghost use Rattle.practice.specs.Calls.{PracticeSays};
 ghost use Rattle.report.specs.Calls.{ListSays};
-ghost use Rattle.tugzeck.specs.Calls.{JudgeSays, none_found, asked, QuestionSays};
+ghost use Rattle.tugzeck.specs.Answers.{test_number};
+ghost use Rattle.tugzeck.specs.Calls.{JudgeSays, QuestionSays};
 
-use code::Membership;
-use decoder::Decoding;
-use marker::Mark;
-use practice::Drawn;
-use report::Listed;
-use sheet_reader::Yield;
-use split::Splitting;
+mod answers;
 
-// 0 with the count of questions, or the number of a refusal and 0.
-#[repr(C)]
-#[derive(Clone, Copy)]
-pub struct Judgement {
-    pub number: u32,
-    pub questions: u32,
-}
-
-// 0 and found 1 with a question's code and its number; found 0 where none is left. Or the number of a refusal. What is not said is 0.
-#[repr(C)]
-#[derive(Clone, Copy)]
-pub struct Asked {
-    pub number: u32,
-    pub found: u32,
-    pub code: u32,
-    pub question: u32,
-}
+use answers::{Asked, Decoding, Drawn, Judgement, Listed, Mark, Splitting};
+use code::Choice;
+use refusal::{Refusal, number_of};
+use sheet_writer::Questions;
 
 // Writes the codeword of a message of k symbols into n places. Answers 0, or refuses by 1, 3, 4 or 6 and writes nothing.
 #[unsafe(no_mangle)]
 pub extern "C" fn tugzeck_encode(code: u32, message: &[u8], output: &mut [u8]) -> u32
     ensures { EncodeSays (number_refusal code) (width code) (roots code) message.now result output.old output.new }
 {
-    code::encode(code, message, output)
+    number_of(&code::encode(Choice::Number(code), message, output))
 }
 
 // The same, by m and r: refuses by 16 too, after 1.
@@ -58,7 +40,7 @@ pub extern "C" fn tugzeck_encode(code: u32, message: &[u8], output: &mut [u8]) -
 pub extern "C" fn tugzeck_encode_by(m: u32, r: u32, message: &[u8], output: &mut [u8]) -> u32
     ensures { EncodeSays (parameter_refusal m r) m r message.now result output.old output.new }
 {
-    code::encode_by(m, r, message, output)
+    number_of(&code::encode(Choice::Parameters { m, r }, message, output))
 }
 
 // Writes the message of a codeword into k places. Answers 0, or refuses by 1, 3, 4, 6 or 8 and writes nothing.
@@ -66,7 +48,7 @@ pub extern "C" fn tugzeck_encode_by(m: u32, r: u32, message: &[u8], output: &mut
 pub extern "C" fn tugzeck_read_word(code: u32, word: &[u8], output: &mut [u8]) -> u32
     ensures { ReadSays (number_refusal code) (width code) (roots code) word.now result output.old output.new }
 {
-    code::read_word(code, word, output)
+    number_of(&code::read_word(Choice::Number(code), word, output))
 }
 
 // The same, by m and r: refuses by 16 too, after 1.
@@ -74,33 +56,33 @@ pub extern "C" fn tugzeck_read_word(code: u32, word: &[u8], output: &mut [u8]) -
 pub extern "C" fn tugzeck_read_word_by(m: u32, r: u32, word: &[u8], output: &mut [u8]) -> u32
     ensures { ReadSays (parameter_refusal m r) m r word.now result output.old output.new }
 {
-    code::read_word_by(m, r, word, output)
+    number_of(&code::read_word(Choice::Parameters { m, r }, word, output))
 }
 
 // Answers 0 for a codeword and 8 for another word, or refuses by 1, 3 or 6.
 #[unsafe(no_mangle)]
 pub extern "C" fn tugzeck_check_word(code: u32, word: &[u8]) -> u32
-    ensures { result ≡ number_of (checked (number_refusal code) (width code) (roots code) word.now) }
+    ensures { result ≡ checked (number_refusal code) (width code) (roots code) word.now }
 {
-    number_of(code::check_word(code, word))
+    number_of_test(code::check_word(Choice::Number(code), word))
 }
 
 // The same, by m and r: refuses by 16 too, after 1.
 #[unsafe(no_mangle)]
 pub extern "C" fn tugzeck_check_word_by(m: u32, r: u32, word: &[u8]) -> u32
-    ensures { result ≡ number_of (checked (parameter_refusal m r) m r word.now) }
+    ensures { result ≡ checked (parameter_refusal m r) m r word.now }
 {
-    number_of(code::check_word_by(m, r, word))
+    number_of_test(code::check_word(Choice::Parameters { m, r }, word))
 }
 
-// The number of an answer of the codeword test.
-fn number_of(m: Membership) -> u32
-    ensures { result ≡ number_of m }
+// The number of an answer of the codeword test: a word that is no codeword has 8, as where it is to be read.
+fn number_of_test(answer: Result<bool, Refusal>) -> u32
+    ensures { result ≡ test_number answer }
 {
-    match m {
-        Membership::Codeword => 0,
-        Membership::NoCodeword => 8,
-        Membership::Refused(n) => n,
+    match answer {
+        Ok(true) => 0,
+        Ok(false) => Refusal::NoCodeword.number(),
+        Err(refusal) => refusal.number(),
     }
 }
 
@@ -108,17 +90,17 @@ fn number_of(m: Membership) -> u32
 // 8 with a configuration of zeros and writes nothing.
 #[unsafe(no_mangle)]
 pub extern "C" fn tugzeck_split(code: u32, word: &[u8], bch: &mut [u8]) -> Splitting
-    ensures { SplitSays (number_refusal code) (width code) (roots code) word.now result bch.old bch.new }
+    ensures { SplitSays (number_refusal code) (width code) (roots code) word.now result.number result.configuration bch.old bch.new }
 {
-    split::split(code, word, bch)
+    split::split(Choice::Number(code), word, bch).into()
 }
 
 // The same, by m and r: refuses by 16 too, after 1.
 #[unsafe(no_mangle)]
 pub extern "C" fn tugzeck_split_by(m: u32, r: u32, word: &[u8], bch: &mut [u8]) -> Splitting
-    ensures { SplitSays (parameter_refusal m r) m r word.now result bch.old bch.new }
+    ensures { SplitSays (parameter_refusal m r) m r word.now result.number result.configuration bch.old bch.new }
 {
-    split::split_by(m, r, word, bch)
+    split::split(Choice::Parameters { m, r }, word, bch).into()
 }
 
 // Joins a configuration, read from four numbers, and BCH words of n·m values to the codeword that splits into them, in n places. Answers 0, or refuses by 1, 3,
@@ -132,7 +114,7 @@ pub extern "C" fn tugzeck_join(
 ) -> u32
     ensures { JoinSays (number_refusal code) (width code) (roots code) configuration.now bch.now result output.old output.new }
 {
-    join::join(code, *configuration, bch, output)
+    number_of(&join::join(Choice::Number(code), *configuration, bch, output))
 }
 
 // The same, by m and r: refuses by 16 too, after 1.
@@ -146,7 +128,7 @@ pub extern "C" fn tugzeck_join_by(
 ) -> u32
     ensures { JoinSays (parameter_refusal m r) m r configuration.now bch.now result output.old output.new }
 {
-    join::join_by(m, r, *configuration, bch, output)
+    number_of(&join::join(Choice::Parameters { m, r }, *configuration, bch, output))
 }
 
 // Decodes a row of n·m reliabilities: 0 with the best metric, the first best word in n places and the soft outputs in n·m; the scratch, 16,384 numbers,
@@ -159,9 +141,9 @@ pub extern "C" fn tugzeck_decode(
     soft: &mut [i16],
     scratch: &mut [i32],
 ) -> Decoding
-    ensures { DecodeSays (number_refusal code) (width code) (roots code) row.now result word.old word.new soft.old soft.new scratch.old scratch.new }
+    ensures { DecodeSays (number_refusal code) (width code) (roots code) row.now result.number result.metric word.old word.new soft.old soft.new scratch.old scratch.new }
 {
-    decoder::decode(code, row, word, soft, scratch)
+    decoder::decode(Choice::Number(code), row, word, soft, scratch).into()
 }
 
 // The same, by m and r: refuses by 16 too, after 1.
@@ -174,18 +156,18 @@ pub extern "C" fn tugzeck_decode_by(
     soft: &mut [i16],
     scratch: &mut [i32],
 ) -> Decoding
-    ensures { DecodeSays (parameter_refusal m r) m r row.now result word.old word.new soft.old soft.new scratch.old scratch.new }
+    ensures { DecodeSays (parameter_refusal m r) m r row.now result.number result.metric word.old word.new soft.old soft.new scratch.old scratch.new }
 {
-    decoder::decode_by(m, r, row, word, soft, scratch)
+    decoder::decode(Choice::Parameters { m, r }, row, word, soft, scratch).into()
 }
 
 // Judges a word of n symbols for a row: 0 with the verdict (0 none, 1 short, 2 best) and the shortfall; the scratch is all 0 then. Or it refuses by 1, 2, 3,
 // 17, 5 or 6 with the verdict 0 and the shortfall 0 and leaves the scratch.
 #[unsafe(no_mangle)]
 pub extern "C" fn tugzeck_mark(code: u32, row: &[i16], word: &[u8], scratch: &mut [i32]) -> Mark
-    ensures { MarkSays (number_refusal code) (width code) (roots code) row.now word.now result scratch.old scratch.new }
+    ensures { MarkSays (number_refusal code) (width code) (roots code) row.now word.now result.number result.verdict result.shortfall scratch.old scratch.new }
 {
-    marker::judge_word(code, row, word, scratch)
+    marker::judge_word(Choice::Number(code), row, word, scratch).into()
 }
 
 // The same, by m and r: refuses by 16 too, after 1.
@@ -197,9 +179,9 @@ pub extern "C" fn tugzeck_mark_by(
     word: &[u8],
     scratch: &mut [i32],
 ) -> Mark
-    ensures { MarkSays (parameter_refusal m r) m r row.now word.now result scratch.old scratch.new }
+    ensures { MarkSays (parameter_refusal m r) m r row.now word.now result.number result.verdict result.shortfall scratch.old scratch.new }
 {
-    marker::judge_word_by(m, r, row, word, scratch)
+    marker::judge_word(Choice::Parameters { m, r }, row, word, scratch).into()
 }
 
 // Turns the n·m samples of a row into reliabilities. Answers 0, or refuses by 1, 2, 4 or 7 and writes nothing.
@@ -207,7 +189,7 @@ pub extern "C" fn tugzeck_mark_by(
 pub extern "C" fn tugzeck_quantise(code: u32, samples: &[f32], row: &mut [i16]) -> u32
     ensures { QuantiseSays (number_refusal code) (width code) samples.now result row.old row.new }
 {
-    quantiser::quantise(code, samples, row)
+    number_of(&quantiser::quantise(Choice::Number(code), samples, row))
 }
 
 // The same, by m and r: refuses by 16 too, after 1.
@@ -215,7 +197,7 @@ pub extern "C" fn tugzeck_quantise(code: u32, samples: &[f32], row: &mut [i16]) 
 pub extern "C" fn tugzeck_quantise_by(m: u32, r: u32, samples: &[f32], row: &mut [i16]) -> u32
     ensures { QuantiseSays (parameter_refusal m r) m samples.now result row.old row.new }
 {
-    quantiser::quantise_by(m, r, samples, row)
+    number_of(&quantiser::quantise(Choice::Parameters { m, r }, samples, row))
 }
 
 // Turns received symbols, by their kinds and samples, into the n·m reliabilities of a row. Answers 0, or refuses by 1, 4, 14, 15 or 7 and
@@ -224,7 +206,7 @@ pub extern "C" fn tugzeck_quantise_by(m: u32, r: u32, samples: &[f32], row: &mut
 pub extern "C" fn tugzeck_receive(code: u32, kinds: &[u8], samples: &[f32], row: &mut [i16]) -> u32
     ensures { ReceiveSays (number_refusal code) (width code) kinds.now samples.now result row.old row.new }
 {
-    receiver::receive(code, kinds, samples, row)
+    number_of(&receiver::receive(Choice::Number(code), kinds, samples, row))
 }
 
 // The same, by m and r: refuses by 16 too, after 1.
@@ -238,7 +220,7 @@ pub extern "C" fn tugzeck_receive_by(
 ) -> u32
     ensures { ReceiveSays (parameter_refusal m r) m kinds.now samples.now result row.old row.new }
 {
-    receiver::receive_by(m, r, kinds, samples, row)
+    number_of(&receiver::receive(Choice::Parameters { m, r }, kinds, samples, row))
 }
 
 // Judges a whole sheet: 0 with the count of its questions. Or it refuses by 1, 5, 6 or 9 to 13 with the count 0.
@@ -246,17 +228,7 @@ pub extern "C" fn tugzeck_receive_by(
 pub extern "C" fn tugzeck_judge_sheet(sheet: &[u8]) -> Judgement
     ensures { JudgeSays sheet.now result }
 {
-    let judged = sheet::judge_sheet(sheet);
-    if judged < 100 {
-        return Judgement {
-            number: judged,
-            questions: 0,
-        };
-    }
-    Judgement {
-        number: 0,
-        questions: judged - 100,
-    }
+    sheet::judge_sheet(sheet).into()
 }
 
 // The question that has `index` others before it: its code and number, its row in n·m places and the word handed in in n. Or it answers that
@@ -270,34 +242,7 @@ pub extern "C" fn tugzeck_question(
 ) -> Asked
     ensures { QuestionSays sheet.now index result row.old row.new word.old word.new }
 {
-    asked_of(sheet_reader::question_of(sheet, index, row, word))
-}
-
-// The values of a reader's answer.
-fn asked_of(answer: Yield) -> Asked
-    ensures { result ≡ asked answer }
-{
-    match answer {
-        Yield::Found { code, number } => Asked {
-            number: 0,
-            found: 1,
-            code,
-            question: number,
-        },
-        Yield::NoneLeft => unfound(0),
-        Yield::Refused(e) => unfound(e),
-    }
-}
-
-fn unfound(number: u32) -> Asked
-    ensures { result ≡ none_found number }
-{
-    Asked {
-        number,
-        found: 0,
-        code: 0,
-        question: 0,
-    }
+    sheet_reader::question_of(sheet, index, row, word).into()
 }
 
 // Writes the sheet of a question list, lent as its codes, its question numbers, all rows end to end and all words end to end. Answers 0, or
@@ -312,23 +257,29 @@ pub extern "C" fn tugzeck_write_sheet(
 ) -> u32
     ensures { WriteSays codes.now numbers.now rows.now words.now result output.old output.new }
 {
-    sheet_writer::write_sheet(codes, numbers, rows, words, output)
+    let questions = Questions {
+        codes,
+        numbers,
+        rows,
+        words,
+    };
+    number_of(&sheet_writer::write_sheet(questions, output))
 }
 
 // Writes the practice sheet of so many questions of a code, drawn from a state: 0 and the state after the last draw. Or it refuses by 12, 1 or 4 with the
 // state as it was lent, and writes nothing.
 #[unsafe(no_mangle)]
 pub extern "C" fn tugzeck_practice(code: u32, count: u32, state: u32, output: &mut [u8]) -> Drawn
-    ensures { PracticeSays code count state result output.old output.new }
+    ensures { PracticeSays code count state result.number result.state output.old output.new }
 {
-    practice::draw_sheet(code, count, state, output)
+    Drawn::new(practice::draw_sheet(code, count, state, output), state)
 }
 
 // Writes the listing of a sheet, accepted or refused, at the start of 19,058 bytes: 0 with the length of the text. Or it refuses by 4 with
 // the length 0 and writes nothing.
 #[unsafe(no_mangle)]
 pub extern "C" fn tugzeck_list(sheet: &[u8], output: &mut [u8]) -> Listed
-    ensures { ListSays sheet.now result output.old output.new }
+    ensures { ListSays sheet.now result.number result.long output.old output.new }
 {
-    report::list(sheet, output)
+    report::list(sheet, output).into()
 }

@@ -151,3 +151,7 @@ module _ (g a t : List ℕ) (i : ℕ) where
 pub marked_length : (g a t : List ℕ) (i n : ℕ) (soft : Bool) {h : List ℕ} → h ≡ cond soft (lows g a t i n) g → length h ≡ length g
 marked_length g a t i n true e = rw e (lows_length g a t i n)
 marked_length g a t i n false e = rw e refl
+
+-- rows lowered one after the other where marginals are asked for
+pub asked_rows : (g a t : List ℕ) (i : ℕ) {soft : Bool} (n : ℕ) {h : List ℕ} → h ≡ lows g a t i n → soft ≡ true → h ≡ cond soft (lows g a t i n) g
+asked_rows g a t i n e s = rw s e

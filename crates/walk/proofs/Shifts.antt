@@ -9,7 +9,7 @@ use Rattle.lanes.specs.Lanes.{lane}
 use Rattle.walk.specs.declared.At.{At}
 use Rattle.walk.specs.declared.Slot.{Slot}
 use Rattle.walk.specs.Walk.{step, changed_bit}
-use Rattle.walk.specs.Turns.{Shift, Shifted, Movable, Moved}
+use Rattle.walk.specs.Turns.{Each, Row, row_of, Shift, Shifted, Movable, Moved}
 
 -- a place is another after any step but 0
 no_step : (e p : ℕ) → bit_xor p e ≡ p → e ≡ 0
@@ -22,6 +22,14 @@ one_more p e n l = rw (ne_eqb (bit_xor p e) p (λ h. omega (arith, no_step e p h
 pub at_most_one : (b : Bool) → cond b 0 1 ≤ 1
 at_most_one true = omega arith
 at_most_one false = omega arith
+
+-- a rule at the four slots
+pub each4 : (P : ℕ → Type 0) → P 0 → P 1 → P 2 → P 3 → Each 4 P
+each4 P a b c d zero l = a
+each4 P a b c d (suc zero) l = b
+each4 P a b c d (suc (suc zero)) l = c
+each4 P a b c d (suc (suc (suc zero))) l = d
+each4 P a b c d (suc (suc (suc (suc j)))) l = absurd (omega arith)
 
 -- a slot that does not change
 pub stays : (f : List ℕ) (p : ℕ) (r t : List ℕ) (n e : ℕ) → e ≡ 0 → Shift f e p r t n → Shifted f e p t n (record { place = p; row = r; total = t; adjusted = n })
@@ -41,9 +49,9 @@ module _ {f st : List ℕ} {k : ℕ} {a : At} (m : Movable f st k a) where
   abbrev p : ℕ → ℕ
   p j = lane a.places j
 
-  pub asks0 : Shift f (e 0) (p 0) a.r0 a.total a.adjusted
+  pub asks0 : Shift f (e 0) (p 0) (row_of a 0) a.total a.adjusted
   asks0 = record {
-    row = m.summed.row0;
+    row = m.summed.rows 0 (omega arith);
     inside = m.inside 0 (omega arith);
     part = λ x lx. omega (arith, m.summed.lanes x lx);
     room = λ x lx. omega (arith, m.summed.lanes x lx, m.old x lx, m.new x lx);
@@ -54,9 +62,9 @@ module _ {f st : List ℕ} {k : ℕ} {a : At} (m : Movable f st k a) where
     few0 : s0.adjusted < 2 ^ 16 + 1
     few0 = omega (arith, m.few, h0.count, at_most_one (eqb (bit_xor (p 0) (e 0)) (p 0)))
 
-    pub asks1 : Shift f (e 1) (p 1) a.r1 s0.total s0.adjusted
+    pub asks1 : Shift f (e 1) (p 1) (row_of a 1) s0.total s0.adjusted
     asks1 = record {
-      row = m.summed.row1;
+      row = m.summed.rows 1 (omega arith);
       inside = m.inside 1 (omega arith);
       part = λ x lx. omega (arith, m.summed.lanes x lx, h0.lanes x lx);
       room = λ x lx. omega (arith, m.summed.lanes x lx, m.old x lx, m.new x lx, h0.lanes x lx);
@@ -67,9 +75,9 @@ module _ {f st : List ℕ} {k : ℕ} {a : At} (m : Movable f st k a) where
       few1 : s1.adjusted < 2 ^ 16 + 2
       few1 = omega (arith, few0, h1.count, at_most_one (eqb (bit_xor (p 1) (e 1)) (p 1)))
 
-      pub asks2 : Shift f (e 2) (p 2) a.r2 s1.total s1.adjusted
+      pub asks2 : Shift f (e 2) (p 2) (row_of a 2) s1.total s1.adjusted
       asks2 = record {
-        row = m.summed.row2;
+        row = m.summed.rows 2 (omega arith);
         inside = m.inside 2 (omega arith);
         part = λ x lx. omega (arith, m.summed.lanes x lx, h0.lanes x lx, h1.lanes x lx);
         room = λ x lx. omega (arith, m.summed.lanes x lx, m.old x lx, m.new x lx, h0.lanes x lx, h1.lanes x lx);
@@ -77,9 +85,9 @@ module _ {f st : List ℕ} {k : ℕ} {a : At} (m : Movable f st k a) where
       }
 
       module _ {s2 : Slot} (h2 : Shifted f (e 2) (p 2) s1.total s1.adjusted s2) where
-        pub asks3 : Shift f (e 3) (p 3) a.r3 s2.total s2.adjusted
+        pub asks3 : Shift f (e 3) (p 3) (row_of a 3) s2.total s2.adjusted
         asks3 = record {
-          row = m.summed.row3;
+          row = m.summed.rows 3 (omega arith);
           inside = m.inside 3 (omega arith);
           part = λ x lx. omega (arith, m.summed.lanes x lx, h0.lanes x lx, h1.lanes x lx, h2.lanes x lx);
           room = λ x lx. omega (arith, m.summed.lanes x lx, m.old x lx, m.new x lx, h0.lanes x lx, h1.lanes x lx, h2.lanes x lx);
@@ -89,23 +97,13 @@ module _ {f st : List ℕ} {k : ℕ} {a : At} (m : Movable f st k a) where
         -- the turn
         module _ {s3 : Slot} (h3 : Shifted f (e 3) (p 3) s2.total s2.adjusted s3) where
           abbrev b : At
-          b = record { places = s0.place ∷ s1.place ∷ s2.place ∷ s3.place ∷ []; r0 = s0.row; r1 = s1.row; r2 = s2.row; r3 = s3.row; total = s3.total; adjusted = s3.adjusted }
-
-          places_are : (j : ℕ) → j < 4 → lane b.places j ≡ bit_xor (p j) (e j)
-          places_are zero l = h0.place_is
-          places_are (suc zero) l = h1.place_is
-          places_are (suc (suc zero)) l = h2.place_is
-          places_are (suc (suc (suc zero))) l = h3.place_is
-          places_are (suc (suc (suc (suc j)))) l = absurd (omega arith)
+          b = record { places = s0.place ∷ s1.place ∷ s2.place ∷ s3.place ∷ []; rows = s0.row ∷ s1.row ∷ s2.row ∷ s3.row ∷ []; total = s3.total; adjusted = s3.adjusted }
 
           pub turned : Moved f st k a b
           turned = record {
-            at = places_are;
+            at = each4 (λ j. lane b.places j ≡ bit_xor (p j) (e j)) h0.place_is h1.place_is h2.place_is h3.place_is;
             summed = record {
-              row0 = rw h0.place_is h0.row;
-              row1 = rw h1.place_is h1.row;
-              row2 = rw h2.place_is h2.row;
-              row3 = rw h3.place_is h3.row;
+              rows = each4 (λ j. Row f (lane b.places j) (row_of b j)) (rw h0.place_is h0.row) (rw h1.place_is h1.row) (rw h2.place_is h2.row) (rw h3.place_is h3.row);
               lanes = λ x lx. rw (h0.place_is, h1.place_is, h2.place_is, h3.place_is) (omega (arith, m.summed.lanes x lx, h0.lanes x lx, h1.lanes x lx, h2.lanes x lx, h3.lanes x lx));
             };
             count = rw (h0.place_is, h1.place_is, h2.place_is, h3.place_is) (omega (arith, h0.count, h1.count, h2.count, h3.count));

@@ -9,7 +9,7 @@ use Rattle.lanes.specs.Lanes.{lane}
 use Rattle.walk.specs.declared.At.{At}
 use Rattle.walk.specs.Walk.{sum4, start, step, changed_bit, place, spot, total, change, changes, movers, Slots, Rounds}
 use Rattle.walk.specs.Turns.{Each, Row, to, Standing, Movable, Moved, Together, Begins}
-use Rattle.walk.proofs.Shifts.{at_most_one}
+use Rattle.walk.proofs.Shifts.{at_most_one, each4}
 
 -- the bit that changes is one of the first d
 tz_below : (k d n : ℕ) → 0 < n → n < 2 ^ d → d ≤ k → count_trailing_zeros k n < d
@@ -67,23 +67,17 @@ place_to sl st (suc k) j p l e = let z : suc k - 1 ≡ k = omega arith in ap (λ
 -- turn 0, of any steps
 pub begun : (f sl r0 r1 r2 r3 t : List ℕ) → Row f (start sl 0) r0 → Row f (start sl 1) r1 → Row f (start sl 2) r2 → Row f (start sl 3) r3 →
     Each 16 (λ x. lane t x ≡ lane r0 x + lane r1 x + lane r2 x + lane r3 x) → (st : List ℕ) →
-    Standing f sl st 0 (record { places = start sl 0 ∷ start sl 1 ∷ start sl 2 ∷ start sl 3 ∷ []; r0 = r0; r1 = r1; r2 = r2; r3 = r3; total = t; adjusted = 0 })
+    Standing f sl st 0 (record { places = start sl 0 ∷ start sl 1 ∷ start sl 2 ∷ start sl 3 ∷ []; rows = r0 ∷ r1 ∷ r2 ∷ r3 ∷ []; total = t; adjusted = 0 })
 unfolding place changes
 begun f sl r0 r1 r2 r3 t h0 h1 h2 h3 h st =
+    let places : List ℕ = start sl 0 ∷ start sl 1 ∷ start sl 2 ∷ start sl 3 ∷ [] in
     let sums : Each 16 (λ x. lane t x ≡ get_or f (start sl 0 + x) 0 + get_or f (start sl 1 + x) 0 + get_or f (start sl 2 + x) 0 + get_or f (start sl 3 + x) 0) = λ x lx. omega (arith, h x lx, h0 x lx, h1 x lx, h2 x lx, h3 x lx) in
     record {
-      at = at;
-      summed = record { row0 = h0; row1 = h1; row2 = h2; row3 = h3; lanes = sums };
+      at = each4 (λ j. lane places j ≡ place sl st 0 j) refl refl refl refl;
+      summed = record { rows = each4 (λ j. Row f (lane places j) (get_or (r0 ∷ r1 ∷ r2 ∷ r3 ∷ []) j [])) h0 h1 h2 h3; lanes = sums };
       lanes = λ x lx. sums x lx ∙ total_at sl st 0 x lx f;
       count = refl;
     }
-  where
-    at : (j : ℕ) → j < 4 → lane (start sl 0 ∷ start sl 1 ∷ start sl 2 ∷ start sl 3 ∷ []) j ≡ place sl st 0 j
-    at zero l = refl
-    at (suc zero) l = refl
-    at (suc (suc zero)) l = refl
-    at (suc (suc (suc zero))) l = refl
-    at (suc (suc (suc (suc j)))) l = absurd (omega arith)
 
 -- THE RUNNING TOTAL: turn k from the turn before it
 pub stands : {f sl st : List ℕ} (k : ℕ) {a b : At} → 0 < k → Standing f sl st (k - 1) a → Moved f st k a b → Standing f sl st k b

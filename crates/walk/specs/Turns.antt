@@ -1,6 +1,6 @@
 -- One turn of the walk, lane by lane: what its functions promise each other, and the crates above of where a turn stands.
 -- Assumes nothing: these are definitions.
-use Rattle.std.specs.Prelude.{◌≡◌, Bool, true, cond, List, ℕ, zero, suc, ◌+◌, ◌-◌, ◌*◌, ◌^◌, ◌≤◌, ◌<◌, min, eqb, length, get_or, set}
+use Rattle.std.specs.Prelude.{◌≡◌, Bool, true, cond, List, [], ℕ, zero, suc, ◌+◌, ◌-◌, ◌*◌, ◌^◌, ◌≤◌, ◌<◌, min, eqb, length, get_or, set}
 use Rattle.std.specs.Int.Bits.{bit_xor}
 use Rattle.lanes.specs.Lanes.{lane, limit}
 use Rattle.walk.specs.declared.At.{At}
@@ -41,12 +41,13 @@ pub record Blank (soft : Bool) (cap : ℕ) (f g : List ℕ) : Type 0 where
   pub long : soft ≡ true → length g ≡ length f
   pub all : soft ≡ true → Each (length g) (λ p. get_or g p 0 ≡ cap)
 
+-- the row of slot j
+abbrev pub row_of : (a : At) → (j : ℕ) → List ℕ
+row_of a j = get_or a.rows j []
+
 -- WHERE THE WALK STANDS: the rows are those of its places, and in every lane the total is their sum, taken afresh
 pub record Summed (f : List ℕ) (a : At) : Type 0 where
-  pub row0 : Row f (lane a.places 0) a.r0
-  pub row1 : Row f (lane a.places 1) a.r1
-  pub row2 : Row f (lane a.places 2) a.r2
-  pub row3 : Row f (lane a.places 3) a.r3
+  pub rows : Each 4 (λ j. Row f (lane a.places j) (row_of a j))
   pub lanes : Each 16 (λ x. lane a.total x ≡ row_sum f a.places x)
 
 -- at turn k: these are the places of the turn, so that in every lane the total is that of its tuple, and as many adjustments were made as slots have

@@ -1,8 +1,0 @@
--- `test_tally::parts::of_mut` is safe and ends.
--- Assumes nothing.
-use Rattle.std.proofs.Common.{sym, length-take-le, rules}
-use Rattle.test_tally.proofs.parts.of_mut.Statement.{statement}
-use Rattle.test_tally.proofs.parts.of_mut.Tie as tie
-
-pub of_mut_spec : {M : Type 1} → statement M
-of_mut_spec = tie.close (tie.spec (λ c. sym (length-take-le _ _ (search rules))) (λ c. search rules) (λ c. search rules))
