@@ -220,8 +220,7 @@ fn decode_in(
     )
 }
 
-// The same with rooms for so many entries of a table, and for so many places. They are filled with a number that is not 0, which takes a tenth of what
-// zeroing takes; nothing reads them before they are written.
+// The same with rooms for so many entries of a table, and for so many places. They are filled; nothing reads them before they are written.
 fn decode_sized<const STATES: usize, const PLACES: usize>(
     shape: Shape,
     row: &[i16],

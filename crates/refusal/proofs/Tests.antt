@@ -30,3 +30,9 @@ first_none (suc n) e h = absurd (omega arith)
 pub first_free : (n e : ℕ) → n ≡ 0 → e ≡ 0 → first n e ≡ 0
 unfolding first
 first_free n e h k = rw (h, k)
+
+-- what comes behind what is refused says nothing
+pub first_same : (n : ℕ) → (n ≡ 0 → ⊥) → (d e : ℕ) → first n d ≡ first n e
+unfolding first
+first_same zero f d e = absurd (f refl)
+first_same (suc n) f d e = refl

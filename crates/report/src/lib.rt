@@ -39,7 +39,8 @@ fn put_answer(
     let soft = &mut soft_room[..shape.bits];
     let metric = decoding::decode_accepted(shape, row, best, soft, scratch);
     let verdict = marker::verdict_on_word(shape, row, word, metric);
-    writer.put_question(number, code, metric, verdict, soft);
+    let shortfall = verdict.shortfall();
+    writer.put_question(number, code, metric, verdict.number(), shortfall, soft);
 }
 
 // Reads the question that begins at a place of the sheet, writes its line, and moves the place behind it.

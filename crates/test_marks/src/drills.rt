@@ -1,5 +1,5 @@
 // Practice sheets: the first reliabilities from the least and the greatest seed, a sheet of two questions byte by byte, the same drawn one after the
-// other, no questions, 200 of them, and the refusals in their order with the output and the state kept. Worked out by a program of its own.
+// other, no questions, 200 of them, and the refusals in their order with the output kept. Worked out by a program of its own.
 use practice::Generator;
 use refusal::Refusal;
 use test_tally::parts;

@@ -1,9 +1,10 @@
 -- What a comparison at a place says, and the turns of a comparison of two rows.
 -- Assumes nothing.
-use Rattle.basics.proofs.Kit.{◌≡◌, refl, Bool, ◌&&◌, not, cond, List, ℕ, ◌+◌, ◌%◌, ◌≤◌, ◌<◌, length, get_or, drop, eqb, ℤ, pos}
-use Rattle.std.proofs.Common.{add-one, drop_of_length-le, drop-cons, ltb, Option, Some, None}
+use Rattle.basics.proofs.Kit.{◌≡◌, refl, Bool, true, false, ◌&&◌, not, cond, List, ℕ, ◌+◌, ◌%◌, ◌≤◌, ◌<◌, length, get_or, drop, eqb, ℤ, pos}
+use Rattle.std.proofs.Common.{add-one, drop_of_length-le, drop-cons, le-ltb, lt-ltb, ltb, Option, Some, None}
 use Rattle.std.specs.Option.{is_some, unwrap_or, option_map, option_eq}
 use Rattle.std.specs.Ordering.{int_eq}
+use Rattle.std.proofs.lemmas.Bool.Decides.{Decides-int_eq}
 use denote.Bor.{Bor}
 use Rattle.test_tally.specs.declared.tally.Tally.{Tally}
 use Rattle.test_tally.specs.Tally.{counted, stands_at, compared}
@@ -16,6 +17,20 @@ pub stands : (es : List ℤ) (i : ℕ) (o : Option (Bor ℤ)) (r : Bor ℤ) →
 unfolding stands_at
 stands es i None r s v = rw (← s) refl
 stands es i (Some x) r s v = rw (← s, ← v (pos 0)) refl
+
+-- ---- nothing agrees past the end, nor where another number stands
+module _ (rs : List ℤ) (i : ℕ) (r : ℤ) where
+  pub past_end : length rs ≤ i → false ≡ stands_at rs i r
+  unfolding stands_at
+  past_end h = rw (le-ltb i (length rs) h)
+
+  pub differs : i < length rs → (get_or rs i (pos 0) ≡ r → ⊥) → false ≡ stands_at rs i r
+  unfolding stands_at
+  differs h n = rw (lt-ltb i (length rs) h) (go (int_eq (get_or rs i (pos 0)) r) refl)
+    where
+      go : (b : Bool) → int_eq (get_or rs i (pos 0)) r ≡ b → false ≡ b
+      go true e = absurd (n ((Decides-int_eq (get_or rs i (pos 0)) r).0 e))
+      go false e = refl
 
 -- ---- one place after another
 module _ (l : Bool) (xs es : List ℤ) (i : ℕ) (t : Tally) where

@@ -9,8 +9,6 @@ use lib.Seq.{drop-cons}
 use lib.Signed.{lt_z}
 use Rattle.metric.specs.Metric.{is_neg, decided}
 use Rattle.text.specs.Text.{space, dash, decimal_from, decimal, sign, signed, none_word, short_word, best_word, verdict_field, shortfall_field, bit_byte, bits_field, least_from, least_magnitude}
-use Rattle.metric.specs.declared.Verdict.TheVariants.{NoCodeword, Short, Best}
-use Rattle.metric.specs.Verdict.{verdict_number, shortfall_of}
 use Rattle.text.specs.Within.{ended, mark_part}
 
 -- ---- bits
@@ -73,14 +71,17 @@ unfolding least_from
 least_end so i d h = rw (drop_of_length-le so h)
 
 -- ---- verdict and shortfall, by the bytes that are written
-pub mark_none : mark_part (verdict_number NoCodeword) (shortfall_of NoCodeword) ≡ 110 ∷ 111 ∷ 110 ∷ 101 ∷ 32 ∷ 45 ∷ 32 ∷ []
+pub mark_none : {v : ℕ} (d : ℤ) → v ≡ 0 → mark_part v d ≡ 110 ∷ 111 ∷ 110 ∷ 101 ∷ 32 ∷ 45 ∷ 32 ∷ []
 unfolding mark_part ended verdict_field shortfall_field none_word
-mark_none = refl
+mark_none d e = rw e
 
-pub mark_short : (d : ℤ) → mark_part (verdict_number (Short d)) (shortfall_of (Short d)) ≡ (115 ∷ 104 ∷ 111 ∷ 114 ∷ 116 ∷ 32 ∷ []) ++ ended (signed d) space
+pub mark_short : {v : ℕ} {d y : ℤ} → v ≡ 1 → y ≡ d → mark_part v d ≡ (115 ∷ 104 ∷ 111 ∷ 114 ∷ 116 ∷ 32 ∷ []) ++ ended (signed y) space
 unfolding mark_part ended verdict_field shortfall_field short_word
-mark_short d = refl
+mark_short e p = rw (e, p)
 
-pub mark_best : mark_part (verdict_number Best) (shortfall_of Best) ≡ 98 ∷ 101 ∷ 115 ∷ 116 ∷ 32 ∷ 48 ∷ 32 ∷ []
-unfolding mark_part ended verdict_field shortfall_field best_word signed sign is_neg decimal decimal_from
-mark_best = refl
+pub mark_best :
+    (v : ℕ) {d y : ℤ} → (v ≡ 0 → ⊥) → (v ≡ 1 → ⊥) → y ≡ d → mark_part v d ≡ (98 ∷ 101 ∷ 115 ∷ 116 ∷ 32 ∷ []) ++ ended (signed y) space
+unfolding mark_part ended verdict_field shortfall_field best_word
+mark_best zero e f p = absurd (e refl)
+mark_best (suc zero) e f p = absurd (f refl)
+mark_best (suc (suc v)) e f p = rw p

@@ -5,12 +5,9 @@
 
 ghost use Rattle.std.specs.Prelude.{◌≡◌, ◌∷◌, [], length};
 ghost use Rattle.metric.specs.Metric.{decided};
-ghost use Rattle.metric.specs.Verdict.{verdict_number, shortfall_of};
 ghost use Rattle.text.specs.Text.{space, decimal, sign, signed, bit_byte, bits_field, least_magnitude, header, question_line, count_line, refused_line};
 ghost use Rattle.text.specs.Within.{ended, mark_part};
 ghost use Rattle.text.specs.Writer.{Puts, Room};
-
-use metric::Verdict;
 
 const FEED: u8 = b'\n';
 
@@ -97,18 +94,19 @@ impl<'a> Writer<'a> {
         self.put_number(z.unsigned_abs(), SPACE);
     }
 
-    // Verdict and shortfall.
-    fn put_mark(&mut self, verdict: Verdict)
-        requires { Room (mark_part (verdict_number verdict) (shortfall_of verdict)) self.old }
-        ensures { Puts (mark_part (verdict_number verdict) (shortfall_of verdict)) self.old self.new }
+    // Verdict and shortfall. By their numbers, as the text says every pair of them, also one that no verdict has.
+    fn put_mark(&mut self, verdict: u32, shortfall: i32)
+        requires { Room (mark_part verdict shortfall) self.old }
+        ensures { Puts (mark_part verdict shortfall) self.old self.new }
     {
-        match verdict {
-            Verdict::NoCodeword => self.put_bytes(b"none - "),
-            Verdict::Short(shortfall) => {
-                self.put_bytes(b"short ");
-                self.put_signed(shortfall);
-            }
-            Verdict::Best => self.put_bytes(b"best 0 "),
+        if verdict == 0 {
+            self.put_bytes(b"none - ");
+        } else if verdict == 1 {
+            self.put_bytes(b"short ");
+            self.put_signed(shortfall);
+        } else {
+            self.put_bytes(b"best ");
+            self.put_signed(shortfall);
         }
     }
 
@@ -126,17 +124,18 @@ impl<'a> Writer<'a> {
         number: u32,
         code: u32,
         best: i32,
-        verdict: Verdict,
+        verdict: u32,
+        shortfall: i32,
         soft: &[i16],
     )
-        requires { Room (question_line number code best (verdict_number verdict) (shortfall_of verdict) (bits_field soft.now) (least_magnitude soft.now)) self.old }
-        ensures { Puts (question_line number code best (verdict_number verdict) (shortfall_of verdict) (bits_field soft.now) (least_magnitude soft.now)) self.old self.new }
+        requires { Room (question_line number code best verdict shortfall (bits_field soft.now) (least_magnitude soft.now)) self.old }
+        ensures { Puts (question_line number code best verdict shortfall (bits_field soft.now) (least_magnitude soft.now)) self.old self.new }
     {
         let least = least_of(soft);
         self.put_number(number, SPACE);
         self.put_number(code, SPACE);
         self.put_signed(best);
-        self.put_mark(verdict);
+        self.put_mark(verdict, shortfall);
         self.put_bits(soft);
         self.put_byte(SPACE);
         self.put_number(u32::from(least), FEED);

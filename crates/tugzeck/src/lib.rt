@@ -22,7 +22,7 @@ ghost use Rattle.tugzeck.specs.Calls.{JudgeSays, QuestionSays};
 
 mod answers;
 
-use answers::{Asked, Decoding, Drawn, Judgement, Listed, Mark, Splitting};
+pub use answers::{Asked, Decoding, Drawn, Judgement, Listed, Mark, Splitting};
 use code::Choice;
 use refusal::{Refusal, number_of};
 use sheet_writer::Questions;
@@ -282,4 +282,36 @@ pub extern "C" fn tugzeck_list(sheet: &[u8], output: &mut [u8]) -> Listed
     ensures { ListSays sheet.now result.number result.long output.old output.new }
 {
     report::list(sheet, output).into()
+}
+
+#[cfg(test)]
+mod tests {
+    use super::*;
+
+    // What a refused call hands back: the refusal's number, 0 in every other field, and a state as it was lent.
+    #[test]
+    fn refused_answers(rt: HostRuntime) {
+        let splitting = tugzeck_split(9, &[], &mut []);
+        assert_eq!(rt; splitting.number, 1);
+        assert!(rt; splitting.configuration == [0; 4]);
+        let decoding = tugzeck_decode(9, &[], &mut [], &mut [], &mut []);
+        assert_eq!(rt; decoding.number, 1);
+        assert_eq!(rt; decoding.metric, 0);
+        let mark = tugzeck_mark_by(3, 7, &[], &[], &mut []);
+        assert_eq!(rt; mark.number, 16);
+        assert_eq!(rt; mark.verdict, 0);
+        assert_eq!(rt; mark.shortfall, 0);
+        let drawn = tugzeck_practice(9, 1, 7, &mut []);
+        assert_eq!(rt; drawn.number, 1);
+        assert_eq!(rt; drawn.state, 7);
+        let judgement = tugzeck_judge_sheet(&[0]);
+        assert_eq!(rt; judgement.number, 9);
+        assert_eq!(rt; judgement.questions, 0);
+        let asked = tugzeck_question(&[0], 0, &mut [], &mut []);
+        assert_eq!(rt; asked.number, 9);
+        assert_eq!(rt; asked.found, 0);
+        let listed = tugzeck_list(&[], &mut []);
+        assert_eq!(rt; listed.number, 4);
+        assert_eq!(rt; listed.long, 0);
+    }
 }

@@ -24,7 +24,7 @@ fn lesser(a: [u16; 16], b: [u16; 16]) -> [u16; 16]
 
 // The row at place p.
 #[inline(always)]
-fn row_at(f: &[u16], p: usize) -> [u16; 16]
+pub fn row_at(f: &[u16], p: usize) -> [u16; 16]
     requires { p + 16 ≤ length f.now }
     ensures { Row f.now p result }
 {
@@ -37,7 +37,7 @@ fn row_at(f: &[u16], p: usize) -> [u16; 16]
 
 // Lane by lane, the sum of four rows.
 #[inline(always)]
-fn sum_of(a: [u16; 16], b: [u16; 16], c: [u16; 16], d: [u16; 16]) -> [u16; 16]
+pub fn sum_of(a: [u16; 16], b: [u16; 16], c: [u16; 16], d: [u16; 16]) -> [u16; 16]
     requires { Each 16 (λ x. lane a x + lane b x + lane c x + lane d x < limit) }
     ensures { Each 16 (λ x. lane result x ≡ lane a x + lane b x + lane c x + lane d x) }
 {
@@ -168,7 +168,7 @@ fn shift(f: &[u16], e: usize, p: usize, r: [u16; 16], t: [u16; 16], n: u32) -> S
 
 // A slot that may change.
 #[inline(always)]
-fn may_shift(f: &[u16], e: usize, p: usize, r: [u16; 16], t: [u16; 16], n: u32) -> Slot
+pub fn may_shift(f: &[u16], e: usize, p: usize, r: [u16; 16], t: [u16; 16], n: u32) -> Slot
     requires { Shift f.now e p r t n }
     ensures { Shifted f.now e p t n result }
 {

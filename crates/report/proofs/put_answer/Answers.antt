@@ -2,6 +2,7 @@
 -- Assumes nothing.
 use Rattle.basics.proofs.Kit.{sym}
 use mir.Syntax.{w32}
+use mir.Val.{SFits}
 use mir.Facts.{to_z-of_z}
 use lib.Seq.{length-take-le}
 use Rattle.sheet.proofs.Forms.{bits_le, n_le}
@@ -33,15 +34,18 @@ verdict_on_word-verdict-requires-clause-accepted c =
 pub put_question-requires : goal.put_question-requires
 put_question-requires c =
     let d = c.decode_accepted-metric in
-    room _ c.requires.good c.args.writer.now
+    let f : SFits w32 c.shortfall-shortfall.result = record { sfits = c.shortfall-shortfall.type_inv } in
+    rw (c.number.ensures, to_z-of_z f, c.shortfall-shortfall.ensures)
+    (room _ c.requires.good c.args.writer.now
     (line _ c.requires.good c.numbered-shape.result c.numbered-shape.ensures.m c.numbered-shape.ensures.r c.verdict_on_word-verdict.result
     (to_z-of_z {w = w32} (record { sfits = d.type_inv })) d.ensures c.verdict_on_word-verdict.ensures)
-    c.requires.line_most_in_bounds
+    c.requires.line_most_in_bounds)
 
 pub returns : goal.returns
 returns c =
     let d = c.decode_accepted-metric in
+    let f : SFits w32 c.shortfall-shortfall.result = record { sfits = c.shortfall-shortfall.type_inv } in
     put_line _ c.requires.good
     (line _ c.requires.good c.numbered-shape.result c.numbered-shape.ensures.m c.numbered-shape.ensures.r c.verdict_on_word-verdict.result
     (to_z-of_z {w = w32} (record { sfits = d.type_inv })) d.ensures c.verdict_on_word-verdict.ensures)
-    c.put_question.ensures
+    (rw (c.number.ensures, to_z-of_z f, c.shortfall-shortfall.ensures) at c.put_question.ensures)
