@@ -58,7 +58,7 @@ fn check_word(w: u32, f: Form, low: u32, high: u32, bad: Refusal, n: usize) -> R
     ensure(scan.good, bad)
 }
 
-// n items from a word on. Always put in line: both callers name their form, and the compiler has to know its numbers, or each item costs a division.
+// n items from a word on. Always put in line, so that the compiler knows the numbers of the form: else each item costs a division.
 #[inline(always)]
 fn check_items(
     sheet: &[u8],
