@@ -18,11 +18,15 @@ unfolding stands_at
 stands es i None r s v = rw (← s) refl
 stands es i (Some x) r s v = rw (← s, ← v (pos 0)) refl
 
--- ---- nothing agrees past the end, nor where another number stands
+-- ---- a number agrees where it stands, and nothing does past the end, nor where another number stands
 module _ (rs : List ℤ) (i : ℕ) (r : ℤ) where
   pub past_end : length rs ≤ i → false ≡ stands_at rs i r
   unfolding stands_at
   past_end h = rw (le-ltb i (length rs) h)
+
+  pub stands_there : i < length rs → get_or rs i (pos 0) ≡ r → true ≡ stands_at rs i r
+  unfolding stands_at
+  stands_there h e = rw (lt-ltb i (length rs) h, e, (Decides-int_eq r r).1 refl)
 
   pub differs : i < length rs → (get_or rs i (pos 0) ≡ r → ⊥) → false ≡ stands_at rs i r
   unfolding stands_at

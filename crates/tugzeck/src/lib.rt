@@ -310,6 +310,8 @@ mod tests {
         let asked = tugzeck_question(&[0], 0, &mut [], &mut []);
         assert_eq!(rt; asked.number, 9);
         assert_eq!(rt; asked.found, 0);
+        assert_eq!(rt; asked.code, 0);
+        assert_eq!(rt; asked.question, 0);
         let listed = tugzeck_list(&[], &mut []);
         assert_eq!(rt; listed.number, 4);
         assert_eq!(rt; listed.long, 0);

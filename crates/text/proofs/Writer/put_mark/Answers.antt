@@ -1,11 +1,12 @@
 -- Each verdict has its word, and a word that is no codeword a dash.
+use Rattle.basics.proofs.Kit.{arith}
 use mir.Facts.{to_z-of_z}
 use Rattle.text.proofs.Fields.{mark_none, mark_short, mark_best}
 use Rattle.text.proofs.Writing.{puts_then, room_first, room_after}
 use Rattle.text.proofs.Writer.put_mark.Goals as goal
 
 pub put_bytes-requires : goal.put_bytes-requires
-put_bytes-requires c = rw (mark_none _ c.if-verdict-eq0.true) at c.requires
+put_bytes-requires c = record { room = omega (arith, (rw (mark_none _ c.if-verdict-eq0.true) at c.requires).room) }
 
 pub put_bytes-requires-then-verdict-eq1 : goal.put_bytes-requires-then-verdict-eq1
 put_bytes-requires-then-verdict-eq1 c = room_first _ _ _ (rw (mark_short c.if-verdict-eq1.true (to_z-of_z c.ranges.shortfall)) at c.requires)
